@@ -32,6 +32,7 @@ first_of : (first m : ℕ) (ms numbers : List ℕ) (next : ℕ) → m ∷ ms ≡
 first_of first m ms [] next are rise few = cc
 first_of first m ms (n ∷ ns) next are rise few = (n, (let same : m ≡ mark n = cc in same), rise.0, All-head (λ k. k < 100) n ns few)
 
+-- of two marks the second is of a later number
 second_of : (first m o : ℕ) (numbers : List ℕ) (next : ℕ) → m ∷ o ∷ [] ≡ map mark numbers → Rises first numbers next
     → (n k : ℕ) × (m ≡ mark n) × (o ≡ mark k) × (n + 1 ≤ k)
 second_of first m o [] next are rise = cc
@@ -60,6 +61,7 @@ read_twice h =
     let more = two.4 in
     absurd (omega arith)
 
+-- a mark that comes after that of a later number is refused
 goes_back : AreNewsFrom 0 (10 ∷ 7 ∷ []) → ⊥
 goes_back h =
     let two = second_of 0 10 7 h.numbers h.next h.are h.rise in

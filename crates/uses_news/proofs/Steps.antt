@@ -33,6 +33,7 @@ module _ {X K : Type 0} {rule : Ghosts K X} where
         few = All-cons (λ k. k < 100) n [] small (All-nil (λ k. k < 100));
       }
 
+  -- what is read by two calls, one after the other, is read by both
   pub reads_then : (xs ys zs : List ℕ) (s t u : Subscriber X K rule) → HasRead xs ys s t → HasRead ys zs t u → HasRead xs zs s u
   reads_then xs ys zs s t u h k =
       record {

@@ -7,7 +7,7 @@
 pub mod twins;
 
 ghost use Rattle.std.specs.Prelude.{◌≡◌, ◌<◌, ◌≤◌, [], IfSome, IsTrue, replicate};
-ghost use Rattle.zero_copy_bus.specs.Ends.{lanes_of, loaned, next_of, number_of, CanSendToAll};
+ghost use Rattle.zero_copy_bus.specs.Ends.{lanes_of, next_of, number_of};
 ghost use Rattle.zero_copy_bus.specs.Outlets.{AllNew};
 ghost use Rattle.zero_copy_bus.specs.Relays.{HasPublished};
 ghost use Rattle.uses_news.specs.Marks.{mark, AreNewsByTwo, AreNewsFrom, HasRead};
@@ -19,7 +19,7 @@ use std::sync::Wait;
 use std::thread::Threads;
 use std::{io, thread};
 use zero_copy_bus::bus::{Bus, Sizes};
-use zero_copy_bus::publisher::{Loan, Publisher};
+use zero_copy_bus::publisher::Publisher;
 use zero_copy_bus::subscriber::{Sample, Subscriber};
 use zero_copy_slots::Keeps;
 
@@ -67,25 +67,6 @@ fn fill(block: &mut Vec<u64>, word: u64) -> bool
     true
 }
 
-/// A slot to write, as soon as there is one. No subscriber has it.
-fn loan_one<'a>(
-    rt: &impl Wait,
-    publisher: &mut Publisher<'a, Vec<u64>, Marked>,
-) -> Option<Loan<'a, Vec<u64>, Marked>>
-    ensures next { next_of publisher.new ≡ next_of publisher.old }
-    ensures out { HasPublished publisher.old publisher.new }
-    ensures can { IfSome result (λ loan. CanSendToAll publisher.new (loaned loan)) }
-{
-    for _ in 0..TRIES {
-        publisher.collect();
-        if let Ok(loan) = publisher.loan(rt) {
-            return Some(loan);
-        }
-        thread::yield_now();
-    }
-    None
-}
-
 /// Publishes the block of the number that comes next: to how many it went. None where there is no slot, or all are published.
 fn publish_one(rt: &impl Wait, publisher: &mut Publisher<'_, Vec<u64>, Marked>) -> Option<usize>
     ensures out { HasPublished publisher.old publisher.new }
@@ -95,7 +76,7 @@ fn publish_one(rt: &impl Wait, publisher: &mut Publisher<'_, Vec<u64>, Marked>) 
     if number >= BLOCKS {
         return None;
     }
-    let mut loan = loan_one(rt, publisher)?;
+    let mut loan = publisher.loan_within(rt, TRIES)?;
     if !fill(&mut loan.value, 3 * number + 1) {
         return None;
     }

@@ -1,13 +1,16 @@
 //! Calls of the bus once more, each with a clause that the program has no use for, so that the clause cannot go out of the call
-//! unnoticed. What a wrong body would leave, and the clause refuses, stands in `proofs/WrongBodies.antt`, `WrongRejoins.antt` and
-//! `WrongSubscribers.antt` of the bus.
-ghost use Rattle.std.specs.Prelude.{◌≡◌, Bool, true, false, Some, slice_get, slice_set, IfErr, IfNone, IfOk, IfSome};
+//! unnoticed. What a wrong body would leave, and the clause refuses, stands in `proofs/WrongBodies.antt`, `WrongRejoins.antt`,
+//! `WrongSubscribers.antt` and `WrongTries.antt` of the bus.
+ghost use Rattle.std.specs.Prelude.{◌≡◌, ◌<◌, Bool, List, ℕ, [], ◌∷◌, true, false, Some, slice_get, slice_set, IfErr, IfNone, IfOk, IfSome};
 ghost use Rattle.lock_free.specs.Robust.Contracts.{WasFreed};
+ghost use Rattle.zero_copy_bus.specs.Books.{IsLoaned};
+ghost use Rattle.zero_copy_bus.specs.Ends.{expected_at, layout_at, loaned, number_of, numbers_of, slots_at, slots_of, CanSendToAll, HasHad, HasTried, TookOut};
 ghost use Rattle.zero_copy_bus.specs.Ends.{first_before, inlet_at, inlet_before, lanes_of, layout_before, members_left, members_view};
 ghost use Rattle.zero_copy_bus.specs.Ends.{place_at, place_before, place_left, received, receives_left, record_of, roll_of, slots_before};
 ghost use Rattle.zero_copy_bus.specs.Ends.{spares_in, table_of, IsAgain, IsOfLane, IsTakenFor, WasKept, WasNotSubscribed, WasSeated};
 ghost use Rattle.zero_copy_bus.specs.Outlets.{open_in, AtLane, EachLane, StaysOrLost, WasRejoined};
 ghost use Rattle.zero_copy_bus.specs.Rolls.{HasLooked, HasNotLooked, HasRecovered};
+ghost use Rattle.zero_copy_bus.specs.Sequences.{Rises};
 ghost use Rattle.zero_copy_slots.specs.Slots.{number_in, slot_in, value_in};
 
 use lock_free::mpmc::container::{ContainerAddFailure, ContainerRemoveError, OwnerId};
@@ -89,6 +92,66 @@ pub fn loan<'a, X: Drop, K: Keeps<X>>(
     ensures refused { IfErr result (IsTakenFor (spares_in publisher.old) (table_of publisher.old) (table_of publisher.new)) }
 {
     publisher.loan(rt)
+}
+
+/// A loan that is waited for is of a slot that was not on loan, and that no subscriber has. No record is sent meanwhile.
+pub fn loan_waiting<'a, X: Drop, K: Keeps<X>>(
+    publisher: &mut Publisher<'a, X, K>,
+    rt: &impl Wait,
+) -> Loan<'a, X, K>
+    ensures within { loaned result < slots_of publisher.old }
+    ensures fresh { ¬ IsLoaned (table_of publisher.old) (loaned result) }
+    ensures loaned { IsLoaned (table_of publisher.new) (loaned result) }
+    ensures can { CanSendToAll publisher.new (loaned result) }
+    ensures tried { HasTried publisher.old publisher.new }
+{
+    publisher.loan_waiting(rt)
+}
+
+/// So it is where there is a limit, and also where no loan comes.
+pub fn loan_within<'a, X: Drop, K: Keeps<X>>(
+    publisher: &mut Publisher<'a, X, K>,
+    rt: &impl Wait,
+    tries: u64,
+) -> Option<Loan<'a, X, K>>
+    ensures within { IfSome result (λ l. loaned l < slots_of publisher.old) }
+    ensures fresh { IfSome result (λ l. ¬ IsLoaned (table_of publisher.old) (loaned l)) }
+    ensures loaned { IfSome result (λ l. IsLoaned (table_of publisher.new) (loaned l)) }
+    ensures can { IfSome result (λ l. CanSendToAll publisher.new (loaned l)) }
+    ensures tried { HasTried publisher.old publisher.new }
+{
+    publisher.loan_within(rt, tries)
+}
+
+/// A record that is waited for is the next one that came and is not older than what the subscriber takes.
+pub fn receive_waiting<X: Drop, K: Keeps<X>>(
+    subscriber: &mut Subscriber<'_, X, K>,
+    rt: &impl Wait,
+) -> Sample
+    ensures within { received result < slots_at subscriber.old }
+    ensures oldest { TookOut result subscriber.old subscriber.new }
+    ensures rises { Rises (expected_at subscriber.old) (number_of result ∷ []) (expected_at subscriber.new) }
+    ensures had { (came : List ℕ) × HasHad came (number_of result ∷ []) subscriber.old subscriber.new }
+    ensures same { (slots_at subscriber.new ≡ slots_at subscriber.old) × (layout_at subscriber.new ≡ layout_at subscriber.old)
+        × (place_at subscriber.new ≡ place_at subscriber.old) }
+{
+    subscriber.receive_waiting(rt)
+}
+
+/// So it is where there is a limit, and where no record comes each one that came is older.
+pub fn receive_within<X: Drop, K: Keeps<X>>(
+    subscriber: &mut Subscriber<'_, X, K>,
+    rt: &impl Wait,
+    tries: u64,
+) -> Option<Sample>
+    ensures within { IfSome result (λ s. received s < slots_at subscriber.old) }
+    ensures oldest { IfSome result (λ s. TookOut s subscriber.old subscriber.new) }
+    ensures rises { Rises (expected_at subscriber.old) (numbers_of result) (expected_at subscriber.new) }
+    ensures had { (came : List ℕ) × HasHad came (numbers_of result) subscriber.old subscriber.new }
+    ensures same { (slots_at subscriber.new ≡ slots_at subscriber.old) × (layout_at subscriber.new ≡ layout_at subscriber.old)
+        × (place_at subscriber.new ≡ place_at subscriber.old) }
+{
+    subscriber.receive_within(rt, tries)
 }
 
 /// What a loan shows is its value.

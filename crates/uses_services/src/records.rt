@@ -19,32 +19,18 @@ const SIZES: Sizes = Sizes {
 
 /// Publishes all records, each of which is full of its number.
 fn publish(rt: &impl Wait, publisher: &mut Publisher<'_, Vec<u64>>) {
-    for _ in rt.forever() {
-        let number = publisher.next_number();
-        if number >= RECORDS {
-            break;
-        }
-        publisher.collect();
-        if let Ok(mut loan) = publisher.loan(rt) {
-            loan.value.fill(number);
-            publisher.publish(loan);
-        } else {
-            thread::yield_now();
-        }
+    for number in 0..RECORDS {
+        let mut loan = publisher.loan_waiting(rt);
+        loan.value.fill(number);
+        publisher.publish(loan);
     }
 }
 
 /// Reads all records, and leaves: how many came until one was torn, or not the next one. None where one could not be read.
 fn read(rt: &impl Wait, mut subscriber: Subscriber<'_, Vec<u64>>) -> Option<u64> {
-    let mut number = 0;
-    for _ in rt.forever() {
-        if number >= RECORDS {
-            break;
-        }
-        let Some(sample) = subscriber.receive(rt) else {
-            thread::yield_now();
-            continue;
-        };
+    let mut whole = 0;
+    for number in 0..RECORDS {
+        let sample = subscriber.receive_waiting(rt);
         if !subscriber
             .read(&sample)
             .ok()?
@@ -55,10 +41,10 @@ fn read(rt: &impl Wait, mut subscriber: Subscriber<'_, Vec<u64>>) -> Option<u64>
             break;
         }
         subscriber.give_back(sample);
-        number += 1;
+        whole = number + 1;
     }
     subscriber.leave(rt).ok()?;
-    Some(number)
+    Some(whole)
 }
 
 /// How many records each of the two read, and how many slots are out then.

@@ -1,7 +1,7 @@
 //! A registry: two threads replace an entry each, over and over, and a third looks at all entries until it has seen the last of both.
 //! No entry that it sees is torn.
 use lock_free::mpmc::container::{
-    CallbackProgression, Container, ContainerHandle, ContainerState, Handle, OwnerId,
+    Container, ContainerHandle, ContainerState, Handle, OwnerId, entries,
 };
 use lock_free::mpmc::unique_index_set_enums::ReleaseMode;
 use std::alloc::Global;
@@ -13,6 +13,9 @@ use std::{io, thread};
 type Entry = (u64, u64);
 
 const LAST: u64 = 999;
+
+/// How often the third thread looks before it gives up.
+const LOOKS: u64 = 1 << 26;
 
 /// Adds an entry for this owner, and replaces it until it is the last.
 fn replace(
@@ -30,21 +33,20 @@ fn replace(
 
 /// How many entries a state shows that are the last, or None where one is torn.
 fn last_ones(state: &ContainerState<Entry>) -> Option<u64> {
-    let (mut number, mut torn) = (0u64, false);
-    state.for_each(|_, entry| {
-        torn |= entry.0 != entry.1;
-        if entry.0 == LAST {
-            number = number.wrapping_add(1);
+    let mut number = 0u64;
+    for (_, entry) in entries(state) {
+        if entry.0 != entry.1 {
+            return None;
         }
-        CallbackProgression::Continue
-    });
-    if torn { None } else { Some(number) }
+        number = number.wrapping_add(u64::from(entry.0 == LAST));
+    }
+    Some(number)
 }
 
-/// Looks until it sees both of the last entries: false where one was torn. None where there is no memory for a state.
+/// Looks until it sees both of the last entries: false where one was torn. None where there is no memory for a state, or it gives up.
 fn look(rt: &impl Wait, mut registry: Handle<'_, Entry>) -> Option<bool> {
     let mut state = registry.get_state(rt).ok()?;
-    for _ in rt.forever() {
+    for _ in 0..LOOKS {
         match last_ones(&state) {
             Some(2) => return Some(true),
             Some(_) => thread::yield_now(),
@@ -54,7 +56,7 @@ fn look(rt: &impl Wait, mut registry: Handle<'_, Entry>) -> Option<bool> {
             registry.update_state(rt, &mut state);
         }
     }
-    unreachable!()
+    None
 }
 
 /// Whether no entry was torn, and how many are left where one of two is removed. None where there is no memory, or no further handle.

@@ -32,39 +32,19 @@ fn spares(alloc: Global) -> Result<Vec<Vec<u64>>, AllocError> {
     Ok(spares)
 }
 
-/// Publishes a record whose words are all this number, where a slot is free: whether one was.
-fn publish(rt: &impl Wait, publisher: &mut Publisher<'_, Vec<u64>>, number: u64) -> bool {
-    let Ok(mut loan) = publisher.loan(rt) else {
-        publisher.collect();
-        return false;
-    };
-    for word in loan.value.iter_mut() {
-        *word = number;
-    }
-    publisher.publish(loan);
-    true
-}
-
-/// Publishes all records of a topic, and tells of each.
+/// Publishes all records of a topic, each of which is full of its number, and tells of each.
 fn publish_all(
     rt: &impl Wait,
     publisher: &mut Publisher<'_, Vec<u64>>,
     mut notifier: Notifier<'_>,
     topic: usize,
-) -> u64 {
-    let mut number = 0;
-    for _ in rt.forever() {
-        if number >= RECORDS {
-            break;
-        }
-        if publish(rt, publisher, number) {
-            notifier.notify(rt, topic);
-            number += 1;
-        } else {
-            thread::yield_now();
-        }
+) {
+    for number in 0..RECORDS {
+        let mut loan = publisher.loan_waiting(rt);
+        loan.value.fill(number);
+        publisher.publish(loan);
+        notifier.notify(rt, topic);
     }
-    number
 }
 
 /// Whether a record was published with this number, and each of its words is the same.

@@ -48,13 +48,16 @@ held_from n [] = []
 held_from n (h ∷ table) = if is_held h then n ∷ held_from (suc n) table else held_from (suc n) table
 
 module _ (n : ℕ) (h : Holders) (table : List Holders) where
+  -- one slot more counts once, if somebody holds it
   one_more : length (held_from n (h ∷ table)) ≡ as_number (is_held h) + length (held_from (suc n) table)
   one_more = go (is_held h) refl
     where
+      -- so it does whether somebody holds it or not
       go : (b : Bool) → is_held h ≡ b → length (held_from n (h ∷ table)) ≡ as_number (is_held h) + length (held_from (suc n) table)
       go true e = rw e (omega arith)
       go false e = rw e (omega arith)
 
+  -- one slot more is there once, if somebody holds it
   times_more : (i : ℕ) → times i (held_from n (h ∷ table)) ≡ (if n == i then as_number (is_held h) else 0) + times i (held_from (suc n) table)
   times_more i = go (is_held h) refl
     where
@@ -142,8 +145,9 @@ book_opens v n none =
 
 pub set_changes : (table : List Holders) (i : ℕ) (h : Holders) (holder : Holder) → i < length table
     → SameBut holder (holders_at table i) h → ChangesAt i holder table (set table i h)
-set_changes x0 x1 x2 x3 x4 x5 = grind (arith, get_or-set_other, nobody, holders_at, get_or-set_same)
+set_changes table i h holder i_below same_but = grind (arith, get_or-set_other, nobody, holders_at, get_or-set_same)
 
+-- what one holder changes at one slot leaves all that others hold
 pub changes_keep : (slot : ℕ) (holder : Holder) (old new : List Holders) → ChangesAt slot holder old new → KeepsOthers holder old new
 changes_keep slot holder old new changes other = ⊎_elim here there (cases_eq other slot)
   where
@@ -157,7 +161,7 @@ pub keeps_both : (holder : Holder) (one two three : List Holders) → KeepsOther
 keeps_both holder one two three first second slot i small ne = second slot i small ne ∙ first slot i small ne
 
 pub changes_none : (slot : ℕ) (holder : Holder) (table : List Holders) → ChangesAt slot holder table table
-changes_none x0 x1 x2 = grind arith
+changes_none slot holder table = grind arith
 
 module _ (slot : ℕ) (holder : Holder) (old new : List Holders) (number : ℕ) (changes : ChangesAt slot holder old new) (ne : number ≢ slot) where
   pub had_elsewhere : HasSlot new number holder → HasSlot old number holder
@@ -168,6 +172,7 @@ module _ (slot : ℕ) (holder : Holder) (old new : List Holders) (number : ℕ) 
 
 -- ---- what is sent, and what comes back for it
 
+-- a slot that is sent, and then another one that comes back for it, are exchanged
 pub exchanged : (slot back : ℕ) (holder : Holder) (one two three : List Holders)
     → Exchanges slot holder None one two → ChangesAt back holder two three → ¬ HasSlot three back holder
     → Exchanges slot holder (Some back) one three
@@ -184,6 +189,7 @@ exchanged slot back holder one two three sent changes lacks number = (forth, fro
     from : (HasSlot one number holder ⊎ (number ≡ slot)) × (Some back ≢ Some number) → HasSlot three number holder
     from x = has_elsewhere back holder two three number changes (λ e. x.1 (sym (ap Some e))) ((sent number).1 (x.0, none))
 
+-- a slot that comes back for itself leaves the table as it was
 pub came_back : (slot : ℕ) (holder : Holder) (table : List Holders) → ¬ HasSlot table slot holder → Exchanges slot holder (Some slot) table table
 came_back slot holder table lacks number = (forth, from)
   where
@@ -199,7 +205,7 @@ pub gains_both : (one two three : List Holders) → GainsNone one two → GainsN
 gains_both one two three first second slot i small has = first slot i small (second slot i small has)
 
 pub only_both : (slot : ℕ) (one two three : List Holders) → GainsOnly slot one two → GainsOnly slot two three → GainsOnly slot one three
-only_both x0 x1 x2 x3 x4 x5 x6 x7 x8 x9 x10 = grind arith
+only_both slot one two three earlier later other differs i low stands = grind arith
 
 -- ---- loans
 

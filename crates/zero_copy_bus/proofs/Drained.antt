@@ -102,6 +102,7 @@ module _ (s : Shape) (capacity : ℕ) (sent back received words : List ℕ) (old
   made : z.made ≡ old.made ++ b.made
   made = both.made ∙ ap (λ es. es ++ b.made) cut.made
 
+  -- what the joined pass has pushed is what was pushed before and what the half that drained pushed
   puts_z : sum_by puts z.made ≡ sum_by puts old.made + (sum_by puts other.made + sum_by puts b.made)
   puts_z =
       let one = ap (sum_by puts) made in
@@ -109,6 +110,7 @@ module _ (s : Shape) (capacity : ℕ) (sent back received words : List ℕ) (old
       let none : sum_by puts other.made ≡ 0 = ap (sum_by puts) cut.right_made in
       omega arith
 
+  -- what the joined pass has taken out is what was taken out before and what the half that drained took
   gets_z : sum_by gets z.made ≡ sum_by gets old.made + (sum_by gets other.made + sum_by gets b.made)
   gets_z =
       let one = ap (sum_by gets) made in
@@ -125,6 +127,7 @@ module _ (s : Shape) (capacity : ℕ) (sent back received words : List ℕ) (old
   since : IsBeginning other.seen z.seen
   since = subst (λ es. IsBeginning es z.seen) (cut.seen ∙ sym cut.right_seen) both.ours
 
+  -- the words that were taken out have passed with those that had passed before
   have : HavePassed (known.words ++ []) (known.words_back ++ []) (known.words_received ++ words) z
   have =
       have_passed capacity known.words known.words_back known.words_received [] [] words old other other other b z
@@ -132,6 +135,7 @@ module _ (s : Shape) (capacity : ℕ) (sent back received words : List ℕ) (old
       (ap (sum_by puts) cut.right_made) (ap (sum_by gets) cut.right_made) (ap (sum_by puts) cut.right_made) (ap (sum_by gets) cut.right_made)
       (idle other) popped since both.others puts_z gets_z whole all history
 
+  -- the numbers that were taken out are received with those that were received before
   pub has_drained : HasAll s sent back (received ++ numbers_in s.room words) z
   has_drained =
       record {

@@ -41,6 +41,7 @@ take_rises a b zero xs h = (a, refl)
 take_rises a b (suc k) [] h = (a, refl)
 take_rises a b (suc k) (x ∷ xs) h = let rest = take_rises (x + 1) b k xs h.1 in (rest.0, (h.0, rest.1))
 
+-- of numbers that rise each of two that merge to them rises
 merges_rise : (a b : ℕ) (xs ys zs : List ℕ) → Merges xs ys zs → Rises a zs b → (c : ℕ) × Rises a xs c
 merges_rise a b xs ys [] h rise = (a, subst (λ l. Rises a l a) (sym h.0) refl)
 merges_rise a b xs ys (z ∷ zs) (inl h) rise =
@@ -87,6 +88,7 @@ new_still but place olds news lane new same others ne is free =
     it : (now : Outlet) × (slice_get news place ≡ Some now) × OthersStay was.0 now
     it = others place was.0 ne was.1
 
+    -- so it is of a lane that stayed; one that is lost is not free
     go : StaysOrLost was.0 lane → IsNew lane
     go (inl still) =
         record {
@@ -193,6 +195,7 @@ module _ {X K : Type 0} {rule : Ghosts K X} where
   pub lane_first : (p q : Publisher X K rule) (s : Subscriber X K rule) → AllNew (lanes_of p) → HasSubscribed p q s → HasLane s (next_of q) q
   lane_first p q s new h = lane_let p q s h.leased (new (place_at s) h.leased.0 h.leased.2) h.part h.layout h.same.layout
 
+  -- a second subscriber whose lane was new as it was let has it
   pub lane_next : (o p q : Publisher X K rule) (s t : Subscriber X K rule) → AllNew (lanes_of o) → HasSubscribed o p s → HasSubscribed p q t
       → HasLane t (next_of q) q
   lane_next o p q s t new h k =
@@ -333,6 +336,7 @@ module _ {X K : Type 0} {rule : Ghosts K X} where
       every =
           all_delivered from rise.0 (expected_at t) came numbers (subst (λ n. Delivers n came numbers (expected_at t)) first had.delivers) rise.1
 
+      -- the subscriber has heard what went out by its lane
       there : HasHeard (layout_of p) from (next_of p) numbers taken.1
       there =
           record {

@@ -19,6 +19,7 @@ module _ {X : Type 0} where
   get_same (x ∷ xs) zero y lt = refl
   get_same (x ∷ xs) (suc n) y lt = get_same xs n y (omega arith)
 
+  -- what stands at any other place stays
   pub get_other : (xs : List X) (n k : ℕ) (y : X) → k ≢ n → slice_get (set xs n y) k ≡ slice_get xs k
   get_other [] n k y ne = refl
   get_other (x ∷ xs) zero zero y ne = absurd (ne refl)
@@ -36,6 +37,7 @@ module _ {X : Type 0} where
   got_within (y ∷ xs) zero x e = omega arith
   got_within (y ∷ xs) (suc n) x e = let lt = got_within xs n x e in omega arith
 
+  -- where two tests agree on the first ones of a list, they count as many of them
   pub count_take_same : (p q : X → Bool) (xs : List X) (n : ℕ)
       → ((k : ℕ) (x : X) → k < n → slice_get xs k ≡ Some x → p x ≡ q x)
       → count_by p (take n xs) ≡ count_by q (take n xs)
@@ -48,6 +50,7 @@ module _ {X : Type 0} where
       ∙ (ap (λ b. cond b 1 0 + count_by p (take n xs)) here
       ∙ (ap (λ m. cond (q x) 1 0 + m) rest ∙ sym (sum_by-cons (λ y. cond (q y) 1 0) x (take n xs))))
 
+  -- where two tests agree on a list, they count as many of it
   pub count_same : (p q : X → Bool) (xs : List X) → ((k : ℕ) (x : X) → slice_get xs k ≡ Some x → p x ≡ q x) → count_by p xs ≡ count_by q xs
   count_same p q [] same = refl
   count_same p q (x ∷ xs) same =
@@ -89,6 +92,7 @@ module _ {X : Type 0} where
     map_set (z ∷ xs) zero x y is e = let same : z ≡ x = cc in ap (λ w. w ∷ map f xs) (e ∙ sym (ap f same))
     map_set (z ∷ xs) (suc n) x y is e = ap (λ w. f z ∷ w) (map_set xs n x y is e)
 
+    -- what stands in a list with one more stood there before, or is that one, at the end
     pub got_pushed : (xs : List X) (x : X) (k : ℕ) (y : Y) → slice_get (map f (xs ++ x ∷ [])) k ≡ Some y
         → (slice_get (map f xs) k ≡ Some y) ⊎ ((k ≡ length xs) × (f x ≡ y))
     got_pushed [] x zero y e = inr (refl, (let same : f x ≡ y = cc in same))
@@ -99,10 +103,10 @@ module _ {X : Type 0} where
 -- one lane more at the next place, where nobody takes part
 module _ (lanes : List Outlet) (lane : Outlet) where
   pub placed_more : HaveTheirPlaces (holders_in lanes) → bit_of (holder_of lane) ≡ length lanes + 1 → HaveTheirPlaces (holders_in (lanes ++ lane ∷ []))
-  placed_more x0 x1 x2 x3 x4 = grind (arith, length, bit_of, holder_of, got_pushed)
+  placed_more placed next_bit place holder got = grind (arith, length, bit_of, holder_of, got_pushed)
 
   pub closed_more : NobodyTakesPart (open_in lanes) → is_open lane ≡ false → NobodyTakesPart (open_in (lanes ++ lane ∷ []))
-  closed_more x0 x1 x2 x3 = grind (arith, got_pushed, is_open)
+  closed_more closed shut place got = grind (arith, got_pushed, is_open)
 
 -- the lane at a place has its bit
 pub placed_at : (lanes : List Outlet) (place : ℕ) (lane : Outlet) → HaveTheirPlaces (holders_in lanes)
@@ -132,13 +136,14 @@ KeepsAbove n old new = (i : ℕ) → n < i → i < 64 → KeepsBit i old new
 
 pub above_more : (n : ℕ) (holder : Holder) (one two three : List Holders) → bit_of holder ≡ n + 1
     → KeepsAbove n one two → KeepsOthers holder two three → KeepsAbove (n + 1) one three
-above_more x0 x1 x2 x3 x4 x5 x6 x7 x8 x9 x10 x11 = grind arith
+above_more n holder one two three next_bit above others i over low slot = grind arith
 
 -- whom one bit more stands for
 module _ (R : List Holders → List Holders → Outlet → Outlet → Type 0)
     (still : (one two three : List Holders) (old new : Outlet) → KeepsSlots (holder_of old) two three → R one two old new → R one three old new)
     (from : (one two three : List Holders) (old new : Outlet) → KeepsSlots (holder_of old) one two
     → KeepsLoans one two → R two three old new → R one three old new) where
+  -- what one lane more does goes along with what the lanes before it have done
   pub done_more : (one two three : List Holders) (n : ℕ) (olds news : List Outlet) (was now : Outlet)
       → HaveTheirPlaces (holders_in olds) → DoneTo (R one two) n olds news → KeepsAbove n one two → KeepsLoans one two
       → slice_get news n ≡ Some was → R two three was now → KeepsOthers (holder_of was) two three
@@ -152,6 +157,7 @@ module _ (R : List Holders → List Holders → Outlet → Outlet → Type 0)
       bit : bit_of (holder_of was) ≡ n + 1
       bit = placed_at olds n was placed was_old
 
+      -- so it is of that lane
       here : (k : ℕ) (old : Outlet) → k ≡ n → slice_get olds k ≡ Some old → (new : Outlet) × (slice_get (set news n now) k ≡ Some new) × R one three old new
       here k old e got =
           let there : slice_get (set news n now) n ≡ Some now = get_same news n now (got_within news n was is) in
@@ -165,6 +171,7 @@ module _ (R : List Holders → List Holders → Outlet → Outlet → Type 0)
             subst (λ o. R one three o now) same (from one two three was now kept loans step),
           )
 
+      -- so it is of each lane before it
       below : (k : ℕ) (old : Outlet) → k < n → slice_get olds k ≡ Some old → (new : Outlet) × (slice_get (set news n now) k ≡ Some new) × R one three old new
       below k old lt got =
           let it = done.done k old lt got in

@@ -29,12 +29,14 @@ pub done_next : (R : Outlet → Outlet → Type 0) (n : ℕ) (olds news : List O
 done_next R n olds news was now done is step =
     record { done = all; rest = λ k le. get_other news n k now (λ e. absurd (omega arith)) ∙ done.rest k (omega arith) }
   where
+    -- so it is of each lane up to that one
     all : (k : ℕ) (old : Outlet) → k < n + 1 → slice_get olds k ≡ Some old → (new : Outlet) × (slice_get (set news n now) k ≡ Some new) × R old new
     all k old lt got =
         ⊎_elim (λ e. here k old e got)
         (λ ne. (let it = done.done k old (omega arith) got in (it.0, get_other news n k now (λ e. absurd (omega arith)) ∙ it.1, it.2)))
         (cases_eq k n)
       where
+        -- so it is of that one
         here : (k : ℕ) (old : Outlet) → k ≡ n → slice_get olds k ≡ Some old → (new : Outlet) × (slice_get (set news n now) k ≡ Some new) × R old new
         here k old e got =
             let old_is : slice_get olds n ≡ Some old = subst (λ j. slice_get olds j ≡ Some old) e got in
@@ -65,6 +67,7 @@ module _ (olds : List Outlet) (n : ℕ) (was now : Outlet) (is : slice_get olds 
   pub but_place : EachOther n (λ old new. new ≡ old) olds (set olds n now)
   but_place k old ne got = (old, get_other olds n k now ne ∙ got, refl)
 
+  -- what a list of lanes is mapped to changes where the lane does
   pub map_at : {Y : Type 0} (f : Outlet → Y) (y : Y) → f now ≡ y → map f (set olds n now) ≡ slice_set (map f olds) n y
   map_at f y same = set_map f olds n now ∙ ap (slice_set (map f olds) n) same
     where

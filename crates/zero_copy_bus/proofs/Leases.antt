@@ -32,6 +32,7 @@ part_is_let Lost b on = absurd (true≢false (sym on))
 pub same_sends : (old new : Outlet) → SamePasses old new → sends_view new ≡ sends_view old
 same_sends old new same = λ i. end_view (view (same.waits i)) (same.sends i)
 
+-- a lane that was let, and has then the same passes and is open, was let
 let_still : (theirs : View ℕ) (old mid new : Outlet) → SamePasses mid new → is_open new ≡ true → WasLet theirs old mid → WasLet theirs old new
 let_still theirs old mid new same on h =
     record {
@@ -112,6 +113,7 @@ module _ (roll : Roll) (one two : List Holders) (place : ℕ) (olds mids news : 
 pub shown_but : (roll : Roll) (taking : List Bool) (place : ℕ) → AreShown roll taking → AreShown roll (slice_set taking place false)
 shown_but roll taking place shown k is = shown k (before taking place k is)
   where
+    -- a place that takes part once one lane is closed took part before
     before : (xs : List Bool) (n j : ℕ) → slice_get (slice_set xs n false) j ≡ Some true → slice_get xs j ≡ Some true
     before [] n j e = e
     before (x ∷ xs) zero zero e = cc

@@ -58,6 +58,7 @@ sent_as room number slot word one two old new other back returned is at came add
     }
 
 module _ (room number slot : ℕ) (one two three : List Holders) (old new : Outlet) where
+  -- what the other holders change behind a publish leaves how the lane was served
   pub served_still : KeepsSlots (holder_of old) two three → IsServed room number slot one two old new → IsServed room number slot one three old new
   served_still keeps served =
       record {
@@ -74,6 +75,7 @@ module _ (room number slot : ℕ) (one two three : List Holders) (old new : Outl
         waits = served.waits;
       }
 
+  -- what the other holders change before a publish leaves how the lane was served
   pub served_from : KeepsSlots (holder_of old) one two → KeepsLoans one two → IsServed room number slot two three old new
       → IsServed room number slot one three old new
   served_from keeps loans served =
@@ -131,7 +133,7 @@ counted slot one two three n number lanes lane gained placed above others is cou
 -- what the publisher alone gives up is no subscriber's
 module _ (room number slot : ℕ) (one two three : List Holders) (olds news : List Outlet) (changes : ChangesAt slot publisher two three) where
   kept : (lane : Outlet) → KeepsSlots (holder_of lane) two three
-  kept x0 x1 = grind (arith, changes_keep, publisher, bit_of, holder_of)
+  kept lane other = grind (arith, changes_keep, publisher, bit_of, holder_of)
 
   pub served_after : EachLane (IsServed room number slot one two) olds news → EachLane (IsServed room number slot one three) olds news
   served_after each =
@@ -164,10 +166,10 @@ module _ (laid slot loaned : ℕ) (one two three : List Holders) (olds news : Li
 
 module _ (slots : ℕ) (one two three : List Holders) (old new : Outlet) where
   pub taken_still : KeepsSlots (holder_of old) two three → IsTakenBack slots one two old new → IsTakenBack slots one three old new
-  taken_still x0 x1 = grind arith
+  taken_still keeps_slots taken_back = grind arith
 
   pub taken_from : KeepsSlots (holder_of old) one two → KeepsLoans one two → IsTakenBack slots two three old new → IsTakenBack slots one three old new
-  taken_from x0 x1 x2 = grind arith
+  taken_from keeps_slots keeps_loans taken_back = grind arith
 
 -- so many numbers came back, and nothing else changed
 pub record TakenSo (number : ℕ) (holder : Holder) (before after : List Holders) (old new : View ℕ) : Type 0 where
@@ -177,6 +179,7 @@ pub record TakenSo (number : ℕ) (holder : Holder) (before after : List Holders
   pub since : IsBeginning old.seen new.seen
   pub has : (slot : ℕ) → HasSlot after slot holder ↔ (HasSlot before slot holder × ¬ Contains numbers slot)
 
+-- one number more that came back is one of those that came back
 pub so_more : (number back : ℕ) (holder : Holder) (one two three : List Holders) (u v w : View ℕ)
     → TakenSo number holder one two u v → PopDone (Index back) v w → ChangesAt back holder two three
     → ¬ HasSlot three back holder → TakenSo (number + 1) holder one three u w
@@ -205,6 +208,7 @@ so_more number back holder one two three u v w so out changes lacks =
 
 module _ (slots number : ℕ) (one two : List Holders) (old now new : Outlet)
     (so : TakenSo number (holder_of old) one two (takes_view old) (takes_view now)) where
+  -- where nothing more waits, all that came back is taken back
   pub so_empty : PopEmpty (takes_view now) (takes_view new) → SamePasses old new → IsTakenBack slots one two old new
   so_empty was same =
       record {
@@ -222,6 +226,7 @@ module _ (slots number : ℕ) (one two : List Holders) (old now new : Outlet)
 -- ---- a look at who takes part
 
 module _ (roll : Roll) (one two three : List Holders) (old new : Outlet) where
+  -- what the other holders change behind a look leaves how the lane was settled
   pub settled_still : KeepsSlots (holder_of old) two three → IsSettled roll one two old new → IsSettled roll one three old new
   settled_still keeps settled =
       record {
@@ -237,6 +242,7 @@ module _ (roll : Roll) (one two three : List Holders) (old new : Outlet) where
         popped = settled.popped;
       }
 
+  -- what the other holders change before a look leaves how the lane was settled
   pub settled_from : KeepsSlots (holder_of old) one two → KeepsLoans one two → IsSettled roll two three old new → IsSettled roll one three old new
   settled_from keeps loans settled =
       record {

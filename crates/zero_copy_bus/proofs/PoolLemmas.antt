@@ -4,4 +4,4 @@ use Rattle.zero_copy_bus.specs.declared.pool.Pool.{Pool}
 use Rattle.zero_copy_bus.specs.Pools.{IsSame}
 
 pub same_both : (one two three : Pool) → IsSame one two → IsSame two three → IsSame one three
-same_both x0 x1 x2 x3 x4 = grind arith
+same_both one two three first_same second_same = grind arith

@@ -13,7 +13,7 @@ use Rattle.zero_copy_bus.specs.declared.holders.Holders.{Holders}
 use Rattle.zero_copy_bus.specs.declared.outlet.Outlet.{Outlet}
 use Rattle.zero_copy_bus.specs.declared.publisher.Publisher.{Publisher}
 use Rattle.zero_copy_bus.specs.Books.{holders_at, CanSend, ChangesAt, HasSlot, IsLoaned}
-use Rattle.zero_copy_bus.specs.Ends.{lanes_of, layout_of, next_of, room_of, shape_of, slots_of, table_of, CanSendToAll, HasNumber}
+use Rattle.zero_copy_bus.specs.Ends.{lanes_of, layout_of, next_of, room_of, shape_of, slots_of, table_of, CanSendToAll, HasNumber, HasTried}
 use Rattle.zero_copy_bus.specs.Holders.{bit_of, is_held, publisher}
 use Rattle.zero_copy_bus.specs.Outlets.{holder_of, is_open, open_in, sends_view, waits_queue, EachLane, HasPushed, IsSent, IsServed, IsTakenBack, SamePasses}
 use Rattle.zero_copy_bus.specs.Relays.{AreAmong, HasGoneOut, HasPublished}
@@ -84,6 +84,7 @@ can_go : (slot : ℕ) (before after : List Holders) (lane : Outlet) → is_held 
     → CanSend after slot (holder_of lane)
 can_go slot before after lane free changes loaned = (loaned, lacks)
   where
+    -- nobody has the slot yet
     lacks : HasSlot after slot (holder_of lane) → ⊥
     lacks has =
         let bit = bit_of (holder_of lane) in
@@ -93,6 +94,7 @@ can_go slot before after lane free changes loaned = (loaned, lacks)
         let one : 1 ≡ 0 = sym has ∙ (here ∙ (none ∙ bit_at-zero bit)) in
         absurd (omega arith)
 
+-- whether one takes part who can be sent the slot is decided
 can_send : (b : Bool) (table : List Holders) (slot : ℕ) (holder : Holder)
     → ((b ≡ true) × CanSend table slot holder) ⊎ (((b ≡ true) × CanSend table slot holder) → ⊥)
 can_send false table slot holder = inr (λ x. true≢false (sym x.0))
@@ -124,6 +126,7 @@ out_one layout number slot before after old new word can taking served =
     only : AreAll number (number + 1) (number ∷ [])
     only = (refl, refl)
 
+    -- so it is where the record goes out by this lane, whatever comes back
     sent : IsSent layout.room number slot before after old new → (back : Option ℕ) → HasPushed (word_of layout.room number slot) back old new
         → HasGoneOut layout number (number + 1) old new
     sent s None pushed =
@@ -162,6 +165,7 @@ out_one layout number slot before after old new word can taking served =
           all = λ on. only;
         }
 
+-- what goes out by two calls, one after the other, has gone out by both
 pub out_then : (layout : Layout) (a b c : ℕ) (old mid new : Outlet) → HasGoneOut layout a b old mid → HasGoneOut layout b c mid new
     → HasGoneOut layout a c old new
 out_then layout a b c old mid new h k =
@@ -177,6 +181,7 @@ out_then layout a b c old mid new h k =
     same : waits_queue mid ≡ waits_queue old
     same = ap queue_of h.sent.waits
 
+    -- so are the sends of both
     both : 0 < (waits_queue old).capacity
         → SendsOn (shape_of layout (waits_queue old)) (h.numbers ++ k.numbers) (h.back ++ k.back) (sends_view old) (sends_view new)
     both some =
@@ -187,6 +192,7 @@ out_then layout a b c old mid new h k =
 
 -- ---- all lanes of a publisher
 
+-- a lane takes part as before, where all lanes do
 same_open : (olds news : List Outlet) (place : ℕ) (old new : Outlet) → open_in news ≡ open_in olds → slice_get olds place ≡ Some old
     → slice_get news place ≡ Some new
     → is_open new ≡ is_open old
@@ -197,6 +203,7 @@ same_open olds news place old new taking was is =
     cc
 
 module _ {X K : Type 0} {rule : Ghosts K X} where
+  -- a call that leaves the passes of all lanes, and who takes part, publishes nothing
   published_by : (old new : Publisher X K rule) → layout_of new ≡ layout_of old → open_in (lanes_of new) ≡ open_in (lanes_of old)
       → next_of new ≡ next_of old → EachLane SamePasses (lanes_of old) (lanes_of new) → HasPublished old new
   published_by old new layout taking next each =
@@ -229,6 +236,10 @@ module _ {X K : Type 0} {rule : Ghosts K X} where
   published_back old new layout next taking taken =
       published_by old new layout taking next (λ place lane is. (let it = taken place lane is in (it.0, it.1, it.2.passes)))
 
+  -- calls that try to loan
+  pub published_tried : (old new : Publisher X K rule) → HasTried old new → HasPublished old new
+  published_tried old new tried = published_by old new tried.same.layout tried.taking tried.next tried.passes
+
   -- a publish
   has_number : (p : Publisher X K rule) (slot : ℕ) → HasNumber p slot ⊎ (HasNumber p slot → ⊥)
   has_number p slot =
@@ -251,6 +262,7 @@ module _ {X K : Type 0} {rule : Ghosts K X} where
       → CanSendToAll new slot
   can_send_to_all slot old new free changes loaned place lane is = can_go slot (table_of old) (table_of new) lane free changes loaned
 
+  -- a publish of a slot that can go to all has published one record, or none where no number is left
   pub published_one : (slot : ℕ) (old new : Publisher X K rule) → CanSendToAll old slot → layout_of new ≡ layout_of old
       → open_in (lanes_of new) ≡ open_in (lanes_of old)
       → (HasNumber old slot → EachLane (IsServed (room_of old) (next_of old) slot (table_of old) (table_of new)) (lanes_of old) (lanes_of new))
@@ -264,6 +276,7 @@ module _ {X K : Type 0} {rule : Ghosts K X} where
       many : slots_of old ≡ (layout_of old).places
       many = sym (old.fits ∙ old.sized)
 
+      -- so it has where a number is left
       yes : HasNumber old slot → HasPublished old new
       yes word =
           record {
@@ -282,6 +295,7 @@ module _ {X K : Type 0} {rule : Ghosts K X} where
                 ));
           }
 
+  -- what is published by two calls, one after the other, is published by both
   pub published_then : (p q r : Publisher X K rule) → HasPublished p q → HasPublished q r → HasPublished p r
   published_then p q r h k =
       record {

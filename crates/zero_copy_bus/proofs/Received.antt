@@ -14,6 +14,7 @@ use Rattle.zero_copy_loans.specs.declared.words.Layout.{Layout}
 use Rattle.zero_copy_loans.proofs.Numbers.{receives_nothing, receives_one, receives_other, receives_still, receives_then}
 use Rattle.zero_copy_slots.specs.declared.Keeps.{Ghosts}
 
+-- what is delivered one call after another is delivered in all
 pub delivers_then : (a b c : ℕ) (xs ys ds es : List ℕ) → Delivers a xs ds b → Delivers b ys es c → Delivers a (xs ++ ys) (ds ++ es) c
 delivers_then a b c [] ys ds es h more =
     subst (λ zs. Delivers a ys (zs ++ es) c) (sym h.0) (subst (λ n. Delivers n ys es c) h.1 more)
@@ -27,6 +28,7 @@ module _ {X K : Type 0} {rule : Ghosts K X} where
     abbrev s : Shape
     s = shape_of (layout_at old) (receives_queue old)
 
+    -- a call whose pop found none has had no record
     pub had_none : (0 < (receives_queue old).capacity → HasPopped None (receives_view old) (receives_view new)) → expected_at new ≡ expected_at old
         → HasHad [] [] old new
     had_none p same =
@@ -80,6 +82,7 @@ module _ {X K : Type 0} {rule : Ghosts K X} where
         delivers = (refl, same);
       }
 
+  -- what was had one call after another was had in all
   pub had_then : (xs ys ds es : List ℕ) (a b c : Subscriber X K rule) → HasHad xs ds a b → HasHad ys es b c → HasHad (xs ++ ys) (ds ++ es) a c
   had_then xs ys ds es a b c h k =
       record {

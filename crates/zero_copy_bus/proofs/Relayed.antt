@@ -31,6 +31,7 @@ module _ (layout : Layout) (sent back received numbers others came : List ℕ) (
   last_queue : waits_queue last ≡ waits_queue leased
   last_queue = ap queue_of out.waits
 
+  -- what the publisher has sent up to the end of its half is what went out since the lane was let
   sends : SendsOn s (numbers ++ []) (others ++ []) (sends_view leased) ends.ours.ended
   sends =
       sends_then s numbers others [] [] (sends_view leased) (sends_view last) ends.ours.ended
@@ -47,6 +48,7 @@ module _ (layout : Layout) (sent back received numbers others came : List ℕ) (
   cut_of : lets.whole ≡ waits_view first
   cut_of = lets.from known.none
 
+  -- the publisher's pass knows all that was sent, came back and was received, once the other end is taken in
   all : HasAll s (sent ++ numbers) (back ++ others) (received ++ came) (waits_view after)
   all =
       relays s (waits_queue after).capacity sent back received numbers others came lets.whole lets.half lets.ours (waits_view leased)
@@ -58,6 +60,7 @@ module _ (layout : Layout) (sent back received numbers others came : List ℕ) (
       (subst (λ ns. SendsOn s (numbers ++ []) ns (sends_view leased) ends.ours.ended) (append-nil others) sends))
       (subst (λ ns. ReceivesOn s ns theirs left) (append-nil came) receives) joined ends.both ends.all ends.history
 
+  -- what is known of the lane goes on, once the other end is taken in
   goes_on : HasAllOf layout (sent ++ numbers) (back ++ others) (received ++ came) after
   goes_on =
       record {
@@ -85,6 +88,7 @@ module _ (layout : Layout) (sent back received : List ℕ) (old new : Outlet) (k
       has_drained its (waits_queue new).capacity sent back received words (waits_view old) d.kept d.other d.left (waits_view new) fits
       known.all d.cut popped d.both d.all d.history
 
+  -- what is taken out of a lane that is drained counts as received, and nothing is left then
   drains : (came : List ℕ) × HasAllOf layout sent back (received ++ came) new × (length (received ++ came) + length back ≡ length sent)
   drains = (
     numbers_in layout.room words,

@@ -150,6 +150,7 @@ publish_lays_another_number room number other slot before after old new within d
     not_both : word_of room number slot ≡ word_of room other slot → ⊥
     not_both is = differs (number_in_word room number slot _ is within ∙ sym (number_in_word room other slot _ refl within))
 
+    -- whatever the push handed back, it was not of this word
     go : (back : Option ℕ) → HasPushed (word_of room number slot) back old new → ⊥
     go None pushed = not_both (one_word _ _ _ _ (sends_view old) (sends_view new) pushed.0 wrong.0)
     go (Some back) pushed =
@@ -251,6 +252,7 @@ still_let old new leased (inr lost) = absurd (true≢false (sym leased ∙ ap (�
 module _ {X K : Type 0} {rule : Ghosts K X} where
   -- ---- what a refused `subscribe` tells: that there is no seat
 
+  -- a refusal for want of a seat is refused where a lane was free that somebody has then
   pub subscribe_tells_no_seat : (owner place : ℕ) (lane now : Outlet) (old new : Publisher X K rule)
       → slice_get (lanes_of old) place ≡ Some lane
       → slice_get (lanes_of new) place ≡ Some now
@@ -266,6 +268,7 @@ module _ {X K : Type 0} {rule : Ghosts K X} where
   abbrev NoneFree : Publisher X K rule → Type 0
   NoneFree p = (place : ℕ) (lane : Outlet) → slice_get (lanes_of p) place ≡ Some lane → ¬ IsFree lane
 
+  -- that the registry did not let it in is refused where no lane was free
   pub subscribe_names_no_lane : (owner : ℕ) (failure : ContainerAddFailure) (old new : Publisher X K rule) → NoneFree old
       → WasNotSubscribed owner old new (NotLetIn failure)
       → ⊥

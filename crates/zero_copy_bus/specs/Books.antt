@@ -80,6 +80,15 @@ abbrev pub KeepsLoansBut : ℕ → List Holders → List Holders → Type 0
 KeepsLoansBut slot old new =
     (other : ℕ) → other ≢ slot → bit_at (holders_at new other).bits 0 ≡ bit_at (holders_at old other).bits 0
 
+-- what was on loan is so still
+abbrev pub LoansStay : List Holders → List Holders → Type 0
+LoansStay old new = (slot : ℕ) → IsLoaned old slot → IsLoaned new slot
+
+-- no subscriber gains a slot
+abbrev pub SubscribersGainNone : List Holders → List Holders → Type 0
+SubscribersGainNone old new =
+    (slot i : ℕ) → 0 < i → i < 64 → bit_at (holders_at new slot).bits i ≡ 1 → bit_at (holders_at old slot).bits i ≡ 1
+
 -- whom a bit stands for holds each slot that he held, and no other; or he holds none
 abbrev pub KeepsAllOrNone : List Holders → List Holders → Type 0
 KeepsAllOrNone old new =

@@ -32,9 +32,10 @@ use Rattle.zero_copy_bus.specs.declared.subscriber.Left.{Left}
 use Rattle.zero_copy_bus.specs.declared.subscriber.Sample.{Sample}
 use Rattle.zero_copy_bus.specs.declared.subscriber.Seat.{Seat}
 use Rattle.zero_copy_bus.specs.declared.subscriber.Subscriber.{Subscriber}
-use Rattle.zero_copy_bus.specs.Outlets.{holder_of, holders_in, open_in, waits_queue, AtLane, EachLane, EachOther, IsSettled, KeepsRest, StaysOrLost, WasLetOf}
+use Rattle.zero_copy_bus.specs.Outlets.{holder_of, holders_in, open_in, waits_queue, AtLane, EachLane, EachOther, IsSettled, KeepsRest, SamePasses, StaysOrLost}
+use Rattle.zero_copy_bus.specs.Outlets.{WasLetOf}
 use Rattle.zero_copy_bus.specs.Pools as pools
-use Rattle.zero_copy_bus.specs.Books.{CanSend, ChangesAt, IsLoaned}
+use Rattle.zero_copy_bus.specs.Books.{CanSend, ChangesAt, IsLoaned, LoansStay, SubscribersGainNone}
 use Rattle.zero_copy_bus.specs.Holders.{publisher}
 use Rattle.zero_copy_bus.specs.Rolls.{HasLooked}
 use Rattle.zero_copy_bus.specs.Sequences.{Delivers}
@@ -155,6 +156,15 @@ module _ {X K : Type 0} {rule : Ghosts K X} where
     pub records : new.records ≡ old.records
     pub layout : layout_of new ≡ layout_of old
     pub lanes : holders_in (lanes_of new) ≡ holders_in (lanes_of old)
+
+  -- It has tried to loan: what was on loan is so still, and no subscriber has gained a slot. No record went out, and no number is used.
+  pub record HasTried (old new : Publisher X K rule) : Type 0 where
+    pub loans : LoansStay (table_of old) (table_of new)
+    pub gains : SubscribersGainNone (table_of old) (table_of new)
+    pub passes : EachLane SamePasses (lanes_of old) (lanes_of new)
+    pub taking : open_in (lanes_of new) ≡ open_in (lanes_of old)
+    pub same : IsSame old new
+    pub next : next_of new ≡ next_of old
 
   -- ---- a subscriber
 
@@ -282,6 +292,10 @@ module _ {X K : Type 0} {rule : Ghosts K X} where
   -- the slot was not taken back: as many waited as the queue has room for, or its last position is reached
   abbrev pub TookNoneBack : ℕ → Subscriber X K rule → Subscriber X K rule → Type 0
   TookNoneBack slot old new = PushRefused (returns_queue old).capacity (Index slot) (returns_view old) (returns_view new)
+
+  -- the last pop took the word of this sample out
+  abbrev pub TookOut : Sample → Subscriber X K rule → Subscriber X K rule → Type 0
+  TookOut sample old new = (waited : View ℕ) × PopOldest (Index (word_at old sample)) waited (receives_view new)
 
   -- its place is that of a lane, and nobody takes part there
   abbrev pub IsHidden : Subscriber X K rule → Publisher X K rule → Type 0

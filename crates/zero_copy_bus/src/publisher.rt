@@ -7,7 +7,8 @@ ghost use Rattle.zero_copy_bus.specs.Books.{holders_at, AllFree, ChangesAt, Gain
 ghost use Rattle.zero_copy_bus.specs.Books.{KeepsAllOrNone, KeepsLoans, KeepsLoansBut, held_number};
 ghost use Rattle.zero_copy_bus.specs.Holders.{is_held, publisher};
 ghost use Rattle.zero_copy_bus.specs.Outlets.{has_gained, holders_in, open_in, AreShown, AtLane, EachLane, EachOther, HaveTheirPlaces};
-ghost use Rattle.zero_copy_bus.specs.Outlets.{IsServed, IsSettled, IsTakenBack, KeepsRest, NobodyTakesPart, OthersStay, StaysOrLost, WasLetOf, WasRejoined};
+ghost use Rattle.zero_copy_bus.specs.Outlets.{IsServed, IsSettled, IsTakenBack, KeepsRest, NobodyTakesPart, OthersStay, StaysOrLost};
+ghost use Rattle.zero_copy_bus.specs.Outlets.{WasLetOf, WasRejoined};
 ghost use Rattle.zero_copy_bus.specs.Pools as pools;
 ghost use Rattle.zero_copy_bus.specs.Rolls.{HasLooked, HasNotLooked, HasRecovered};
 ghost use Rattle.zero_copy_slots.specs.Slots.{slots_in};
@@ -23,6 +24,7 @@ use crate::subscriber::{Left, Seat, Subscriber};
 use lock_free_owners::mpmc::container::OwnerId;
 use lock_free_sets::mpmc::unique_index_set::Pass;
 use std::sync::Wait;
+use std::thread;
 use zero_copy_loans::words::Layout;
 use zero_copy_slots::{Anything, Keeps, Slots};
 
@@ -67,7 +69,7 @@ impl<'a, X: Drop, K: Keeps<X>> Publisher<'a, X, K> {
     ghost use Rattle.zero_copy_bus.specs.Ends.{place_before, roll_of, room_of, set_in, share_in, slots_at, slots_before, slots_of, spares_in, table_of};
     ghost use Rattle.zero_copy_bus.specs.Ends.{place_left, receives_at, receives_before, receives_left, receives_queue, receives_view, record_of};
     ghost use Rattle.zero_copy_bus.specs.Relays.{LanesPassOn};
-    ghost use Rattle.zero_copy_bus.specs.Ends.{HasNumber, IsKept, IsOfLane, IsSame, IsTakenFor, WasNotSubscribed, WasSeated};
+    ghost use Rattle.zero_copy_bus.specs.Ends.{CanSendToAll, HasNumber, HasTried, IsKept, IsOfLane, IsSame, IsTakenFor, WasNotSubscribed, WasSeated};
 
     pub(crate) fn of(
         pool: Pool<'a>,
@@ -277,6 +279,60 @@ impl<'a, X: Drop, K: Keeps<X>> Publisher<'a, X, K> {
             unreachable!()
         };
         Ok(Loan::of(slot, value, writing))
+    }
+
+    /// Takes back what was given back, and tries to loan once.
+    fn loan_once(&mut self, rt: &impl Wait) -> Option<Loan<'a, X, K>>
+        ensures within { IfSome result (λ l. loaned l < slots_of self.old) }
+        ensures fresh { IfSome result (λ l. ¬ IsLoaned (table_of self.old) (loaned l)) }
+        ensures loaned { IfSome result (λ l. IsLoaned (table_of self.new) (loaned l)) }
+        ensures can { IfSome result (λ l. CanSendToAll self.new (loaned l)) }
+        ensures tried { HasTried self.old self.new }
+    {
+        self.collect();
+        match self.loan(rt) {
+            Ok(loan) => Some(loan),
+            Err(_) => None,
+        }
+    }
+
+    /// A loan as soon as there is one, by at most so many tries (by no clause). Before each try it takes back what subscribers gave
+    /// back, and after one that is refused another thread may run. None where each try was refused. A slot that is `StillRead` stays
+    /// out, on loan, and its number is not told: `reclaim` may be tried with each. For each try, the steps of `collect` and of `loan`.
+    pub fn loan_within(&mut self, rt: &impl Wait, tries: u64) -> Option<Loan<'a, X, K>>
+        ensures within { IfSome result (λ l. loaned l < slots_of self.old) }
+        ensures fresh { IfSome result (λ l. ¬ IsLoaned (table_of self.old) (loaned l)) }
+        ensures loaned { IfSome result (λ l. IsLoaned (table_of self.new) (loaned l)) }
+        ensures can { IfSome result (λ l. CanSendToAll self.new (loaned l)) }
+        ensures tried { HasTried self.old self.new }
+    {
+        for _ in 0..tries {
+            if let Some(loan) = self.loan_once(rt) {
+                return Some(loan);
+            }
+            thread::yield_now();
+        }
+        None
+    }
+
+    /// A loan as soon as there is one. Before each try it takes back what subscribers gave back, and after one that is refused
+    /// another thread may run. It waits for good where no slot comes back, and where no record is left to write. A slot that is
+    /// `StillRead` stays out, on loan, and its number is not told: `reclaim` may be tried with each. For each try, the steps of
+    /// `collect` and of `loan`.
+    pub fn loan_waiting(&mut self, rt: &impl Wait) -> Loan<'a, X, K>
+        ensures within { loaned result < slots_of self.old }
+        ensures fresh { ¬ IsLoaned (table_of self.old) (loaned result) }
+        ensures loaned { IsLoaned (table_of self.new) (loaned result) }
+        ensures can { CanSendToAll self.new (loaned result) }
+        ensures tried { HasTried self.old self.new }
+    {
+        for _ in rt.forever() {
+            if let Some(loan) = self.loan_once(rt) {
+                return loan;
+            }
+            thread::yield_now();
+        }
+        unreachable!()
     }
 
     /// Publishes a record, which keeps its rule with the next number. It goes to each who takes part and has it not: how many

@@ -1,5 +1,5 @@
 //! The end of a bus that receives records and reads them.
-ghost use Rattle.std.specs.Prelude.{◌≡◌, ◌<◌, IsTrue, IsFalse, IfOk, IfErr, IfSome, IfNone, List, ℕ};
+ghost use Rattle.std.specs.Prelude.{◌≡◌, ◌<◌, IsTrue, IsFalse, IfOk, IfErr, IfSome, IfNone, List, [], ◌∷◌, ℕ};
 ghost use Rattle.lock_free_owners.specs.Container.Contracts.{WasNotAdded};
 ghost use Rattle.lock_free_owners.specs.Container.Handles.{container_in};
 ghost use Rattle.lock_free_owners.specs.Container.Names.{IsOwn};
@@ -17,6 +17,7 @@ use lock_free_owners::mpmc::container::{
 use lock_free_queues::spsc::{index_queue, safely_overflowing_index_queue as overflow};
 use lock_free_sets::mpmc::unique_index_set_enums::ReleaseMode;
 use std::sync::Wait;
+use std::thread;
 use zero_copy_loans::error::ReadFailure;
 use zero_copy_loans::words::Layout;
 use zero_copy_slots::{Anything, Keeps, Reading, Slots};
@@ -226,11 +227,12 @@ impl<'a> Left<'a> {
 impl<'a, X: Drop, K: Keeps<X>> Subscriber<'a, X, K> {
     ghost use Rattle.zero_copy_bus.specs.Ends.{expected_at, layout_at, members_left, members_view, number_of, numbers_of, place_at, place_left};
     ghost use Rattle.zero_copy_bus.specs.Ends.{queue_left, received, receives_left, receives_queue, receives_view, record_of, returns_left};
-    ghost use Rattle.zero_copy_bus.specs.Ends.{returns_view, slots_at, word_at, HasHad, HasLeft, IsAgain, IsUnread, ReceivedNone, TookNoneBack, WasKept};
+    ghost use Rattle.zero_copy_bus.specs.Ends.{returns_view, slots_at, word_at, HasHad, HasLeft, IsAgain, IsUnread};
+    ghost use Rattle.zero_copy_bus.specs.Ends.{ReceivedNone, TookNoneBack, TookOut, WasKept};
 
     /// The oldest record that waits. Its number is above that of each record that it received before, and not below that of the
-    /// first one that was published after it got its seat. None where none waits, or where what came is no such record, and is
-    /// gone. The steps of `pop`.
+    /// first one that was published after it got its seat. None where none waits, as long as the publisher has not taken it in
+    /// (`update`), or where what came is no such record, and is gone. The steps of `pop`.
     pub fn receive(&mut self, rt: &impl Wait) -> Option<Sample>
         ensures within { IfSome result (λ s. received s < slots_at self.old) }
         ensures rises { Rises (expected_at self.old) (numbers_of result) (expected_at self.new) }
@@ -252,6 +254,42 @@ impl<'a, X: Drop, K: Keeps<X>> Subscriber<'a, X, K> {
         }
         self.expected = number + 1;
         Some(Sample { number, slot })
+    }
+
+    /// What comes next, by at most so many tries (by no clause), between which another thread may run. None where no record
+    /// came; words of none may have come and be gone. The steps of `receive` for each try.
+    pub fn receive_within(&mut self, rt: &impl Wait, tries: u64) -> Option<Sample>
+        ensures within { IfSome result (λ s. received s < slots_at self.old) }
+        ensures oldest { IfSome result (λ s. TookOut s self.old self.new) }
+        ensures rises { Rises (expected_at self.old) (numbers_of result) (expected_at self.new) }
+        ensures had { (came : List ℕ) × HasHad came (numbers_of result) self.old self.new }
+        ensures same { (slots_at self.new ≡ slots_at self.old) × (layout_at self.new ≡ layout_at self.old) × (place_at self.new ≡ place_at self.old) }
+    {
+        for _ in 0..tries {
+            if let Some(sample) = self.receive(rt) {
+                return Some(sample);
+            }
+            thread::yield_now();
+        }
+        None
+    }
+
+    /// What comes next, as soon as it is there. Between two tries another thread may run. It waits for good where no record comes,
+    /// as where the publisher does not take it in (`update`). The steps of `receive` for each try.
+    pub fn receive_waiting(&mut self, rt: &impl Wait) -> Sample
+        ensures within { received result < slots_at self.old }
+        ensures oldest { TookOut result self.old self.new }
+        ensures rises { Rises (expected_at self.old) (number_of result ∷ []) (expected_at self.new) }
+        ensures had { (came : List ℕ) × HasHad came (number_of result ∷ []) self.old self.new }
+        ensures same { (slots_at self.new ≡ slots_at self.old) × (layout_at self.new ≡ layout_at self.old) × (place_at self.new ≡ place_at self.old) }
+    {
+        for _ in rt.forever() {
+            if let Some(sample) = self.receive(rt) {
+                return sample;
+            }
+            thread::yield_now();
+        }
+        unreachable!()
     }
 
     /// The number from which on it takes records. That is the one of the first record that was published after it got its seat,

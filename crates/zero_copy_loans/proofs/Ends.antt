@@ -64,6 +64,7 @@ module _ {X K : Type 0} {rule : Ghosts K X} where
   shape_kept old new q l =
       λ i. record { room = (l i).room; places = (l i).places; capacity = (q i).capacity }
 
+  -- a call that keeps what a sender has sent sends nothing
   pub sent_nothing : (old new : Sender X K rule) → KeepsSends old new → HasSent 0 [] old new
   sent_nothing old new h =
       record {
@@ -91,6 +92,7 @@ module _ {X K : Type 0} {rule : Ghosts K X} where
             (subst (λ w. PushAdded w (sends_view old) (sends_view new)) is p));
       }
 
+  -- a send to which the queue handed a word back sends one value, and gets one number back
   pub sent_back : (place word other at back : ℕ) (old new : Sender X K rule) → HasWord old place → slots_of old ≤ (layout_of old).room
       → at < (layout_of old).room → IsSame (sender_of old) (sender_of new) → layout_of new ≡ layout_of old → next_of new ≡ next_of old + 1
       → (0 < (sends_queue old).capacity → Goes (sends_view old) (sends_view new))
@@ -109,6 +111,7 @@ module _ {X K : Type 0} {rule : Ghosts K X} where
             (subst (λ w. PushHandedBack (sends_queue old).capacity w back (sends_view old) (sends_view new)) is p));
       }
 
+  -- sends one after another send both numbers of values, and get both lists back
   pub sent_then : (n m : ℕ) (xs ys : List ℕ) (s t u : Sender X K rule) → HasSent n xs s t → HasSent m ys t u → HasSent (n + m) (xs ++ ys) s u
   sent_then n m xs ys s t u h k =
       record {
@@ -140,6 +143,7 @@ module _ {X K : Type 0} {rule : Ghosts K X} where
       → HasSent 1 ys u w → HasSent (n + 1) zs s w
   sent_next n xs ys zs s t u w is h keeps k = subst (λ all. HasSent (n + 1) all s w) (sym is) (sends_next n xs ys s t u w h keeps k)
 
+  -- a sender that gives its role back after sends has sent what they sent
   pub sent_all : (n : ℕ) (xs : List ℕ) (s t : Sender X K rule) (p : SenderParts) → HasSent n xs s t → HasSentAll 0 [] t p → HasSentAll n xs s p
   sent_all n xs s t p h k =
       record {
@@ -164,6 +168,7 @@ module _ {X K : Type 0} {rule : Ghosts K X} where
         sent = subst (HasSentNumbers (sends_shape s) [] [] (sent_view p)) (sym is) (sent_none (sends_shape s) (sent_view p) w roles.Producer goes h);
       }
 
+  -- a sender that gives its role back sends nothing by that
   pub finishes : (s : Sender X K rule) (p : SenderParts) → IsOfSender s p → p.next ≡ next_of s
       → Goes (sends_view s) (sent_view p) → HasReleased roles.Producer (sends_view s) (sent_view p)
       → published (sent_view p).seen ≡ published (sends_view s).seen → HasSentAll 0 [] s p
@@ -180,6 +185,7 @@ module _ {X K : Type 0} {rule : Ghosts K X} where
       → places_in new ≡ places_in old → receives_shape new ≡ receives_shape old
   shape_stays old new q l p = λ i. record { room = (l i).room; places = p i; capacity = (q i).capacity }
 
+  -- a call that keeps what a receiver has received receives nothing
   pub received_nothing : (old new : Receiver X K rule) → KeepsReceives old new → HasReceived [] old new
   received_nothing old new h =
       record {
@@ -206,6 +212,7 @@ module _ {X K : Type 0} {rule : Ghosts K X} where
             (subst (λ w. HasPopped (Some (Index w)) (receives_view old) (receives_view new)) (sym is) p);
       }
 
+  -- a receive that answers None has received nothing
   pub received_none : (answer : Option Sample) (old new : Receiver X K rule) → answer ≡ None → IsSameReceiver old new
       → layout_in new ≡ layout_in old → places_in new ≡ places_in old
       → (0 < (receives_queue old).capacity → Goes (receives_view old) (receives_view new))
@@ -225,6 +232,7 @@ module _ {X K : Type 0} {rule : Ghosts K X} where
       none (inr (inr p)) some =
           receives_other (receives_shape old) (receives_view old) (receives_view new) p.0 p.1 (goes some) p.2.0
 
+  -- receives one after another receive both lists
   pub received_then : (xs ys : List ℕ) (s t u : Receiver X K rule) → HasReceived xs s t → HasReceived ys t u → HasReceived (xs ++ ys) s u
   received_then xs ys s t u h k =
       record {
@@ -245,6 +253,7 @@ module _ {X K : Type 0} {rule : Ghosts K X} where
       subst (λ ns. HasReceived ns s w) (append-nil (xs ++ ys))
       (received_then (xs ++ ys) [] s u w (received_then xs ys s t u h k) (received_nothing u w keeps))
 
+  -- a receiver that gives its role back after receives has received what they received
   pub received_all : (xs : List ℕ) (s t : Receiver X K rule) (p : ReceiverParts) → HasReceived xs s t → HasReceivedAll [] t p → HasReceivedAll xs s p
   received_all xs s t p h k =
       record {
@@ -266,6 +275,7 @@ module _ {X K : Type 0} {rule : Ghosts K X} where
         received = received_nothing r r (refl, (refl, refl), refl, refl);
       }
 
+  -- where one value more was received, and is told so, what is told is one more
   pub read_next : {A : Type 0} (tells : ℕ → A → Type 0) (told more : List A) (one : A) (number : ℕ) (s t u w : Receiver X K rule)
       → more ≡ told ++ one ∷ [] → tells number one → HasRead tells told s t → HasReceived (number ∷ []) t u → KeepsReceives u w
       → HasRead tells more s w
@@ -292,6 +302,7 @@ module _ {X K : Type 0} {rule : Ghosts K X} where
             (received_nothing_yet (receives_shape r) (received_view p) w roles.Consumer goes h);
       }
 
+  -- a receiver that gives its role back receives nothing by that
   pub ends : (r : Receiver X K rule) (p : ReceiverParts) → IsOfReceiver r p → Goes (receives_view r) (received_view p)
       → HasReleased roles.Consumer (receives_view r) (received_view p) → HasReceivedAll [] r p
   ends r p of goes h =
@@ -319,6 +330,7 @@ module _ {X K : Type 0} {rule : Ghosts K X} where
   -- before its ends were opened, `left` while they lived, and `last` with their passes taken in again.
   module _ (sent back received others came : List ℕ) (count : ℕ) (first left last : Channel X K rule) (sends sends' : SenderParts)
       (receives receives' : ReceiverParts) (s : Sender X K rule) (r : Receiver X K rule) where
+    -- what a channel knows in the end is what it knew before, and what both ends sent, got back and received
     pub relayed : HasPassedOn sent back received first → HasOpened first left sends receives → IsSameChannel first left
         → HasBegun sends s → HasWaited receives r → (sends_shape s ≡ shape_of left) × (receives_shape r ≡ shape_of left)
         → 0 < (submission_in first).capacity → length sent + count < 2 ^ 64 - 1

@@ -80,6 +80,7 @@ module _ (n : ℕ) (words words_back words_received all back came : List ℕ) (w
   was_counted : (length (published was.seen) ≡ sum_by puts was.made) × (length (handed_out was.seen) ≡ sum_by gets was.made)
   was_counted = whole_counted was known.whole known.all
 
+  -- what the whole has pushed is what was known before, and what the sender pushed
   puts_all : sum_by puts z.made ≡ length words + sum_by puts a.made
   puts_all =
       let d = r.done.puts_more in
@@ -103,6 +104,7 @@ module _ (n : ℕ) (words words_back words_received all back came : List ℕ) (w
       ∙ ap (λ xs. xs ++ flat_map publishes since.rest)
       (pushed.added.list ∙ ap (λ xs. (xs ++ pushed.added.others) ++ map Index all) (ap published left_seen ∙ known.list)))
 
+  -- so what was published is as long as all of that, and what came behind
   sizes : length (published z.seen) ≡ ((length words + length pushed.added.others) + length all) + length (flat_map publishes since.rest)
   sizes =
       let one = ap length parted in
@@ -119,6 +121,7 @@ module _ (n : ℕ) (words words_back words_received all back came : List ℕ) (w
   nothing_later : flat_map publishes since.rest ≡ []
   nothing_later = no_more _ (let size = sizes in let put = put_z in omega arith)
 
+  -- what was published is what was known before, and all that the sender pushed
   all_published : published z.seen ≡ map Index (words ++ all)
   all_published =
       parted
@@ -127,6 +130,7 @@ module _ (n : ℕ) (words words_back words_received all back came : List ℕ) (w
       ∙ (ap (λ xs. (map Index words ++ xs) ++ map Index all) no_others
       ∙ (ap (λ xs. xs ++ map Index all) (append-nil (map Index words)) ∙ sym (map-append Index words all)))))
 
+  -- what was taken out is as much as was received and came back
   gets_all : length (handed_out z.seen) ≡ length (words_received ++ came) + length (words_back ++ back)
   gets_all =
       let size = counted.1 in
@@ -141,6 +145,7 @@ module _ (n : ℕ) (words words_back words_received all back came : List ℕ) (w
       let y = length-append words_back back in
       omega arith
 
+  -- what came back stands, in order, in what pushes took out
   in_pushes : StandIn (map item (words_back ++ back)) (taken by_push z.seen)
   in_pushes =
       let start : taken by_push left.seen ≡ map Index words_back = ap (taken by_push) left_seen ∙ known.pushes in
@@ -150,6 +155,7 @@ module _ (n : ℕ) (words words_back words_received all back came : List ℕ) (w
       (grows by_push push_lasts (map item (words_back ++ back)) a.seen since.rest
       (subst (λ xs. StandIn xs (taken by_push a.seen)) (sym (map-append Index words_back back)) there))
 
+  -- what was received stands, in order, in what pops took out
   in_pops : StandIn (map item (words_received ++ came)) (taken by_pop z.seen)
   in_pops =
       let start : taken by_pop right.seen ≡ map Index words_received = ap (taken by_pop) right_seen ∙ known.pops in
@@ -159,6 +165,7 @@ module _ (n : ℕ) (words words_back words_received all back came : List ℕ) (w
       (grows by_pop pop_lasts (map item (words_received ++ came)) b.seen on.rest
       (subst (λ xs. StandIn xs (taken by_pop b.seen)) (sym (map-append Index words_received came)) there))
 
+  -- what came back is all that pushes took out
   all_pushes : map item (words_back ++ back) ≡ taken by_push z.seen
   all_pushes =
       same_list (map item (words_back ++ back)) (taken by_push z.seen) in_pushes
@@ -169,6 +176,7 @@ module _ (n : ℕ) (words words_back words_received all back came : List ℕ) (w
       let out = gets_all in
       omega arith)
 
+  -- what was received is all that pops took out
   all_pops : map item (words_received ++ came) ≡ taken by_pop z.seen
   all_pops =
       same_list (map item (words_received ++ came)) (taken by_pop z.seen) in_pops
@@ -195,6 +203,7 @@ module _ (n : ℕ) (words words_back words_received all back came : List ℕ) (w
   listed : map item (words ++ all) ≡ handed_out z.seen ++ waiting z.seen
   listed = sym all_published ∙ (over_sound one_word n z history).book z.seen [] (sym (append-nil z.seen))
 
+  -- no more was received and came back than was sent
   few_out : length (words_received ++ came) + length (words_back ++ back) ≤ length (words ++ all)
   few_out =
       let size = ap length listed ∙ length-append (handed_out z.seen) (waiting z.seen) in
@@ -205,6 +214,7 @@ module _ (n : ℕ) (words words_back words_received all back came : List ℕ) (w
   abbrev first_ones : List ℕ
   first_ones = take (length (words_received ++ came) + length (words_back ++ back)) (words ++ all)
 
+  -- what was taken out is a beginning of what was sent
   begins : handed_out z.seen ≡ map item first_ones
   begins =
       let size : length (handed_out z.seen) ≡ length (words_received ++ came) + length (words_back ++ back) = (let out = gets_all in omega arith) in
@@ -218,6 +228,7 @@ module _ (n : ℕ) (words words_back words_received all back came : List ℕ) (w
       numbers_merge (words_received ++ came) (words_back ++ back) first_ones
       (subst (λ zs. Merges (map item (words_received ++ came)) (map item (words_back ++ back)) zs) begins both)
 
+  -- all words have passed that were known before, or that both ends sent and received
   pub have_passed : HavePassed (words ++ all) (words_back ++ back) (words_received ++ came) z
   have_passed =
       record {

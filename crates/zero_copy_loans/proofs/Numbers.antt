@@ -20,6 +20,7 @@ use Rattle.zero_copy_loans.specs.Numbers.{Shape, numbers_in, HasPlace, HavePlace
 use Rattle.zero_copy_loans.specs.Words.{word_of}
 
 module _ (s : Shape) where
+  -- one word more in the list is one number more
   one_more : (number place : ℕ) (words numbers : List ℕ) → place < s.room → numbers_in s.room words ≡ numbers
       → numbers_in s.room (words ++ word_of s.room number place ∷ []) ≡ numbers ++ number ∷ []
   one_more number place words numbers within is =
@@ -33,6 +34,7 @@ module _ (s : Shape) where
   also : (words : List ℕ) (word : ℕ) → HavePlaces s words → word % s.room < s.places → HavePlaces s (words ++ word ∷ [])
   also words word all here = All-append (HasPlace s) words (word ∷ []) all (All-cons (HasPlace s) word [] here (All-nil (HasPlace s)))
 
+  -- a sender that has acquired its role has sent no number
   pub sent_none : (v w : View ℕ) (role : Role) → Goes v w → HasAcquired role true v w → HasSentNumbers s [] [] v w
   sent_none v w role goes h =
       record {
@@ -150,6 +152,7 @@ module _ (s : Shape) where
       subst (λ t. HasReceivedNumbers s (received ++ []) v t) (sym is)
       (subst (λ xs. HasReceivedNumbers s xs v w) (sym (append-nil received)) h)
 
+  -- a receiver that gives its role back receives nothing by that
   pub receives_all : (role : Role) (w u : View ℕ) → Goes w u → HasReleased role w u → ReceivesOn s [] w u
   receives_all role w u goes h v received k =
       record {

@@ -66,6 +66,7 @@ module _ (s : Shape) (capacity : ℕ) (sent back received numbers others came : 
   popped : HasReceivedNumbers s came other b
   popped = receives other [] waits
 
+  -- the pass has the whole share in the end
   whole : IsAll z.share
   whole =
       let first : a.share ≡ half_of old.share = pushed.pushed.share ∙ cut.right_share in
@@ -80,6 +81,7 @@ module _ (s : Shape) (capacity : ℕ) (sent back received numbers others came : 
   all_made : z.made ≡ (old.made ++ a.made) ++ b.made
   all_made = both.made ∙ (ap (λ es. es ++ b.made) taken_in.made ∙ ap (λ es. (es ++ a.made) ++ b.made) kept_made)
 
+  -- what it has pushed is what was pushed before and what both ends pushed
   puts_z : sum_by puts z.made ≡ sum_by puts old.made + (sum_by puts a.made + sum_by puts b.made)
   puts_z =
       let one = ap (sum_by puts) all_made in
@@ -87,6 +89,7 @@ module _ (s : Shape) (capacity : ℕ) (sent back received numbers others came : 
       let three = sum_by-append puts old.made a.made in
       omega arith
 
+  -- what it has taken out is what was taken out before and what both ends took
   gets_z : sum_by gets z.made ≡ sum_by gets old.made + (sum_by gets a.made + sum_by gets b.made)
   gets_z =
       let one = ap (sum_by gets) all_made in
@@ -109,6 +112,7 @@ module _ (s : Shape) (capacity : ℕ) (sent back received numbers others came : 
   places : HavePlaces s (known.words ++ pushed.words)
   places = All-append (HasPlace s) known.words pushed.words known.places pushed.places
 
+  -- all words have passed, and what holds of each word that was sent holds of each that was received
   joined : ((P : ℕ → Type 0) → All P (known.words ++ pushed.words) → All P popped.words)
       × HavePassed (known.words ++ pushed.words) (known.words_back ++ pushed.words_back) (known.words_received ++ popped.words) z
   joined = (
@@ -122,6 +126,7 @@ module _ (s : Shape) (capacity : ℕ) (sent back received numbers others came : 
         (ap (sum_by gets) again.right_made) pushed.pushed popped.taken since both.others puts_z gets_z whole all history,
   )
 
+  -- all numbers that were sent, came back and were received are known
   pub relays : HasAll s (sent ++ numbers) (back ++ others) (received ++ came) z
   relays =
       record {

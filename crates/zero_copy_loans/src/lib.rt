@@ -5,6 +5,7 @@
 #![tactic(auto)]
 
 pub mod channel;
+mod debug;
 pub mod error;
 pub mod pool;
 pub mod receiver;

@@ -11,7 +11,7 @@ use Rattle.zero_copy_slots.specs.declared.Laid.{Laid}
 use Rattle.zero_copy_slots.specs.declared.Reading.{Reading}
 use Rattle.zero_copy_slots.specs.declared.Slots.{Slots}
 use Rattle.zero_copy_slots.specs.declared.Writing.{Writing}
-use Rattle.zero_copy_slots.specs.Words.{lies_in, lies_with, seen_in, seen_word}
+use Rattle.zero_copy_slots.specs.Words.{placed_slot, placed_number, seen_in, seen_word}
 
 -- the number that a value lies there with
 abbrev pub number_of : {X K : Type 0} → Option (Option (Kept X K)) → ℕ
@@ -45,10 +45,10 @@ slot_of writing = writing.claim.tag
 
 -- the slot that a value was laid into, and the number that it was laid there with
 abbrev pub laid_slot : Laid → ℕ
-laid_slot laid = lies_in laid.lies
+laid_slot laid = placed_slot laid.lies
 
 abbrev pub laid_number : Laid → ℕ
-laid_number laid = lies_with laid.lies
+laid_number laid = placed_number laid.lies
 
 -- Why a slot is not read: there is none; or its word, which was seen there, says that no value lies there or that 2^30 - 1 read it;
 -- or it changed in each of 2^64 - 1 tries. No clause says that it was seen in these slots, and in this call.

@@ -12,11 +12,11 @@ abbrev pub seen_in : Seen → ℕ
 seen_in seen = seen.slot
 
 -- the slot that a value was laid into, and the number that it was laid there with
-abbrev pub lies_in : Lies → ℕ
-lies_in lies = lies.slot
+abbrev pub placed_slot : Lies → ℕ
+placed_slot lies = lies.slot
 
-abbrev pub lies_with : Lies → ℕ
-lies_with lies = lies.number
+abbrev pub placed_number : Lies → ℕ
+placed_number lies = lies.number
 
 -- the slot that was left empty, and the number that a value lay there with
 abbrev pub emptied_slot : Emptied → ℕ

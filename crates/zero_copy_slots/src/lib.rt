@@ -3,6 +3,7 @@
 //! the fact of the user's rule about both, which whoever laid them there has shown.
 #![tactic(auto)]
 
+mod debug;
 pub mod error;
 pub mod words;
 

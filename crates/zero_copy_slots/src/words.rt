@@ -3,7 +3,7 @@
 //! that was left empty. No clause says in whose slots, or when: an older one, or one of other slots, has the same type.
 ghost use Rattle.std.specs.Prelude.{◌≡◌, ◌≢◌, IfSome};
 ghost use Rattle.counted_slot.specs.Counting.{Gains, IsTurn};
-ghost use Rattle.zero_copy_slots.specs.Words.{emptied_number, emptied_slot, lies_in, lies_with, number_with, seen_in, seen_word};
+ghost use Rattle.zero_copy_slots.specs.Words.{emptied_number, emptied_slot, placed_slot, placed_number, number_with, seen_in, seen_word};
 
 use crate::{Keeps, Kept};
 use counted_slot::{Claim, Counted, FREE, PRESENT};
@@ -50,14 +50,14 @@ impl Seen {
 impl Lies {
     /// The slot. No atomic step.
     pub fn slot(&self) -> u32
-        ensures { result ≡ lies_in self.now }
+        ensures { result ≡ placed_slot self.now }
     {
         self.slot
     }
 
     /// The number. No atomic step.
     pub fn number(&self) -> u64
-        ensures { result ≡ lies_with self.now }
+        ensures { result ≡ placed_number self.now }
     {
         self.number
     }
@@ -123,8 +123,8 @@ pub(crate) fn lay<'a, X, K: Keeps<X>>(
     requires right { claim.right ≡ 2 }
     requires slot { claim.tag ≡ slot }
     requires fits { K.holds number value }
-    ensures slot { lies_in result.0 ≡ slot }
-    ensures number { lies_with result.0 ≡ number }
+    ensures slot { placed_slot result.0 ≡ slot }
+    ensures number { placed_number result.0 ≡ number }
     ensures fits { IfSome result.1 (λ k. K.holds k.number k.value) }
 {
     let kept = Kept {

@@ -1,3 +1,4 @@
+-- `fill` (src/main.rt): its return meets what it ensures.
 use Rattle.std.proofs.Common.{ap, sym, ◌∙◌, replicate}
 use Rattle.uses_news.proofs.fill.Goals as goal
 

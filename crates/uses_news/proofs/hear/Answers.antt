@@ -1,3 +1,4 @@
+-- `hear` (src/main.rt): its call of `rejoin` meets what that requires, and its return meets what it ensures.
 use Rattle.std.proofs.Common.{◌≡◌, ◌≢◌, ◌≤◌, sym, ◌∙◌, arith}
 use Rattle.zero_copy_bus.specs.Ends.{next_of, place_at, place_left}
 use Rattle.uses_news.specs.Marks.{AreNewsBy}

@@ -1,3 +1,5 @@
+-- `publish_all` (src/main.rt): the invariant of its loop holds at the start and after each iteration, and its return meets the clauses
+-- `out` and `few`.
 use Rattle.std.proofs.Common.{refl}
 use Rattle.zero_copy_bus.proofs.Published.{published_none, published_then}
 use Rattle.uses_news.proofs.publish_all.Goals as goal

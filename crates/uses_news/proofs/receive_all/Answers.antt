@@ -1,3 +1,5 @@
+-- `receive_all` (src/main.rt): the invariant of its loop holds at the start and after each iteration, and its return meets what it
+-- ensures.
 use Rattle.std.proofs.Common.{[], refl, subst, sym}
 use Rattle.zero_copy_bus.proofs.Received.{had_still}
 use Rattle.uses_news.specs.Marks.{HasRead}

@@ -1,3 +1,4 @@
+-- `receive_one` (src/main.rt): its return meets what it ensures.
 use Rattle.zero_copy_bus.specs.Ends.{number_of}
 use Rattle.zero_copy_bus.proofs.Received.{had_still}
 use Rattle.uses_news.proofs.Steps.{reads_none, reads_one}

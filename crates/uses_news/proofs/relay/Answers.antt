@@ -1,3 +1,4 @@
+-- `relay` (src/main.rt): its return meets the clauses `one` and `other`.
 use Rattle.uses_news.proofs.relay.Goals as goal
 
 pub returns-clause-one : goal.returns-clause-one

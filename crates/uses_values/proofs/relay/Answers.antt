@@ -1,3 +1,4 @@
+-- `relay` (src/main.rt): its call of `relayed` meets the requirements `sends` and `receives`, and its return meets what it ensures.
 use Rattle.std.proofs.Common.{arith}
 use Rattle.zero_copy_loans.proofs.Ends.{all_relayed, read_all, sent_all}
 use Rattle.uses_values.specs.Marks.{mark}

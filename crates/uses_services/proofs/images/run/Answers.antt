@@ -1,3 +1,4 @@
+-- `run` (src/images.rt): its call of `relayed` meets the requirements `sends` and `receives`, and its return meets what it ensures.
 use Rattle.std.proofs.Common.{arith, sym, ◌∙◌}
 use Rattle.std.proofs.lemmas.List.{nil_from_length}
 use Rattle.zero_copy_loans.proofs.Ends.{all_relayed, read_all, sent_all}

@@ -1,3 +1,4 @@
+-- `read` of `Marks` (src/main.rt): its return meets what it ensures of a block that has the mark of a number (`IsBlockOf`).
 use Rattle.std.proofs.Common.{refl}
 use Rattle.uses_values.specs.Marks.{IsBlockOf}
 use Rattle.uses_values.proofs.MarksReadsVecU64MarkedU64.read.Goals as goal

@@ -1,3 +1,4 @@
+-- `write` of `Marks` (src/main.rt): its return meets what it ensures: where it is true, the block has the mark of the number (`IsBlockOf`).
 use Rattle.std.proofs.Common.{◌+◌, ◌*◌, ap, sym, ◌∙◌, replicate}
 use Rattle.uses_values.specs.Marks.{IsBlockOf}
 use Rattle.uses_values.proofs.MarksWritesVecU64Marked.write.Goals as goal

@@ -1,3 +1,4 @@
+-- `make_outlets` (src/bus.rt): each iteration keeps the invariant of its loop.
 use Rattle.std.proofs.Common.{◌≡◌, ◌+◌, [], ◌∷◌, ◌++◌, Ok, Err, length, if◌then◌else◌, true, false, true≢false, arith, refl, sym, subst, ◌∙◌, ap, vec_len}
 use Rattle.std.specs.Prelude.{Result}
 use Rattle.std.specs.Result.{is_err, is_ok}

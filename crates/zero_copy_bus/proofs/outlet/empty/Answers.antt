@@ -1,3 +1,5 @@
+-- `empty` (src/outlet.rt): the invariant of its loop holds at the start and after each iteration, and its return meets the clauses
+-- `empty` and `taken`.
 use Rattle.std.proofs.Common.{◌<◌, ◌++◌, [], ◌∷◌, refl, ap, subst, sym, ◌∙◌}
 use Rattle.history.proofs.Known.{begins_further, itself}
 use Rattle.lock_free_queues.specs.Queues.Overflowing.{QueueId, consumer_queue, consumer_view}

@@ -1,3 +1,4 @@
+-- `slot_back` (src/outlet.rt): its return meets what it ensures.
 use Rattle.std.proofs.Common.{Some, ap, sym, ◌∙◌}
 use Rattle.zero_copy_bus.specs.Words.{slot_back}
 use Rattle.zero_copy_bus.proofs.Words.{slot_in_word}

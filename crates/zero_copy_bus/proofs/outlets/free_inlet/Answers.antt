@@ -1,3 +1,5 @@
+-- `free_inlet` (src/outlets.rt): each iteration keeps the invariant of its loop, and its return meets the clauses `holders`, `taking`,
+-- `leased`, `others` and `none`.
 use Rattle.std.proofs.Common.{arith, rules, ◌∙◌}
 use Rattle.lock_free_queues.specs.Queues.Rings.{consumer_queue, consumer_view}
 use Rattle.zero_copy_bus.specs.Outlets.{holder_of, is_open, StaysOrLost, WasLetOf}

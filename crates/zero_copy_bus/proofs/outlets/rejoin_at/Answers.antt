@@ -1,3 +1,4 @@
+-- `rejoin_at` (src/outlets.rt): its return meets the clauses `holders`, `closed`, `taken_in` and `others`.
 use Rattle.std.specs.Prelude.{false}
 use Rattle.lock_free_queues.specs.Queues.Rings.{view}
 use Rattle.zero_copy_bus.specs.Outlets.{holder_of, is_open, WasRejoined}

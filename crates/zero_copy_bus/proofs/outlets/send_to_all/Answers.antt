@@ -1,3 +1,4 @@
+-- `send_to_all` (src/outlets.rt): each iteration keeps the invariant of its loop, and its return meets the clause `served`.
 use Rattle.std.proofs.Common.{◌≡◌, ℕ, ◌+◌, Some, take, cond, rules, arith, sym, subst, ◌∙◌}
 use Rattle.std.specs.List.{count_by}
 use Rattle.std.specs.Prelude.{slice_get}

@@ -1,3 +1,5 @@
+-- `settle_all` (src/outlets.rt): its call of `settle_by` meets what that requires, each iteration keeps the invariant of its loop, and
+-- its return meets the clause `settled`.
 use Rattle.std.proofs.Common.{◌≡◌, ◌+◌, Some, rules, arith, sym, ap, subst, ◌∙◌}
 use Rattle.std.specs.Prelude.{slice_get}
 use Rattle.zero_copy_bus.specs.Holders.{bit_of}

@@ -1,3 +1,4 @@
+-- `take_all_back` (src/outlets.rt): each iteration keeps the invariant of its loop, and its return meets the clause `taken`.
 use Rattle.std.proofs.Common.{◌≡◌, ◌+◌, Some, rules, arith, sym, subst, ◌∙◌}
 use Rattle.std.specs.Prelude.{slice_get}
 use Rattle.zero_copy_bus.specs.Holders.{bit_of}

@@ -1,3 +1,4 @@
+-- `Slots::new` (src/lib.rt): each iteration keeps the invariant of its loop.
 use Rattle.std.proofs.Common.{◌∷◌, ◌++◌, ◌∙◌, [], ap, arith}
 use Rattle.zero_copy_slots.proofs.Ranges.{range_more}
 use Rattle.zero_copy_slots.proofs.Slots.new.Goals as goal

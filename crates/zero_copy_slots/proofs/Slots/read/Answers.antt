@@ -1,3 +1,4 @@
+-- `Slots::read` (src/lib.rt): its loop begins with its invariant, and its return meets the clause `refused`.
 use Rattle.zero_copy_slots.proofs.Ranges.{is_slot, is_past}
 use Rattle.zero_copy_slots.proofs.Slots.read.Goals as goal
 

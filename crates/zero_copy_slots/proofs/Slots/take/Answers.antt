@@ -1,3 +1,5 @@
+-- `Slots::take` (src/lib.rt): its call of `turn` meets the requirement `slot`, its call of `look` meets what that requires, its result
+-- meets the invariant `at`, and its return meets the clauses `refused` and `slot`.
 use Rattle.std.proofs.Common.{◌∙◌, sym}
 use Rattle.zero_copy_slots.proofs.Ranges.{is_slot, is_past}
 use Rattle.zero_copy_slots.proofs.Slots.take.Goals as goal

@@ -1,3 +1,4 @@
+-- `write` of `Painter` (src/images.rt): its return meets what it ensures: where it is true, the image has the shade of the number (`IsImageOf`).
 use Rattle.std.proofs.Common.{ap, sym, ◌∙◌, replicate}
 use Rattle.uses_services.specs.Images.{shade, IsImageOf}
 use Rattle.uses_services.proofs.images.PainterWritesVecU8Shaded.write.Goals as goal

@@ -1,3 +1,4 @@
+-- `Bus::publisher` (src/bus.rt): its return meets the clause `fresh`.
 use Rattle.std.proofs.Common.{sym, subst}
 use Rattle.zero_copy_bus.specs.Outlets.{AllNew}
 use Rattle.zero_copy_bus.proofs.bus.Bus.publisher.Goals as goal

@@ -1,3 +1,4 @@
+-- `Holders::without` (src/holders.rt): its return meets the clauses `lacks` and `others`.
 use Rattle.std.proofs.Common.{arith}
 use Rattle.std.proofs.lemmas.Nat.Bits.{bit_at_clear_same, bit_at_clear_other}
 use Rattle.std.specs.Int.{w64}

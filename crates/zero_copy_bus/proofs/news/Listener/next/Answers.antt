@@ -1,3 +1,4 @@
+-- `Listener::next` (src/news.rt): its return meets the clauses `topic`, `cleared` and `none`.
 use Rattle.std.proofs.Common.{◌≡◌, ◌<◌, ℕ, Option, Some, None, IfSome, IfNone}
 use Rattle.history.specs.declared.view.View.{View}
 use Rattle.lock_free_sets.specs.Bits.Contracts.{AllClearOnce, HasReset, ResetDone, ResetNothing}

@@ -1,3 +1,4 @@
+-- `Outlet::drain` (src/outlet.rt): its return meets the clauses `drained` and `popped`.
 use Rattle.std.proofs.Common.{◌∙◌, ap, inl, inr}
 use Rattle.zero_copy_bus.specs.Outlets.{takes_view, waits_queue, waits_view}
 use Rattle.zero_copy_bus.proofs.Drained.{drained_still}

@@ -1,3 +1,4 @@
+-- `Outlet::empty_returned` (src/outlet.rt): its return meets the clause `empty`.
 use Rattle.zero_copy_bus.proofs.ViewLemmas.{empty_found, found_since}
 use Rattle.zero_copy_bus.proofs.outlet.Outlet.empty_returned.Goals as goal
 

@@ -1,3 +1,4 @@
+-- `Outlet::empty_submitted` (src/outlet.rt): its return meets the clauses `drained` and `empty`.
 use Rattle.std.proofs.Common.{◌<◌, ◌∙◌, sym, subst}
 use Rattle.history.specs.History.{IsBeginning}
 use Rattle.history.proofs.Known.{begins_further}

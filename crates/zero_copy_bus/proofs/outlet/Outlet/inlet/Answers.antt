@@ -1,3 +1,4 @@
+-- `Outlet::inlet` (src/outlet.rt): its return meets the clause `leased`.
 use Rattle.std.proofs.Common.{refl, ap, ◌∙◌}
 use Rattle.lock_free_queues.specs.Queues.Rings.{view}
 use Rattle.zero_copy_bus.specs.Outlets.{waits_view}

@@ -1,3 +1,4 @@
+-- `Outlet::send` (src/outlet.rt): its return meets the clauses `served` and `loans`.
 use Rattle.std.proofs.Common.{arith, rules, subst}
 use Rattle.std.proofs.lemmas.Grind.{common_steps}
 use Rattle.zero_copy_bus.specs.Books.{Exchanges, KeepsOthers}

@@ -1,3 +1,4 @@
+-- `Outlet::settle` (src/outlet.rt): its return meets the clauses `free`, `all`, `loans` and `popped`.
 use Rattle.std.proofs.Common.{refl, inl, inr, ⊎_elim}
 use Rattle.zero_copy_bus.proofs.BookLemmas.{all_or_none, keeps_loans}
 use Rattle.zero_copy_bus.proofs.Drained.{drained_still}

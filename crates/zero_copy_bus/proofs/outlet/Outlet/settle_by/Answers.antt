@@ -1,3 +1,4 @@
+-- `Outlet::settle_by` (src/outlet.rt): its return meets the clause `settled`.
 use Rattle.std.proofs.Common.{◌≡◌, ◌↔◌, ◌&&◌, ◌⊎◌, inr, Bool, true, false, true≢false, IsTrue, List, sym, ap, subst, ◌∙◌, ⊎_elim}
 use Rattle.std.proofs.lemmas.Bool.{and_parts}
 use Rattle.std.specs.Int.{bit_at}

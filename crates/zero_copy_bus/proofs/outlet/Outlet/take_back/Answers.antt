@@ -1,3 +1,5 @@
+-- `Outlet::take_back` (src/outlet.rt): each iteration keeps the invariant of its loop, and its return meets the clauses `taken` and
+-- `loans`.
 use Rattle.std.proofs.Common.{arith}
 use Rattle.lock_free_queues.specs.Queues.Rings.{consumer_view}
 use Rattle.zero_copy_bus.specs.Outlets.{takes_view}

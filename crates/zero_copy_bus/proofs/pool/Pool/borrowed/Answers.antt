@@ -1,3 +1,4 @@
+-- `Pool::borrowed` (src/pool.rt): its return meets the clauses `least` and `whole`.
 use Rattle.std.proofs.Common.{◌≤◌, sym, subst}
 use Rattle.threaded.specs.Shares.{IsAll}
 use Rattle.zero_copy_bus.proofs.BookLemmas.{all_are_held, as_many, held_from, holds_all, is_counted}

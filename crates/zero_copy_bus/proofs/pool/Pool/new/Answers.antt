@@ -1,3 +1,4 @@
+-- `Pool::new` (src/pool.rt): its result meets the invariant of its type.
 use Rattle.std.proofs.Common.{◌≡◌, replicate, rules, sym, subst}
 use Rattle.lock_free_sets.specs.UniqueIndexSet.{view}
 use Rattle.zero_copy_bus.specs.Books.{IsBookOf}

@@ -1,3 +1,4 @@
+-- `Pool::take` (src/pool.rt): `self` meets the invariant of its type, and its return meets the clause `changes`.
 use Rattle.std.proofs.Common.{◌<◌, ◌≡◌, length, rules, sym, subst, ◌∙◌, length-set}
 use Rattle.zero_copy_bus.proofs.BookLemmas.{free_is, is_taken, set_changes, was_free}
 use Rattle.zero_copy_bus.specs.Holders.{SameBut}

@@ -1,3 +1,5 @@
+-- `Publisher::publish` (src/publisher.rt): `self` meets the invariant of its type, and its return meets the clauses `served`, `number`
+-- and `rest`.
 use Rattle.std.proofs.Common.{◌≡◌, sym, subst, ◌∙◌}
 use Rattle.zero_copy_bus.specs.Books.{ChangesAt}
 use Rattle.zero_copy_bus.specs.Ends.{next_of, room_of}

@@ -1,3 +1,5 @@
+-- `Publisher::rejoin` (src/publisher.rt): its call of `rejoin_at` meets what that requires, `self` meets the invariant of its type, and
+-- its return meets the clauses `taken_in` and `others`.
 use Rattle.std.proofs.Common.{◌≡◌, ℕ, sym, ap, subst, ◌∙◌}
 use Rattle.std.specs.Prelude.{slice_get, Some}
 use Rattle.history.specs.declared.view.View.{View}

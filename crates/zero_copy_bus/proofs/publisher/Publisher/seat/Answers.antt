@@ -1,3 +1,4 @@
+-- `Publisher::seat` (src/publisher.rt): its return meets the clauses `none`, `leased` and `others`.
 use Rattle.std.proofs.Common.{sym, subst}
 use Rattle.zero_copy_bus.specs.Ends.{lanes_of}
 use Rattle.zero_copy_bus.specs.Outlets.{EachOther, StaysOrLost}

@@ -1,3 +1,5 @@
+-- `Publisher::subscribe` (src/publisher.rt): its return meets the clauses `all`, `loans`, `looked`, `part`, `leased`, `others`,
+-- `refused` and `settled`.
 use Rattle.std.proofs.Common.{◌≡◌, true≢false, sym, subst, ◌∙◌}
 use Rattle.std.specs.Prelude.{slice_get, Some, true}
 use Rattle.zero_copy_bus.specs.Books.{KeepsAllOrNone, KeepsLoans}

@@ -1,3 +1,4 @@
+-- `Publisher::update` (src/publisher.rt): `self` meets the invariant of its type.
 use Rattle.std.proofs.Common.{sym, subst, ◌∙◌}
 use Rattle.zero_copy_bus.specs.Outlets.{HaveTheirPlaces}
 use Rattle.zero_copy_bus.specs.Pools.{table_of}

@@ -1,3 +1,4 @@
+-- `Roll::recover` (src/roll.rt): its return meets the clause `taken`.
 use Rattle.std.proofs.Common.{rules}
 use Rattle.zero_copy_bus.proofs.RollLemmas.{told_yes}
 use Rattle.zero_copy_bus.proofs.roll.Roll.recover.Goals as goal

@@ -1,3 +1,4 @@
+-- `Subscriber::leave` (src/subscriber.rt): its return meets the clause `kept`.
 use Rattle.zero_copy_bus.proofs.subscriber.Subscriber.leave.Goals as goal
 
 pub returns-in-Err-clause-kept : goal.returns-in-Err-clause-kept

@@ -1,3 +1,4 @@
+-- `Subscriber::receive` (src/subscriber.rt): its return meets the clauses `none` and `had`.
 use Rattle.std.proofs.Common.{◌<◌, ◌∙◌, [], ◌∷◌, refl, subst, inl, inr, arith}
 use Rattle.zero_copy_bus.proofs.Received.{had_none, had_older, had_one, had_other}
 use Rattle.zero_copy_bus.proofs.Words.{number_in_word, slot_in_word}

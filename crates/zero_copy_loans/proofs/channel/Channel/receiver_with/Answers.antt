@@ -1,3 +1,4 @@
+-- `Channel::receiver_with` (src/channel.rt): its return meets the clause `waits`.
 use Rattle.std.proofs.Common.{rules}
 use Rattle.lock_free_queues.specs.Queues.Overflowing.{consumer_view}
 use Rattle.zero_copy_loans.proofs.Ends.{waits}

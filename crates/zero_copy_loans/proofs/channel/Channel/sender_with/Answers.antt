@@ -1,3 +1,4 @@
+-- `Channel::sender_with` (src/channel.rt): its return meets the clause `begun`.
 use Rattle.std.proofs.Common.{rules}
 use Rattle.lock_free_queues.specs.Queues.Overflowing.{producer_view}
 use Rattle.zero_copy_loans.proofs.Ends.{begins}

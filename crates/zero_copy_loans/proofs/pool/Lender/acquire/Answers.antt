@@ -1,3 +1,4 @@
+-- `Lender::acquire` (src/pool.rt): its return meets the clauses `kept` and `refused`.
 use Rattle.std.proofs.Common.{rules, ◌∙◌}
 use Rattle.lock_free_sets.specs.UniqueIndexSet.{value_of}
 use Rattle.zero_copy_loans.proofs.Shares.{joined_again}

@@ -1,3 +1,4 @@
+-- `Receiver::finish` (src/receiver.rt): its return meets the clause `receives`.
 use Rattle.std.proofs.Common.{rules}
 use Rattle.zero_copy_loans.proofs.Ends.{ends}
 use Rattle.zero_copy_loans.proofs.receiver.Receiver.finish.Goals as goal

@@ -1,3 +1,4 @@
+-- `Receiver::receive` (src/receiver.rt): its return meets the clauses `receives` and `none`.
 use Rattle.std.proofs.Common.{rules, refl, inr, ◌∙◌}
 use Rattle.zero_copy_loans.proofs.Ends.{received_none, received_one}
 use Rattle.zero_copy_loans.proofs.Places.{past}

@@ -1,3 +1,5 @@
+-- `Receiver::receive_waiting` (src/receiver.rt): the invariant of its loop holds at the start and after each iteration, and its return
+-- meets the clause `receives`.
 use Rattle.std.proofs.Common.{refl, [], ◌∷◌}
 use Rattle.zero_copy_loans.specs.Ends.{number_of}
 use Rattle.zero_copy_loans.proofs.Ends.{received_nothing, received_then}

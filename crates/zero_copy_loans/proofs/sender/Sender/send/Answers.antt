@@ -1,3 +1,4 @@
+-- `Sender::send` (src/sender.rt): its return meets the clauses `back`, `sends` and `handed_back`.
 use Rattle.std.proofs.Common.{rules, inl, refl, sym, subst, ◌∙◌}
 use Rattle.lock_free_queues.specs.Queues.Overflowing.{PushHandedBack}
 use Rattle.zero_copy_loans.specs.Ends.{sends_queue, sends_view}

@@ -1,3 +1,5 @@
+-- `Sender::send_each` (src/sender.rt): the invariant of its loop holds at the start and after each iteration, and its return meets what
+-- it ensures.
 use Rattle.std.proofs.Common.{◌≡◌, ◌∙◌, subst, arith}
 use Rattle.zero_copy_loans.specs.Ends.{HasSent}
 use Rattle.zero_copy_loans.proofs.Ends.{none_sent, sent_next}

@@ -1,3 +1,4 @@
+-- `Layout::new` (src/words.rt): each iteration keeps the invariant of its loop, and its result meets the invariant of its type.
 use Rattle.std.proofs.Common.{◌≡◌, ◌<◌, ◌≤◌, ◌*◌, ◌^◌, ap, sym, ◌∙◌, arith}
 use Rattle.std.proofs.lemmas.Nat.{pow-add}
 use Rattle.std.proofs.Math.Nat.{pow-le-pow_right}

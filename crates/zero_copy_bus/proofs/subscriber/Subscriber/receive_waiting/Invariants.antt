@@ -1,0 +1,5 @@
+use Rattle.zero_copy_bus.proofs.Tries.{HasWaited}
+use Rattle.zero_copy_bus.proofs.subscriber.Subscriber.receive_waiting.Given as given
+
+abbrev pub invariant-loop : given.invariant-loop
+invariant-loop g l = HasWaited l.fn.self l.self
