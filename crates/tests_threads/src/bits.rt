@@ -1,159 +1,84 @@
-//! Bit sets and counting bit sets: what two set, a third takes out or it is left, at each place.
-use crate::tasks::{Task, three_run};
+//! Bit sets and counting bit sets: what two set, a third takes out or it is left, at each place; and what is set is seen.
+use crate::rests::Rests;
+use crate::tasks::{Beside, Turn, Turns, User, run_three};
 use lock_free::mpmc::bit_set::BitSet;
 use lock_free::mpmc::counting_bit_set::CountingBitSet;
 use lock_free::mpmc::{bit_set, counting_bit_set};
 use std::alloc::{AllocError, Global};
 use std::sync::Wait;
+use std::sync::atomic::{AtomicU64, Ordering};
 use std::test::Fail;
-use std::thread;
 use std::thread::Threads;
-use std::time::Clock;
 
-/// How often each place is set, and how often places are taken out.
-const ROUNDS: u64 = 200;
+/// How often places are taken out.
+const ROUNDS: u64 = 100;
 
-/// A number for each place.
+/// For each place how much was set there that has not been taken out.
 #[derive(Drop)]
-struct Sums {
-    of: Vec<u64>,
+struct Tally {
+    of: Vec<AtomicU64>,
 }
 
-impl Sums {
-    fn new(alloc: Global, places: usize) -> Result<Sums, AllocError> {
+impl Tally {
+    fn new(alloc: Global, places: usize) -> Result<Tally, AllocError> {
         let mut of = Vec::with_capacity(alloc, places)?;
         for _ in 0..places {
-            of.push(0)?;
+            of.push(AtomicU64::new(0))?;
         }
-        Ok(Sums { of })
+        Ok(Tally { of })
     }
 
-    fn add(&mut self, place: usize, number: u64) {
-        if let Some(sum) = self.of.get_mut(place) {
-            *sum = sum.wrapping_add(number);
+    fn add(&self, place: usize, number: u64) {
+        if let Some(sum) = self.of.get(place) {
+            sum.fetch_add(number, Ordering::SeqCst);
         }
     }
 
-    fn at(&self, place: usize) -> u64 {
-        match self.of.get(place) {
-            Some(sum) => *sum,
-            None => 0,
+    fn take(&self, place: usize, number: u64) {
+        if let Some(sum) = self.of.get(place) {
+            sum.fetch_sub(number, Ordering::SeqCst);
         }
+    }
+
+    /// Whether as much was taken out as was set, at each place.
+    fn is_even(&self) -> bool {
+        let mut well = true;
+        for sum in self.of.iter() {
+            well &= sum.load(Ordering::SeqCst) == 0;
+        }
+        well
     }
 }
 
-/// What two threads set and a third took out.
-#[derive(Drop)]
-struct Three {
-    one: Sums,
-    two: Sums,
-    out: Sums,
-}
-
-impl Three {
-    fn new(alloc: Global, places: usize) -> Result<Three, AllocError> {
-        Ok(Three {
-            one: Sums::new(alloc, places)?,
-            two: Sums::new(alloc, places)?,
-            out: Sums::new(alloc, places)?,
-        })
-    }
-
-    /// The first place, if any, that nobody set, or that was set otherwise than taken out.
-    fn differs(&self) -> Option<usize> {
-        for place in 0..self.out.of.len() {
-            let set = self.one.at(place).wrapping_add(self.two.at(place));
-            if set == 0 || set != self.out.at(place) {
-                return Some(place);
-            }
-        }
-        None
-    }
-}
-
-/// One who sets places and takes them out.
+/// One who sets places, looks at them and takes them out.
 trait Places: Drop + Sized {
-    /// Another one.
+    /// Another one. None where there is no further handle.
     fn another(&mut self) -> Option<Self>;
 
     /// How many places there are.
     fn number(&self) -> usize;
 
-    /// Sets a place below that number: where it was this one who did, it adds it there.
-    fn sets(&mut self, rt: &impl Wait, place: usize, sums: &mut Sums);
+    /// Sets a place: how much it added there.
+    fn set(&mut self, rt: &impl Wait, place: usize) -> u64;
 
-    /// Adds all that stand, and takes them out.
-    fn empties(&mut self, sums: &mut Sums);
+    /// How much stands at a place.
+    fn look(&mut self, place: usize) -> u64;
 
-    /// A round of what takes places out.
-    fn takes(&mut self, rt: &impl Wait, sums: &mut Sums);
+    /// Takes all that stands out, and rests inside the call, at the first place, where there are rests: whether there was
+    /// something.
+    fn reset(&mut self, tally: &Tally, rests: Option<&Rests>) -> Turn;
+
+    /// Takes out what stands at one place, where it can.
+    fn reset_one(&mut self, rt: &impl Wait, tally: &Tally);
 }
 
-/// Sets each place, round for round.
-#[derive(Drop)]
-struct Sets<'s, P: Places> {
-    user: P,
-    sums: &'s mut Sums,
-}
-
-impl<'s, P: Places> Task for Sets<'s, P> {
-    fn run(self, rt: &(impl Wait + Clock)) -> bool {
-        let Sets { mut user, sums } = self;
-        let places = user.number();
-        for round in 0..ROUNDS {
-            for place in 0..places {
-                user.sets(rt, place, sums);
-            }
-            if round % 4 == 0 {
-                thread::yield_now();
-            }
-        }
-        true
+/// What a reset brought that has come to a place after so many, and rests at the first one, where it rests at all.
+fn come_to_place(rests: Option<&Rests>, before: Turn) -> Turn {
+    match (before, rests) {
+        (Turn::Nothing, Some(rests)) => Turn::of(rests.rest()),
+        (Turn::Nothing, None) => Turn::Right,
+        _ => before,
     }
-}
-
-/// Takes places out, round for round.
-#[derive(Drop)]
-struct Takes<'s, P: Places> {
-    user: P,
-    sums: &'s mut Sums,
-}
-
-impl<'s, P: Places> Task for Takes<'s, P> {
-    fn run(self, rt: &(impl Wait + Clock)) -> bool {
-        let Takes { mut user, sums } = self;
-        for round in 0..ROUNDS {
-            user.takes(rt, sums);
-            if round % 4 == 0 {
-                thread::yield_now();
-            }
-        }
-        true
-    }
-}
-
-/// Two set while a third takes places out, and what is left is taken out too. None where there are no further passes.
-fn between<R: Threads + Wait + Clock + Sync, P: Places + Send>(
-    rt: &R,
-    mut user: P,
-    sums: &mut Three,
-) -> Option<bool> {
-    let (first, second, third) = (user.another()?, user.another()?, user.another()?);
-    let one = Sets {
-        user: first,
-        sums: &mut sums.one,
-    };
-    let two = Sets {
-        user: second,
-        sums: &mut sums.two,
-    };
-    let out = Takes {
-        user: third,
-        sums: &mut sums.out,
-    };
-    let went = three_run(rt, one, two, out);
-    user.empties(&mut sums.out);
-    Some(went)
 }
 
 impl<'a> Places for bit_set::Handle<'a> {
@@ -165,23 +90,34 @@ impl<'a> Places for bit_set::Handle<'a> {
         self.capacity()
     }
 
-    fn sets(&mut self, rt: &impl Wait, place: usize, sums: &mut Sums) {
+    fn set(&mut self, rt: &impl Wait, place: usize) -> u64 {
         if place < self.capacity() && self.set(rt, place) {
-            sums.add(place, 1);
+            1
+        } else {
+            0
         }
     }
 
-    fn empties(&mut self, sums: &mut Sums) {
-        self.reset_all(&mut |place| sums.add(place, 1));
+    fn look(&mut self, place: usize) -> u64 {
+        if place < self.capacity() && self.is_set(place) {
+            1
+        } else {
+            0
+        }
     }
 
-    /// Resets places in both ways.
-    fn takes(&mut self, rt: &impl Wait, sums: &mut Sums) {
-        self.empties(sums);
-        for _ in 0..40 {
-            if let Some(place) = self.reset_next(rt) {
-                sums.add(place, 1);
-            }
+    fn reset(&mut self, tally: &Tally, rests: Option<&Rests>) -> Turn {
+        let mut turn = Turn::Nothing;
+        self.reset_all(&mut |place| {
+            tally.take(place, 1);
+            turn = come_to_place(rests, turn);
+        });
+        turn
+    }
+
+    fn reset_one(&mut self, rt: &impl Wait, tally: &Tally) {
+        if let Some(place) = self.reset_next(rt) {
+            tally.take(place, 1);
         }
     }
 }
@@ -196,163 +132,193 @@ impl<'a> Places for counting_bit_set::Handle<'a> {
     }
 
     /// Each counts.
-    fn sets(&mut self, _rt: &impl Wait, place: usize, sums: &mut Sums) {
+    fn set(&mut self, _rt: &impl Wait, place: usize) -> u64 {
         if place < self.capacity() {
             self.set(place);
-            sums.add(place, 1);
+            1
+        } else {
+            0
         }
     }
 
-    fn empties(&mut self, sums: &mut Sums) {
-        self.reset_all(&mut |state| sums.add(state.bit(), state.count()));
+    fn look(&mut self, place: usize) -> u64 {
+        if place < self.capacity() {
+            self.count(place)
+        } else {
+            0
+        }
     }
 
-    fn takes(&mut self, _rt: &impl Wait, sums: &mut Sums) {
-        self.empties(sums);
+    fn reset(&mut self, tally: &Tally, rests: Option<&Rests>) -> Turn {
+        let mut turn = Turn::Nothing;
+        self.reset_all(&mut |state| {
+            tally.take(state.bit(), state.count());
+            turn = come_to_place(rests, turn);
+        });
+        turn
     }
+
+    fn reset_one(&mut self, _rt: &impl Wait, _tally: &Tally) {}
 }
 
-/// Whether at each place of a bit set of this capacity what was set was taken out.
-fn bits_agree<R: Threads + Wait + Clock + Sync>(
-    rt: &R,
-    alloc: Global,
-    capacity: usize,
-) -> Result<bool, Fail> {
-    let mut sums = Three::new(alloc, capacity)?;
-    let (set, pass) = BitSet::new(alloc, capacity)?;
-    let went = between(rt, set.handle(pass), &mut sums);
-    Ok(went == Some(true) && sums.differs().is_none())
-}
-
-/// The same of a counting bit set.
-fn counts_agree<R: Threads + Wait + Clock + Sync>(
-    rt: &R,
-    alloc: Global,
-    capacity: usize,
-) -> Result<bool, Fail> {
-    let mut sums = Three::new(alloc, capacity)?;
-    let (set, pass) = CountingBitSet::new(alloc, capacity)?;
-    let went = between(rt, set.handle(pass), &mut sums);
-    Ok(went == Some(true) && sums.differs().is_none())
-}
-
-/// Raises a place for good, and counts how often it stood or how far it had counted before.
+/// Sets each place, again and again.
 #[derive(Drop)]
-struct Raises<'s> {
-    flags: bit_set::Handle<'s>,
-    counts: counting_bit_set::Handle<'s>,
+struct SetsAll<'s, P: Places> {
+    user: P,
+    tally: &'s Tally,
 }
 
-impl<'s> Task for Raises<'s> {
-    fn run(self, rt: &(impl Wait + Clock)) -> bool {
-        let Raises {
-            mut flags,
-            mut counts,
-        } = self;
-        for round in 0..ROUNDS {
-            if counts.capacity() > 0 && counts.set(0) != round {
-                return false;
-            }
-            if round == ROUNDS / 2 && flags.capacity() > 0 && !flags.set(rt, 0) {
-                return false;
-            }
-            if round % 4 == 0 {
-                thread::yield_now();
-            }
+impl<'s, P: Places> User for SetsAll<'s, P> {
+    fn turn(&mut self, rt: &impl Wait, _at: u64) -> Turn {
+        for place in 0..self.user.number() {
+            let number = self.user.set(rt, place);
+            self.tally.add(place, number);
         }
-        true
+        Turn::Right
     }
 }
 
-/// Looks at a place that only rises: a flag that stood stands, and a count is no less than before.
+/// Takes places out, one after another and all at once.
 #[derive(Drop)]
-struct Looks<'s> {
-    flags: bit_set::Handle<'s>,
-    counts: counting_bit_set::Handle<'s>,
+struct TakesOut<'s, P: Places> {
+    user: P,
+    tally: &'s Tally,
+    rests: &'s Rests,
 }
 
-impl<'s> Task for Looks<'s> {
-    fn run(self, _rt: &(impl Wait + Clock)) -> bool {
-        let Looks {
-            mut flags,
-            mut counts,
-        } = self;
-        let mut stood = false;
-        let mut least = 0;
-        for round in 0..ROUNDS {
-            let is_set = flags.capacity() > 0 && flags.is_set(0);
-            let count = if counts.capacity() > 0 {
-                counts.count(0)
-            } else {
-                0
-            };
-            if stood && !is_set || count < least || count > ROUNDS {
-                return false;
-            }
-            stood = is_set;
-            least = count;
-            if round % 4 == 0 {
-                thread::yield_now();
-            }
+impl<'s, P: Places> User for TakesOut<'s, P> {
+    fn turn(&mut self, rt: &impl Wait, _at: u64) -> Turn {
+        for _ in 0..4 {
+            self.user.reset_one(rt, self.tally);
         }
-        true
+        self.user.reset(self.tally, Some(self.rests))
     }
 }
 
-/// Whether two who look at a stop flag and at a counter see them only rise, and see the last of both in the end.
-fn looks_agree<R: Threads + Wait + Clock + Sync>(rt: &R, alloc: Global) -> Result<bool, Fail> {
-    let (set, pass) = BitSet::new(alloc, 65)?;
-    let (counting, counting_pass) = CountingBitSet::new(alloc, 3)?;
-    let mut flags = set.handle(pass);
-    let mut counts = counting.handle(counting_pass);
-    let (Some(first), Some(second)) = (flags.split(), flags.split()) else {
-        return Ok(false);
+/// Whether what two set at each place is taken out by a third, or is left and taken out in the end. Each of the two sets all
+/// places between the begin and the end of each reset of all. None where there are no further handles.
+fn set_and_reset<R: Threads + Wait + Sync, P: Places + Send>(
+    rt: &R,
+    mut user: P,
+    tally: &Tally,
+) -> Option<bool> {
+    let rests = Rests::of(3, 2);
+    let ((one, two), out) = user.another().zip(user.another()).zip(user.another())?;
+    let one = SetsAll { user: one, tally };
+    let two = SetsAll { user: two, tally };
+    let out = TakesOut {
+        user: out,
+        tally,
+        rests: &rests,
     };
-    let (Some(third), Some(fourth)) = (counts.split(), counts.split()) else {
-        return Ok(false);
-    };
-    let (Some(fifth), Some(sixth)) = (flags.split(), counts.split()) else {
-        return Ok(false);
-    };
-    let went = three_run(
+    let mut well = run_three(
         rt,
-        Raises {
-            flags: first,
-            counts: third,
-        },
-        Looks {
-            flags: second,
-            counts: fourth,
-        },
-        Looks {
-            flags: fifth,
-            counts: sixth,
-        },
+        Turns::of(out, ROUNDS, &rests),
+        Beside::of(one, &rests),
+        Beside::of(two, &rests),
     );
-    let is_set = flags.capacity() > 0 && flags.is_set(0);
-    let beside = flags.capacity() > 64 && flags.is_set(64);
-    let count = if counts.capacity() > 0 {
-        counts.count(0)
-    } else {
-        0
-    };
-    Ok(went && is_set && !beside && count == ROUNDS)
+    well &= rests.crossed() >= ROUNDS;
+    user.reset(tally, None);
+    Some(well && tally.is_even())
 }
 
-#[test]
-fn looks_between_threads(rt: HostRuntime) -> Result<(), Fail> {
-    assert!(rt; looks_agree(&rt, rt.alloc())?);
-    Ok(())
+/// Sets one place after another, and tells how many it has set.
+#[derive(Drop)]
+struct SetsOne<'s, P: Places> {
+    user: P,
+    told: &'s AtomicU64,
+    rests: &'s Rests,
+}
+
+impl<'s, P: Places> User for SetsOne<'s, P> {
+    fn turn(&mut self, rt: &impl Wait, at: u64) -> Turn {
+        let is_set = self.user.set(rt, at as usize) == 1;
+        self.told.store(at.wrapping_add(1), Ordering::SeqCst);
+        Turn::of(is_set && self.rests.rest_at(at, 8))
+    }
+}
+
+/// Looks at the place that was told of last, which stands. The last of all is never set.
+#[derive(Drop)]
+struct Watches<'s, P: Places> {
+    user: P,
+    told: &'s AtomicU64,
+}
+
+impl<'s, P: Places> User for Watches<'s, P> {
+    fn turn(&mut self, _rt: &impl Wait, _at: u64) -> Turn {
+        let told = self.told.load(Ordering::SeqCst) as usize;
+        let last = self.user.number().wrapping_sub(1);
+        if told == 0 {
+            Turn::Nothing
+        } else {
+            let stands = self.user.look(told.wrapping_sub(1)) == 1;
+            Turn::of(stands && self.user.look(last) == 0)
+        }
+    }
+}
+
+/// Whether two who look see each place stand that was set before they looked. None where there are no further handles.
+fn set_and_look<R: Threads + Wait + Sync, P: Places + Send>(rt: &R, mut user: P) -> Option<bool> {
+    let told = AtomicU64::new(0);
+    let rests = Rests::of(3, 2);
+    let ((one, two), other) = user.another().zip(user.another()).zip(user.another())?;
+    let number = user.number() as u64;
+    let one = Watches {
+        user: one,
+        told: &told,
+    };
+    let two = Watches {
+        user: two,
+        told: &told,
+    };
+    let sets = SetsOne {
+        user: other,
+        told: &told,
+        rests: &rests,
+    };
+    let well = run_three(
+        rt,
+        Turns::of(sets, number.wrapping_sub(1), &rests),
+        Beside::of(one, &rests),
+        Beside::of(two, &rests),
+    );
+    Some(well && rests.crossed() >= number / 16 && rests.seen() >= number / 16)
+}
+
+/// Whether both go well with new bit sets of this capacity.
+fn use_bits<R: Threads + Wait + Sync>(
+    rt: &R,
+    alloc: Global,
+    capacity: usize,
+) -> Result<bool, Fail> {
+    let tally = Tally::new(alloc, capacity)?;
+    let (one, pass) = BitSet::new(alloc, capacity)?;
+    let mut handle = one.handle(pass);
+    let other = handle.split().ok_or("no further handle")?;
+    let well = set_and_reset(rt, other, &tally) == Some(true);
+    Ok(well && set_and_look(rt, handle) == Some(true))
+}
+
+/// The same of counting bit sets.
+fn use_counts<R: Threads + Wait + Sync>(
+    rt: &R,
+    alloc: Global,
+    capacity: usize,
+) -> Result<bool, Fail> {
+    let tally = Tally::new(alloc, capacity)?;
+    let (one, pass) = CountingBitSet::new(alloc, capacity)?;
+    let mut handle = one.handle(pass);
+    let other = handle.split().ok_or("no further handle")?;
+    let well = set_and_reset(rt, other, &tally) == Some(true);
+    Ok(well && set_and_look(rt, handle) == Some(true))
 }
 
 #[test]
 fn sets_between_threads(rt: HostRuntime) -> Result<(), Fail> {
     for capacity in [9, 64, 65, 1000] {
-        assert!(rt; bits_agree(&rt, rt.alloc(), capacity)?, "bits, {capacity}");
-        assert!(rt;
-            counts_agree(&rt, rt.alloc(), capacity)?,
-            "counts, {capacity}"
-        );
+        let well = use_bits(&rt, rt.alloc(), capacity)? && use_counts(&rt, rt.alloc(), capacity)?;
+        assert!(rt; well, "{capacity}");
     }
     Ok(())
 }

@@ -1,282 +1,263 @@
-//! Containers between threads: pairs come and go, and are seen, found and recovered whole; and the lock keeps all out.
-use crate::hall::Hall;
-use crate::last::{BETWEEN, First};
-use crate::limit::Enough;
-use crate::owned::{self, LEAST, ROUNDS};
-use crate::pairs::{CHANGED, Pair, PairUser};
+//! Containers of pairs with equal halves: pairs come and go, and are seen, found and recovered whole; and the lock keeps all
+//! out.
+use crate::indices::{EVERY, Guest, Outcome, Part, Visitor};
+use crate::owners::{Owner, play};
 use crate::rests::Rests;
-use crate::tasks::{
-    EVERY, Ends, Looks, LooksOn, Task, User, another_turns, four_run, three_run, two_run,
+use crate::room::{Place, Room, rest_once};
+use crate::tasks::{Beside, Turn, Turns, User, run_three};
+use lock_free::mpmc::container::{
+    CallbackProgression, Container, ContainerAddFailure, ContainerHandle, ContainerState, Handle,
+    OwnerId,
 };
-use lock_free::mpmc::container::{Container, ContainerState, OwnerId};
+use lock_free::mpmc::unique_index_set_enums::{ReleaseMode, ReleaseState};
 use std::alloc::Global;
 use std::sync::Wait;
 use std::test::Fail;
 use std::thread::Threads;
-use std::time::Clock;
 
-/// How often a pair is added, replaced and removed, or added and removed.
-const CHANGES: u64 = 1000;
+/// A value of two numbers, which are equal. Both are 9 as it is added, and then the number of its index.
+type Pair = (u64, u64);
 
-const TURNS: u64 = 10_000;
+const ADDED: Pair = (9, 9);
 
-/// Adds a pair, replaces it and removes it, many times.
-#[derive(Drop)]
-struct Changes<'a, 's> {
-    user: PairUser<'a>,
-    rests: &'s Rests,
+/// Whether a pair at this index has equal halves, and is one that may stand there.
+fn is_whole(pair: &Pair, index: usize) -> bool {
+    pair.0 == pair.1 && (pair.0 == ADDED.0 || pair.0 == index as u64)
 }
 
-impl<'a, 's> Task for Changes<'a, 's> {
-    fn run(self, rt: &(impl Wait + Clock)) -> bool {
-        let Changes { mut user, rests } = self;
-        let mut well = true;
-        for number in 0..CHANGES {
-            well &= user.change(rt, number, rests);
-        }
-        well
+/// An owner who uses a container.
+struct PairOwner<'a> {
+    container: Handle<'a, Pair>,
+    owner: OwnerId,
+}
+
+impl<'a> Drop for PairOwner<'a> {
+    fn drop(self) {
+        let Self {
+            container: _container,
+            owner: _,
+        } = self;
     }
 }
 
-/// One of these users, whose end is noted.
-fn changing<'a, 's>(user: PairUser<'a>, rests: &'s Rests) -> Ends<'s, Changes<'a, 's>> {
-    Ends::of(Changes { user, rests }, rests)
+impl<'a> Guest for PairOwner<'a> {
+    type Held = ContainerHandle;
+
+    const LOCKS: u64 = 4;
+
+    fn another(&mut self, owner: u64) -> Option<PairOwner<'a>> {
+        let owner = OwnerId::new(owner).ok()?;
+        let container = self.container.split()?;
+        Some(PairOwner { container, owner })
+    }
+
+    /// Adds a pair, and replaces it by one of its index.
+    fn take(&mut self, rt: &impl Wait) -> Result<ContainerHandle, Outcome> {
+        let handle = match self.container.add(rt, ADDED, self.owner) {
+            Ok(handle) => handle,
+            Err(ContainerAddFailure::OutOfSpace) => return Err(Outcome::Full),
+            Err(ContainerAddFailure::IsLocked) => return Err(Outcome::Closed),
+        };
+        let index = handle.index() as u64;
+        match self.container.replace(handle, (index, index)) {
+            Ok(_) => Ok(handle),
+            Err(_) => Err(Outcome::Wrong),
+        }
+    }
+
+    fn index(held: &ContainerHandle) -> usize {
+        held.index()
+    }
+
+    /// It rests at the first pair. Each is whole, and the owner's.
+    fn find(&mut self, place: Place<'_>, at: u64) -> bool {
+        let owner = self.owner;
+        let (mut visited, mut well) = (0usize, true);
+        let found = self.container.find(
+            owner,
+            &mut |pair, handle| {
+                well &= is_whole(&pair, handle.index()) && handle.owner == owner;
+                if visited == 0 {
+                    well &= place.rest(at);
+                }
+                visited = visited.wrapping_add(1);
+                CallbackProgression::Continue
+            },
+        );
+        well && 1 <= visited && visited <= found
+    }
+
+    fn give(
+        &mut self,
+        rt: &impl Wait,
+        held: ContainerHandle,
+        mode: ReleaseMode,
+    ) -> Option<ReleaseState> {
+        self.container.remove(rt, held, mode).ok()
+    }
+
+    fn number(&mut self, rt: &impl Wait) -> usize {
+        self.container.len(rt)
+    }
+
+    fn is_locked(&mut self) -> bool {
+        self.container.is_locked()
+    }
+}
+
+impl<'a> Owner for PairOwner<'a> {
+    fn act_as(&mut self, owner: u64) -> bool {
+        match OwnerId::new(owner) {
+            Ok(owner) => {
+                self.owner = owner;
+                true
+            }
+            Err(_) => false,
+        }
+    }
+
+    /// It rests where it is asked about the first pair. Each is whole.
+    fn recover(&mut self, rt: &impl Wait, place: Place<'_>, mode: ReleaseMode) -> Option<u64> {
+        let (mut number, mut well) = (0u64, true);
+        let state = self.container.recover(
+            rt,
+            self.owner,
+            &mut |pair| {
+                well &= pair.0 == pair.1 && rest_once(place, number);
+                well &= place.room.leave(pair.0 as usize);
+                number = number.wrapping_add(1);
+                true
+            },
+            mode,
+        );
+        if well && state == ReleaseState::Unlocked {
+            Some(number)
+        } else {
+            None
+        }
+    }
+
+    fn has_none(&mut self) -> bool {
+        self.container
+            .find(self.owner, &mut |_, _| CallbackProgression::Stop)
+            == 0
+    }
 }
 
 /// Keeps a state up to date.
-#[derive(Drop)]
-struct KeepsUp<'a, 's> {
-    user: PairUser<'a>,
+struct Looks<'a, 's> {
+    owner: PairOwner<'a>,
     state: &'s mut ContainerState<Pair>,
 }
 
-impl<'a, 's> Looks for KeepsUp<'a, 's> {
-    /// Whether it shows a pair, and whether each is whole.
-    fn look(&mut self, rt: &impl Wait) -> (bool, bool) {
-        let well = self.user.looks(rt, self.state);
-        (self.state.number() != 0, well)
+impl<'a, 's> Drop for Looks<'a, 's> {
+    fn drop(self) {
+        let Self {
+            owner: _owner,
+            state: _,
+        } = self;
     }
 }
 
-/// Finds the pairs of its owner.
-#[derive(Drop)]
-struct Finds<'a> {
-    user: PairUser<'a>,
-}
-
-impl<'a> Looks for Finds<'a> {
-    fn look(&mut self, _rt: &impl Wait) -> (bool, bool) {
-        self.user.finds_whole()
+/// Brings a state up to date: whether it shows a pair, and each is whole.
+fn look(
+    rt: &impl Wait,
+    container: &mut Handle<'_, Pair>,
+    state: &mut ContainerState<Pair>,
+) -> Turn {
+    if !container.is_state_of(state) {
+        return Turn::Wrong;
+    }
+    container.update_state(rt, state);
+    let mut well = true;
+    state.for_each(|index, pair| {
+        well = well && is_whole(pair, index);
+        CallbackProgression::Continue
+    });
+    match state.number() {
+        _ if !well => Turn::Wrong,
+        0 => Turn::Nothing,
+        _ => Turn::Right,
     }
 }
 
-/// Recovers its owner, and rests at each pair: whether the pairs that it asks about come to 42.
-#[derive(Drop)]
-struct Recovers<'a, 's> {
-    user: PairUser<'a>,
-    rests: &'s Rests,
-}
-
-impl<'a, 's> Task for Recovers<'a, 's> {
-    fn run(self, rt: &(impl Wait + Clock)) -> bool {
-        let Recovers { mut user, rests } = self;
-        user.recovers(rt, rests, 1) == Some(42)
+impl<'a, 's> User for Looks<'a, 's> {
+    fn turn(&mut self, rt: &impl Wait, _at: u64) -> Turn {
+        look(rt, &mut self.owner.container, self.state)
     }
 }
 
-/// Whether two tasks that end go well beside one who keeps a state up to date, of which each rests so often with a pair
-/// in, and the state shows one as often at least. It shows nothing in the end.
-fn seen_beside<R: Wait + Threads + Clock + Sync, T: Task + Send>(
+/// How often each of two adds a pair, replaces it and removes it.
+const CHANGES: u64 = 3_200;
+
+/// So many visits of another owner.
+fn changes<'a, 's>(
+    owner: &mut PairOwner<'a>,
+    number: u64,
+    place: Place<'s>,
+) -> Option<Turns<'s, Visitor<'s, PairOwner<'a>>>> {
+    let visits = Visitor {
+        guest: owner.another(number)?,
+        place,
+        locks: false,
+    };
+    Some(Turns::of(visits, CHANGES, place.rests))
+}
+
+/// Whether pairs that come and go are seen whole by one who keeps a state up to date: one at least in each rest of a pair in the
+/// container, and none in the end. None where there are no further handles.
+fn change_and_look<R: Wait + Threads + Sync>(
     rt: &R,
-    user: &mut PairUser<'_>,
-    one: T,
-    other: T,
-    rests: &Rests,
-    least: u64,
+    owner: &mut PairOwner<'_>,
+    room: &Room,
 ) -> Option<bool> {
-    let mut state = user.state(rt)?;
-    let keeps = KeepsUp {
-        user: user.another(3)?,
+    let rests = Rests::of(3, 1);
+    let place = Place {
+        room,
+        rests: &rests,
+        every: EVERY,
+        waits: false,
+    };
+    let mut state = owner.container.get_state(rt).ok()?;
+    let both = changes(owner, 1, place).zip(changes(owner, 2, place));
+    let ((one, two), looker) = both.zip(owner.another(3))?;
+    let looks = Looks {
+        owner: looker,
         state: &mut state,
     };
-    let mut well = three_run(rt, one, other, LooksOn::of(keeps, rests));
-    well &= rests.seen() >= least && rests.crossed() >= least.wrapping_mul(2);
-    Some(well && user.looks(rt, &mut state) && state.number() == 0)
+    let mut well = run_three(rt, one, two, Beside::of(looks, &rests));
+    let least = CHANGES / EVERY;
+    well &= rests.seen() >= least && rests.crossed() >= least * 2;
+    let shows_none = matches!(look(rt, &mut owner.container, &mut state), Turn::Nothing);
+    Some(well && shows_none)
 }
 
-/// Whether pairs that come and go are seen whole. None where there are no further passes.
-fn turns_are_seen<R: Wait + Threads + Clock + Sync>(
-    rt: &R,
-    user: &mut PairUser<'_>,
-) -> Option<bool> {
-    let rests = Rests::beside(3, 1);
-    let one = another_turns(user, 1, TURNS, &rests)?;
-    let other = another_turns(user, 2, TURNS, &rests)?;
-    seen_beside(rt, user, one, other, &rests, TURNS / EVERY)
-}
-
-/// The same of pairs that are replaced too.
-fn changes_are_seen<R: Wait + Threads + Clock + Sync>(
-    rt: &R,
-    user: &mut PairUser<'_>,
-) -> Option<bool> {
-    let rests = Rests::beside(3, 1);
-    let (one, other) = user.another(1).zip(user.another(2))?;
-    let (one, other) = (changing(one, &rests), changing(other, &rests));
-    seen_beside(rt, user, one, other, &rests, CHANGES / CHANGED)
-}
-
-/// What is done with a container.
-#[derive(Clone, Copy)]
-enum Play<'s> {
-    /// Pairs come and go, and are seen.
-    AreSeen,
-    /// Pairs are replaced too.
-    ChangesAreSeen,
-    /// Two add, replace and remove, one finds the pairs of the first. Another recovers the owner of the pairs 40 and 2.
-    OwnersBeside,
-    /// Two of one owner add pairs and remove them.
-    TwoOfOne,
-    /// What is done with robust sets too.
-    AsSets(owned::Play<'s>),
-}
-
-/// Whether all go well: two who add, replace and remove, one who finds, and one who recovers. No index has an owner in
-/// the end, and the find came to a pair of the first at least as often as that one rested with one in. None where there are
-/// no further passes.
-fn owners_beside<R: Wait + Threads + Clock + Sync>(
-    rt: &R,
-    user: &mut PairUser<'_>,
-) -> Option<bool> {
-    let rests = Rests::beside(4, 1);
-    let are_added = user.add(rt, 40).is_some() & user.add(rt, 2).is_some();
-    let both = user.another(1).zip(user.another(2));
-    let asking = user.another(1).zip(user.of(user.owner));
-    let ((one, other), (finds, recovers)) = both.zip(asking)?;
-    let finds = LooksOn::of(Finds { user: finds }, &rests);
-    let recovers = Recovers {
-        user: recovers,
-        rests: &rests,
-    };
-    let recovers = Ends::of(recovers, &rests);
-    let (one, other) = (changing(one, &rests), changing(other, &rests));
-    let mut well = four_run(rt, one, other, finds, recovers);
-    well &= rests.seen() >= CHANGES / CHANGED && rests.crossed() >= CHANGES / CHANGED * 2 + 2;
-    Some(are_added && well && user.number(rt) == 0)
-}
-
-/// Whether two of one owner find each pair that they add, though each rested so often with one in until the other came to
-/// such a rest. None where there are no further passes.
-fn two_of_one<R: Wait + Threads + Clock + Sync>(rt: &R, user: &mut PairUser<'_>) -> Option<bool> {
-    let rests = Rests::of(2);
-    let one = another_turns(user, 1, TURNS, &rests)?;
-    let other = another_turns(user, 1, TURNS, &rests)?;
-    let well = two_run(rt, one, other);
-    Some(well & (rests.crossed() >= TURNS / EVERY))
-}
-
-/// Whether it goes well. None where there are no further passes.
-fn plays<R: Wait + Threads + Clock + Sync>(
-    rt: &R,
-    user: &mut PairUser<'_>,
-    play: Play<'_>,
-) -> Option<bool> {
-    match play {
-        Play::AreSeen => turns_are_seen(rt, user),
-        Play::ChangesAreSeen => changes_are_seen(rt, user),
-        Play::OwnersBeside => owners_beside(rt, user),
-        Play::TwoOfOne => two_of_one(rt, user),
-        Play::AsSets(play) => owned::plays(rt, user, play),
-    }
-}
-
-/// Whether it goes well with a new container of this capacity.
-fn played<R: Wait + Threads + Clock + Sync>(
-    rt: &R,
-    alloc: Global,
-    capacity: usize,
-    play: Play<'_>,
-) -> Result<bool, Fail> {
+/// Whether it goes well with a new container.
+fn play_anew<R: Wait + Threads + Sync>(rt: &R, alloc: Global, what: Part) -> Result<bool, Fail> {
     let owner = OwnerId::new(0)?;
-    let (container, pass) = Container::new(alloc, capacity, 1)?;
-    let mut user = PairUser {
-        container: container.handle(pass),
-        owner,
+    let room = Room::new(alloc, what.capacity())?;
+    let (made, pass) = Container::new(alloc, what.capacity(), 1)?;
+    let container = made.handle(pass);
+    let mut owner = PairOwner { container, owner };
+    let well = match what {
+        Part::Look => change_and_look(rt, &mut owner, &room),
+        _ => play(rt, &mut owner, &room, what),
     };
-    Ok(plays(rt, &mut user, play) == Some(true))
+    Ok(well == Some(true))
 }
 
-/// The same of what is done with robust sets too.
-fn played_as<R: Wait + Threads + Clock + Sync>(
-    rt: &R,
-    alloc: Global,
-    capacity: usize,
-    play: owned::Play<'_>,
-) -> Result<bool, Fail> {
-    played(rt, alloc, capacity, Play::AsSets(play))
+#[test]
+fn pairs_between_threads(rt: HostRuntime) -> Result<(), Fail> {
+    for what in [Part::ComeAndGo, Part::LockLast, Part::Count, Part::Die] {
+        for _ in 0..what.rounds() {
+            assert!(rt; play_anew(&rt, rt.alloc(), what)?, "{}", what.name());
+        }
+    }
+    Ok(())
 }
 
 #[test]
 fn pairs_are_seen_whole(rt: HostRuntime) -> Result<(), Fail> {
-    assert!(rt; played(&rt, rt.alloc(), 3, Play::AreSeen)?);
-    Ok(())
-}
-
-#[test]
-fn whole_pairs(rt: HostRuntime) -> Result<(), Fail> {
-    assert!(rt; played(&rt, rt.alloc(), 3, Play::ChangesAreSeen)?);
-    Ok(())
-}
-
-#[test]
-fn owners_between_threads(rt: HostRuntime) -> Result<(), Fail> {
-    assert!(rt; played(&rt, rt.alloc(), 5, Play::OwnersBeside)?);
-    Ok(())
-}
-
-#[test]
-fn owners_die_beside_two_others(rt: HostRuntime) -> Result<(), Fail> {
-    assert!(rt; played_as(&rt, rt.alloc(), 6, owned::Play::ManyDie)?);
-    Ok(())
-}
-
-/// A remove that frees an index twice frees it of the next one of its owner.
-#[test]
-fn two_adders_of_one_owner(rt: HostRuntime) -> Result<(), Fail> {
-    assert!(rt; played(&rt, rt.alloc(), 3, Play::TwoOfOne)?);
-    Ok(())
-}
-
-/// A length that does not look once more whether anything has changed misses the index.
-#[test]
-fn a_length_beside_one_who_always_holds_one(rt: HostRuntime) -> Result<(), Fail> {
-    assert!(rt; played_as(&rt, rt.alloc(), BETWEEN + 2, owned::Play::Counting)?);
-    Ok(())
-}
-
-#[test]
-fn nobody_is_added_once_it_is_locked(rt: HostRuntime) -> Result<(), Fail> {
-    let enough = Enough::new(&rt);
-    let mut well = true;
-    for round in 0..ROUNDS {
-        if round < LEAST || enough.has_time(&rt) {
-            well &= played_as(&rt, rt.alloc(), 64, owned::Play::OneLocks(First::of(round)))?;
-        }
-    }
-    assert!(rt; well);
-    Ok(())
-}
-
-#[test]
-fn four_add_until_it_is_locked(rt: HostRuntime) -> Result<(), Fail> {
-    let enough = Enough::new(&rt);
-    let mut well = true;
-    for round in 0..ROUNDS {
-        if round < LEAST || enough.has_time(&rt) {
-            let hall = Hall::new(rt.alloc(), 3)?;
-            well &= played_as(&rt, rt.alloc(), 3, owned::Play::FourVisit(&hall))?;
-        }
-    }
-    assert!(rt; well);
+    assert!(rt; play_anew(&rt, rt.alloc(), Part::Look)?);
     Ok(())
 }

@@ -1,6 +1,5 @@
 //! Threads that run side by side, on what they share, whoever has the processor: what has to overlap does since threads rest
-//! inside of what they do, and each gives up, and its test fails, after so many turns in a row that brought nothing. And
-//! further handles of each structure, for as many threads.
+//! inside of what they do, and each gives up, and its test fails, after so many turns in a row that brought nothing.
 #![tactic(auto)]
 
 #[cfg(test)]
@@ -8,17 +7,9 @@ mod bits;
 #[cfg(test)]
 mod containers;
 #[cfg(test)]
-mod deaths;
-#[cfg(test)]
 mod ends;
 #[cfg(test)]
-mod hall;
-#[cfg(test)]
-mod holders;
-#[cfg(test)]
-mod inside;
-#[cfg(test)]
-mod last;
+mod indices;
 #[cfg(test)]
 mod limit;
 #[cfg(test)]
@@ -26,23 +17,17 @@ mod log;
 #[cfg(test)]
 mod logged;
 #[cfg(test)]
-mod overflowing;
-#[cfg(test)]
-mod owned;
-#[cfg(test)]
 mod owners;
-#[cfg(test)]
-mod pairs;
 #[cfg(test)]
 mod queues;
 #[cfg(test)]
 mod rests;
 #[cfg(test)]
+mod robust;
+#[cfg(test)]
 mod roles;
 #[cfg(test)]
-mod slow;
-#[cfg(test)]
-mod splits;
+mod room;
 #[cfg(test)]
 mod tasks;
 #[cfg(test)]

@@ -1,27 +1,22 @@
-//! Queues between threads whose calls are written down, each with the time before and after it: as if one after another,
-//! though many of them overlap.
+//! Calls on a queue that are written down, each with the time before and after it: as if one after another, though many of
+//! them overlap.
 use crate::ends::{Gives, Length, Takes};
 use crate::limit::Meeting;
 use crate::log::{Calls, Log, now};
-use crate::tasks::{Task, three_run};
+use crate::rests::Rests;
+use crate::tasks::{Turn, Turns, User, run_three};
 use std::alloc::Global;
 use std::sync::Wait;
 use std::sync::atomic::AtomicU64;
 use std::test::Fail;
 use std::thread;
 use std::thread::Threads;
-use std::time::Clock;
 
 /// How many calls each thread makes in a round.
-const CALLS: usize = 10_000;
+const CALLS: u64 = 10_000;
 
 /// At which calls all three meet in the middle of their call: each one of so many.
 const MEETS: u64 = 40;
-
-/// How many pairs of calls have to overlap, and in how many rounds.
-pub const OVERLAPS: u64 = 500;
-
-pub const ROUNDS: u64 = 2;
 
 /// What has come of the rounds so far, each of a new queue.
 #[derive(Clone, Copy)]
@@ -70,14 +65,13 @@ impl Round {
 
     /// Meets the others within the times that a call is written down with, where that is due: at each second time before the
     /// call is made, and else after it. False at the limit.
-    fn meets(&self, at: usize, is_before: bool) -> bool {
-        let at = at as u64;
+    fn meet(&self, at: u64, is_before: bool) -> bool {
         let time = at / MEETS;
         at % MEETS != 0 || (time % 2 == 0) != is_before || self.meeting.wait(time)
     }
 
     /// Lets another thread run, at some of the calls.
-    fn rest(&self, at: usize, every: usize) {
+    fn rest(&self, at: u64, every: u64) {
         if self.rests && every != 0 && at % every == 0 {
             thread::yield_now();
         }
@@ -86,8 +80,8 @@ impl Round {
 
 /// One whose calls are written down.
 trait Caller: Drop + Sized {
-    /// Makes a call: the number that it answers, if any. None where it makes none.
-    fn call(&mut self, rt: &impl Wait) -> Option<Option<u64>>;
+    /// Makes the so many-th call: the number that it answers, if any. None where it makes none.
+    fn call(&mut self, rt: &impl Wait, at: u64) -> Option<Option<u64>>;
 }
 
 /// Gives the numbers from 0 on, each until it is taken.
@@ -98,8 +92,8 @@ struct Giving<E: Gives> {
 }
 
 impl<E: Gives> Caller for Giving<E> {
-    fn call(&mut self, _rt: &impl Wait) -> Option<Option<u64>> {
-        let back = self.end.gives(self.number);
+    fn call(&mut self, _rt: &impl Wait, _at: u64) -> Option<Option<u64>> {
+        let back = self.end.give(self.number);
         if back != Some(self.number) {
             self.number = self.number.wrapping_add(1);
         }
@@ -107,15 +101,15 @@ impl<E: Gives> Caller for Giving<E> {
     }
 }
 
-/// Takes numbers.
+/// Takes numbers, at each second call after a look.
 #[derive(Drop)]
 struct Taking<E: Takes> {
     end: E,
 }
 
 impl<E: Takes> Caller for Taking<E> {
-    fn call(&mut self, rt: &impl Wait) -> Option<Option<u64>> {
-        Some(self.end.takes(rt))
+    fn call(&mut self, rt: &impl Wait, at: u64) -> Option<Option<u64>> {
+        Some(self.end.take(rt, at % 2 == 1))
     }
 }
 
@@ -126,11 +120,9 @@ struct Asking<L: Length> {
 }
 
 impl<L: Length> Caller for Asking<L> {
-    fn call(&mut self, rt: &impl Wait) -> Option<Option<u64>> {
-        match self.length.length(rt) {
-            Some(number) => Some(Some(number)),
-            None => None,
-        }
+    fn call(&mut self, rt: &impl Wait, _at: u64) -> Option<Option<u64>> {
+        let number = self.length.length(rt)?;
+        Some(Some(number))
     }
 }
 
@@ -139,46 +131,29 @@ impl<L: Length> Caller for Asking<L> {
 struct Logs<'s, C: Caller> {
     caller: C,
     round: &'s Round,
-    every: usize,
+    every: u64,
     log: &'s mut Log,
 }
 
-impl<'s, C: Caller> Logs<'s, C> {
-    /// Makes the so many-th call: whether there was room to write it down. None at the limit.
-    fn makes(&mut self, rt: &impl Wait, at: usize) -> Option<bool> {
+impl<'s, C: Caller> User for Logs<'s, C> {
+    fn turn(&mut self, rt: &impl Wait, at: u64) -> Turn {
         let clock = &self.round.clock;
         let began = now(clock);
-        if !self.round.meets(at, true) {
-            return None;
-        }
-        let answer = self.caller.call(rt);
-        if !self.round.meets(at, false) {
-            return None;
-        }
-        match answer {
-            Some(answer) => Some(self.log.note(clock, began, answer)),
-            None => Some(true),
-        }
-    }
-}
-
-impl<'s, C: Caller> Task for Logs<'s, C> {
-    fn run(mut self, rt: &(impl Wait + Clock)) -> bool {
-        let mut well = true;
-        for at in 0..CALLS {
-            match self.makes(rt, at) {
-                Some(noted) => well &= noted,
-                None => return false,
-            }
-            self.round.rest(at, self.every);
-        }
-        well
+        let met = self.round.meet(at, true);
+        let answer = self.caller.call(rt, at);
+        let met = met && self.round.meet(at, false);
+        let noted = match answer {
+            Some(answer) => self.log.note(clock, began, answer),
+            None => true,
+        };
+        self.round.rest(at, self.every);
+        Turn::of(met && noted)
     }
 }
 
 /// Logs the calls of three threads on a new queue of this capacity, of whom some calls of each overlap some of each other:
 /// whether they can have come one after another, and how many overlapped.
-pub fn runs<R: Wait + Threads + Clock + Sync, G: Gives + Send, T: Takes + Send, L: Length + Send>(
+pub fn log_calls<R: Wait + Threads + Sync, G: Gives + Send, T: Takes + Send, L: Length + Send>(
     rt: &R,
     alloc: Global,
     capacity: u64,
@@ -188,32 +163,36 @@ pub fn runs<R: Wait + Threads + Clock + Sync, G: Gives + Send, T: Takes + Send, 
     rounds: &mut Rounds,
 ) -> Result<(), Fail> {
     let round = Round::new(rounds.number == 1);
-    let mut pushes = Log::new(alloc, CALLS)?;
-    let mut pops = Log::new(alloc, CALLS)?;
-    let mut lengths = Log::new(alloc, CALLS)?;
-    let well = three_run(
+    let rests = Rests::of(3, 0);
+    let mut pushes = Log::new(alloc, CALLS as usize)?;
+    let mut pops = Log::new(alloc, CALLS as usize)?;
+    let mut lengths = Log::new(alloc, CALLS as usize)?;
+    let giving = Logs {
+        caller: Giving {
+            end: gives,
+            number: 0,
+        },
+        round: &round,
+        every: 41,
+        log: &mut pushes,
+    };
+    let taking = Logs {
+        caller: Taking { end: takes },
+        round: &round,
+        every: 37,
+        log: &mut pops,
+    };
+    let asking = Logs {
+        caller: Asking { length },
+        round: &round,
+        every: 31,
+        log: &mut lengths,
+    };
+    let well = run_three(
         rt,
-        Logs {
-            caller: Giving {
-                end: gives,
-                number: 0,
-            },
-            round: &round,
-            every: 41,
-            log: &mut pushes,
-        },
-        Logs {
-            caller: Taking { end: takes },
-            round: &round,
-            every: 37,
-            log: &mut pops,
-        },
-        Logs {
-            caller: Asking { length },
-            round: &round,
-            every: 31,
-            log: &mut lengths,
-        },
+        Turns::of(giving, CALLS, &rests),
+        Turns::of(taking, CALLS, &rests),
+        Turns::of(asking, CALLS, &rests),
     );
     let calls = Calls {
         capacity,

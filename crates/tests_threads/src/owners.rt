@@ -1,195 +1,217 @@
-//! Robust unique index sets: no index has two holders, those of a dead owner come back, and the lock keeps all out.
-use crate::hall::Hall;
-use crate::holders::Holders;
-use crate::last::{BETWEEN, First};
-use crate::limit::Enough;
-use crate::owned::{self, LEAST, ROUNDS};
+//! What is done with each structure whose indices have owners: one counts beside another who always holds one, and owners die
+//! and are recovered beside others.
+use crate::indices;
+use crate::indices::{BETWEEN, EVERY, Guest, Part, Visitor};
 use crate::rests::Rests;
-use crate::tasks::{Ends, GoesOn, LooksOn, Task, User, four_turn, three_run};
-use lock_free::mpmc::robust_unique_index_set::{OwnerId, RobustUniqueIndexSet};
-use lock_free::mpmc::unique_index_set_enums::ReleaseMode;
-use std::alloc::Global;
+use crate::room::{Place, Room};
+use crate::tasks::{Beside, Turn, Turns, User, run_three, run_two};
+use lock_free::mpmc::unique_index_set_enums::{ReleaseMode, ReleaseState};
+use std::mem;
 use std::sync::Wait;
-use std::test::Fail;
 use std::thread::Threads;
-use std::time::Clock;
-use user::OwnerUser;
 
-mod user;
+/// One who takes indices for owners. An index that is dropped without being given back stays out.
+pub trait Owner: Guest {
+    /// Goes on as this owner: whether there is one of this number.
+    fn act_as(&mut self, owner: u64) -> bool;
 
-/// What is done with a set.
-#[derive(Clone, Copy)]
-enum Play<'s> {
-    /// Four owners take indices and give them back.
-    FourOwners,
-    /// Four users of one owner do.
-    FourOfOne,
-    /// One of two owners of 68 indices dies.
-    OneDies,
-    /// What is done with containers too.
-    AsContainers(owned::Play<'s>),
+    /// Recovers its owner, each index of whom leaves the room before it is free, and rests inside the call: how many came
+    /// back. None where one was not the owner's, or did not come as it must, or it is locked.
+    fn recover(&mut self, rt: &impl Wait, place: Place<'_>, mode: ReleaseMode) -> Option<u64>;
+
+    /// Whether its owner has none.
+    fn has_none(&mut self) -> bool;
 }
 
-/// How often each takes an index.
-const TURNS: u64 = 10_000;
+/// How often one who holds an index changes between that before those that are out all the time and that behind.
+const CHANGES: u64 = 3_200;
 
-/// Whether four users go well, and leave nothing behind. None where there are no further passes.
-fn four_go<R: Wait + Threads + Clock + Sync>(
-    rt: &R,
-    user: &mut OwnerUser<'_>,
-    owners: [u64; 4],
-) -> Option<bool> {
-    let right = four_turn(rt, user, owners, TURNS)?;
-    Some(right && user.borrowed(rt) == 0 && !user.is_locked())
+/// Takes so many indices, of which none is given back: whether there were so many.
+fn fill<G: Owner>(rt: &impl Wait, guest: &mut G, number: usize) -> bool {
+    let mut well = true;
+    for _ in 0..number {
+        well &= guest.take(rt).is_ok();
+    }
+    well
 }
 
-/// Recovers an owner, and rests at each index: whether 45 come back.
+/// Holds one index at every moment, and at some moments two.
 #[derive(Drop)]
-struct Recovers<'a, 's> {
-    user: OwnerUser<'a>,
-    dead: OwnerId,
+struct Holds<'s, G: Owner> {
+    guest: G,
+    held: G::Held,
     rests: &'s Rests,
 }
 
-impl<'a, 's> Task for Recovers<'a, 's> {
-    fn run(self, rt: &(impl Wait + Clock)) -> bool {
-        let Recovers {
-            mut user,
-            dead,
-            rests,
-        } = self;
-        user.recovers(rt, dead, ReleaseMode::LockIfLastIndex, rests, 1) == Some(45)
+impl<'s, G: Owner> Holds<'s, G> {
+    /// Takes another index, rests with both in hand where that is due, gives the first one back, and rests again.
+    fn change(&mut self, rt: &impl Wait, at: u64) -> bool {
+        let Ok(next) = self.guest.take(rt) else {
+            return false;
+        };
+        let mut well = self.rests.rest_at(at, EVERY);
+        let held = mem::replace(&mut self.held, next);
+        let state = self.guest.give(rt, held, ReleaseMode::Default);
+        well &= state == Some(ReleaseState::Unlocked);
+        well & self.rests.rest_at(at, EVERY)
     }
 }
 
-/// Whether 45 of 68 indices come back as the owner is recovered. Meanwhile two others take the two that are left, and those
-/// that come back, and give them back; one of them does between each of the 45 and the next. None where there are no further
-/// passes.
-fn recovers_beside<R: Wait + Threads + Clock + Sync>(
+impl<'s, G: Owner> User for Holds<'s, G> {
+    fn turn(&mut self, rt: &impl Wait, at: u64) -> Turn {
+        Turn::of(self.change(rt, at))
+    }
+}
+
+/// Counts: there are one or two more than are out all the time.
+#[derive(Drop)]
+struct Counts<G: Owner> {
+    guest: G,
+}
+
+impl<G: Owner> User for Counts<G> {
+    fn turn(&mut self, rt: &impl Wait, _at: u64) -> Turn {
+        let number = self.guest.number(rt);
+        if number == BETWEEN + 1 {
+            Turn::Nothing
+        } else {
+            Turn::of(number == BETWEEN + 2)
+        }
+    }
+}
+
+/// One who holds an index. None where there was none, or no further handle.
+fn holder<'s, G: Owner>(rt: &impl Wait, guest: &mut G, rests: &'s Rests) -> Option<Holds<'s, G>> {
+    let mut guest = guest.another(1)?;
+    let held = guest.take(rt).ok()?;
+    Some(Holds { guest, held, rests })
+}
+
+/// Whether each count is right beside one who changes its index, and some counts are made whole while two are in hand, and
+/// others while one is. A count that does not look once more whether anything has changed misses the index. None where there
+/// are no further handles.
+fn count<R: Wait + Threads + Sync, G: Owner + Send>(rt: &R, guest: &mut G) -> Option<bool>
+where
+    G::Held: Send,
+{
+    let rests = Rests::of(2, 1);
+    let holds = holder(rt, guest, &rests)?;
+    let mut well = fill(rt, guest, BETWEEN);
+    let counts = Counts {
+        guest: guest.another(2)?,
+    };
+    let counts = Beside::of(counts, &rests);
+    well &= run_two(rt, Turns::of(holds, CHANGES, &rests), counts);
+    let least = CHANGES / EVERY;
+    Some(well && rests.seen() >= least && rests.crossed() >= least * 2)
+}
+
+/// The number of the first owner that dies, how many die, and how many indices each has at most.
+const FIRST: u64 = 100;
+
+const DEATHS: u64 = 50;
+
+const MOST: u64 = 5;
+
+/// Takes what is free for one owner after another, each of which is recovered.
+#[derive(Drop)]
+struct Dies<'s, G: Owner> {
+    guest: G,
+    place: Place<'s>,
+}
+
+impl<'s, G: Owner> Dies<'s, G> {
+    /// Takes what is free, up to five: whether nobody else had it, and how much it was.
+    fn keep(&mut self, rt: &impl Wait) -> (bool, u64) {
+        let (mut well, mut number) = (true, 0u64);
+        for _ in 0..MOST {
+            if let Ok(held) = self.guest.take(rt) {
+                well &= self.place.room.enter(G::index(&held));
+                number = number.wrapping_add(1);
+            }
+        }
+        (well, number)
+    }
+}
+
+impl<'s, G: Owner> User for Dies<'s, G> {
+    /// At each second time the recovery locks if no index is out then, which one always is.
+    fn turn(&mut self, rt: &impl Wait, at: u64) -> Turn {
+        if !self.guest.act_as(FIRST.wrapping_add(at)) {
+            return Turn::Wrong;
+        }
+        let (well, number) = self.keep(rt);
+        if number == 0 {
+            return Turn::Nothing;
+        }
+        let mode = if at % 2 == 0 {
+            ReleaseMode::Default
+        } else {
+            ReleaseMode::LockIfLastIndex
+        };
+        let freed = self.guest.recover(rt, self.place, mode);
+        Turn::of(well && freed == Some(number) && self.guest.has_none())
+    }
+}
+
+/// One who takes an index and gives it back, and does not rest. None where there is no further handle.
+fn further_visitor<'s, G: Owner>(
+    guest: &mut G,
+    owner: u64,
+    place: Place<'s>,
+) -> Option<Beside<'s, Visitor<'s, G>>> {
+    let guest = guest.another(owner)?;
+    let place = Place { every: 0, ..place };
+    let visits = Visitor {
+        guest,
+        place,
+        locks: false,
+    };
+    Some(Beside::of(visits, place.rests))
+}
+
+/// Whether all goes well as owners die and are recovered beside two who take indices and give them back, of whom each has a
+/// whole turn between the begin and the end of each recovery. Just the one index is out in the end that was before. None where
+/// there are no further handles.
+fn die<R: Wait + Threads + Sync, G: Owner + Send>(
     rt: &R,
-    user: &mut OwnerUser<'_>,
-    dead: OwnerId,
-) -> Option<bool> {
-    let rests = Rests::beside(3, 2);
-    let ((first, second), user) = user.another(1).zip(user.another(2)).zip(user.another(4))?;
-    let first = LooksOn::of(GoesOn { user: first }, &rests);
-    let second = LooksOn::of(GoesOn { user: second }, &rests);
-    let recovers = Recovers {
-        user,
-        dead,
+    guest: &mut G,
+    room: &Room,
+) -> Option<bool>
+where
+    G::Held: Send,
+{
+    let rests = Rests::of(3, 2);
+    let place = Place {
+        room,
         rests: &rests,
+        every: 1,
+        waits: false,
     };
-    let well = three_run(rt, first, second, Ends::of(recovers, &rests));
-    Some(well & (rests.crossed() == 45))
-}
-
-/// Whether 23 indices are left of 68 of two owners once one has died. None where there are no further passes.
-fn one_dies<R: Wait + Threads + Clock + Sync>(rt: &R, user: &mut OwnerUser<'_>) -> Option<bool> {
-    let (dead, alive) = (OwnerId::new(9).ok()?, OwnerId::new(3).ok()?);
-    let mut right = user.fills(rt, [dead, alive, dead], 68);
-    right &= recovers_beside(rt, user, dead)?;
-    right &= user.finds(dead) == 0;
-    right &= user.finds(alive) == 23;
-    Some(right & (user.borrowed(rt) == 23))
-}
-
-/// Whether it goes well. None where there are no further passes.
-fn plays<R: Wait + Threads + Clock + Sync>(
-    rt: &R,
-    user: &mut OwnerUser<'_>,
-    play: Play<'_>,
-) -> Option<bool> {
-    match play {
-        Play::FourOwners => four_go(rt, user, [1, 2, 3, 4]),
-        Play::FourOfOne => four_go(rt, user, [1, 1, 1, 1]),
-        Play::OneDies => one_dies(rt, user),
-        Play::AsContainers(play) => owned::plays(rt, user, play),
-    }
-}
-
-/// Whether it goes well with a new set of so many indices.
-fn played<R: Wait + Threads + Clock + Sync>(
-    rt: &R,
-    alloc: Global,
-    capacity: usize,
-    play: Play<'_>,
-) -> Result<bool, Fail> {
-    let owner = OwnerId::new(0)?;
-    let holders = Holders::new(alloc, capacity)?;
-    let (set, pass) = RobustUniqueIndexSet::new(alloc, capacity)?;
-    let mut user = OwnerUser {
-        set: set.handle(pass),
-        holders: &holders,
-        owner,
+    let mut well = fill(rt, guest, 1);
+    let visitors = further_visitor(guest, 1, place).zip(further_visitor(guest, 2, place));
+    let ((one, other), guest_who_dies) = visitors.zip(guest.another(3))?;
+    let dies = Dies {
+        guest: guest_who_dies,
+        place,
     };
-    Ok(plays(rt, &mut user, play) == Some(true))
+    well &= run_three(rt, Turns::of(dies, DEATHS, &rests), one, other);
+    Some(well && rests.crossed() >= DEATHS && guest.number(rt) == 1 && !guest.is_locked())
 }
 
-/// The same of what is done with containers too.
-fn played_as<R: Wait + Threads + Clock + Sync>(
+/// Whether it goes well. None where there are no further handles, and where it asks for values.
+pub fn play<R: Wait + Threads + Sync, G: Owner + Send>(
     rt: &R,
-    alloc: Global,
-    capacity: usize,
-    play: owned::Play<'_>,
-) -> Result<bool, Fail> {
-    played(rt, alloc, capacity, Play::AsContainers(play))
-}
-
-#[test]
-fn four_owners_on_three_indices(rt: HostRuntime) -> Result<(), Fail> {
-    assert!(rt; played(&rt, rt.alloc(), 3, Play::FourOwners)?);
-    Ok(())
-}
-
-/// A release that frees an index twice frees it of the next one of its owner.
-#[test]
-fn four_of_one_owner(rt: HostRuntime) -> Result<(), Fail> {
-    assert!(rt; played(&rt, rt.alloc(), 3, Play::FourOfOne)?);
-    Ok(())
-}
-
-#[test]
-fn a_recovery_beside_two_owners(rt: HostRuntime) -> Result<(), Fail> {
-    assert!(rt; played(&rt, rt.alloc(), 70, Play::OneDies)?);
-    Ok(())
-}
-
-#[test]
-fn owners_die_beside_two_others(rt: HostRuntime) -> Result<(), Fail> {
-    assert!(rt; played_as(&rt, rt.alloc(), 6, owned::Play::ManyDie)?);
-    Ok(())
-}
-
-/// A count that does not look once more whether anything has changed misses the index.
-#[test]
-fn a_count_beside_one_who_always_holds_one(rt: HostRuntime) -> Result<(), Fail> {
-    assert!(rt; played_as(&rt, rt.alloc(), BETWEEN + 2, owned::Play::Counting)?);
-    Ok(())
-}
-
-#[test]
-fn nobody_gets_in_once_it_is_locked(rt: HostRuntime) -> Result<(), Fail> {
-    let enough = Enough::new(&rt);
-    let mut well = true;
-    for round in 0..ROUNDS {
-        if round < LEAST || enough.has_time(&rt) {
-            well &= played_as(&rt, rt.alloc(), 64, owned::Play::OneLocks(First::of(round)))?;
-        }
+    guest: &mut G,
+    room: &Room,
+    what: Part,
+) -> Option<bool>
+where
+    G::Held: Send,
+{
+    match what {
+        Part::Count => count(rt, guest),
+        Part::Die => die(rt, guest, room),
+        _ => indices::play(rt, guest, room, what),
     }
-    assert!(rt; well);
-    Ok(())
-}
-
-#[test]
-fn four_visit_until_it_is_locked(rt: HostRuntime) -> Result<(), Fail> {
-    let enough = Enough::new(&rt);
-    let mut well = true;
-    for round in 0..ROUNDS {
-        if round < LEAST || enough.has_time(&rt) {
-            let hall = Hall::new(rt.alloc(), 3)?;
-            well &= played_as(&rt, rt.alloc(), 3, owned::Play::FourVisit(&hall))?;
-        }
-    }
-    assert!(rt; well);
-    Ok(())
 }

@@ -1,6 +1,6 @@
 //! Where a thread rests in the middle of what it does until others have gone on. So what it does and what they do overlap
 //! whoever has the processor.
-use crate::limit::{Limit, TURNS};
+use crate::limit::Limit;
 use std::sync::atomic::{AtomicU64, Ordering};
 
 /// What those who rest and those who go on tell each other.
@@ -21,7 +21,10 @@ pub struct Rests {
 }
 
 impl Rests {
-    fn new(number: u64, lookers: u64) -> Rests {
+    /// Of so many threads, of whom so many go on without a rest as long as any of the others do, and are waited for: a
+    /// rest contains a whole turn of one of them. Where none does, each rests until another comes to a rest too. Who came
+    /// last rests on; so at most one of them does not go on.
+    pub fn of(number: u64, lookers: u64) -> Rests {
         Rests {
             number,
             lookers,
@@ -32,20 +35,8 @@ impl Rests {
         }
     }
 
-    /// Of so many threads, each of whom rests until another comes to a rest too. Who came last rests on; so at most one of
-    /// them does not go on.
-    pub fn of(number: u64) -> Rests {
-        Rests::new(number, 0)
-    }
-
-    /// Of so many threads, of whom so many go on without a rest as long as any of the others do, and are waited for: a
-    /// rest contains a whole turn of one of them.
-    pub fn beside(number: u64, lookers: u64) -> Rests {
-        Rests::new(number, lookers)
-    }
-
     /// The time at which a rest that begins now is over.
-    fn end(&self) -> u64 {
+    fn end_time(&self) -> u64 {
         if self.lookers == 0 {
             self.clock.fetch_add(1, Ordering::SeqCst).wrapping_add(2)
         } else {
@@ -61,8 +52,8 @@ impl Rests {
 
     /// Rests until others have gone on, or there are none any more. False at the limit.
     pub fn rest(&self) -> bool {
-        let end = self.end();
-        let mut limit = Limit::new(TURNS);
+        let end = self.end_time();
+        let mut limit = Limit::new();
         for _ in 0..u64::MAX {
             if self.clock.load(Ordering::SeqCst) >= end {
                 self.crossed.fetch_add(1, Ordering::SeqCst);
@@ -71,35 +62,33 @@ impl Rests {
             if self.is_alone() {
                 return true;
             }
-            if !limit.waits() {
+            if !limit.wait() {
                 return false;
             }
         }
         false
     }
 
-    /// Rests where that is due, which it is at each time of so many.
+    /// Rests where that is due, which it is at each time of so many; never where that is 0.
     pub fn rest_at(&self, at: u64, every: u64) -> bool {
         every == 0 || at % every != 0 || self.rest()
     }
 
-    /// Notes a turn of one who goes on without a rest.
-    pub fn goes_on(&self) {
+    /// Notes a turn of one who goes on without a rest, and whether it saw something.
+    pub fn go_on(&self, saw: bool) {
+        if saw {
+            self.seen.fetch_add(1, Ordering::SeqCst);
+        }
         self.clock.fetch_add(1, Ordering::SeqCst);
     }
 
-    /// Notes that one who goes on saw something.
-    pub fn sees(&self) {
-        self.seen.fetch_add(1, Ordering::SeqCst);
-    }
-
     /// Notes that one who rests has ended.
-    pub fn ends(&self) {
+    pub fn end(&self) {
         self.ended.fetch_add(1, Ordering::SeqCst);
     }
 
     /// Notes that one who goes on has ended: nobody waits any more.
-    pub fn ends_all(&self) {
+    pub fn end_all(&self) {
         self.ended.fetch_add(self.number, Ordering::SeqCst);
     }
 

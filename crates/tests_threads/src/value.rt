@@ -1,12 +1,10 @@
 //! The single value: one thread stores, and two load.
-use crate::limit::{Limit, TURNS};
 use crate::rests::Rests;
-use crate::tasks::{Ends, Task, three_run};
+use crate::tasks::{Beside, Turn, Turns, User, run_three};
 use lock_free::spmc::unrestricted_atomic::{Handle, Producer, UnrestrictedAtomic};
 use std::sync::Wait;
 use std::test::Fail;
 use std::thread::Threads;
-use std::time::Clock;
 
 /// A value of two numbers, which are equal.
 type Pair = (u64, u64);
@@ -20,128 +18,87 @@ const FIRST_VERSION: u64 = 2;
 /// At which pairs one rests who stores: each one of so many.
 const EVERY: u64 = 1000;
 
-/// Stores (1, 1) to the last pair, and rests after some while the others load.
+/// Stores the pairs of 1 to the last number, and rests after some while the others load.
 #[derive(Drop)]
 struct Stores<'a, 's> {
     producer: Producer<'a, Pair>,
     rests: &'s Rests,
 }
 
-impl<'a, 's> Task for Stores<'a, 's> {
-    fn run(self, _rt: &(impl Wait + Clock)) -> bool {
-        let Stores {
-            mut producer,
-            rests,
-        } = self;
-        let mut stored = true;
-        for number in 0..LAST {
-            let number = number.wrapping_add(1);
-            stored &= producer.store((number, number)) && rests.rest_at(number, EVERY);
-        }
-        stored
+impl<'a, 's> User for Stores<'a, 's> {
+    fn turn(&mut self, _rt: &impl Wait, at: u64) -> Turn {
+        let number = at.wrapping_add(1);
+        let stored = self.producer.store((number, number));
+        Turn::of(stored && self.rests.rest_at(number, EVERY))
     }
 }
 
-/// Loads until it sees the last pair. It answers whether the halves of each pair are equal, and none is below the one
-/// before.
-struct Loads<'a, 's> {
+/// Loads: the halves of each pair are equal, none is below the one before, and the version lies between those before and after.
+struct Loads<'a> {
     value: Handle<'a, Pair>,
-    rests: &'s Rests,
+    last: u64,
 }
 
-impl<'a, 's> Drop for Loads<'a, 's> {
+impl<'a> Drop for Loads<'a> {
     fn drop(self) {
         let Self {
             value: _value,
-            rests: _,
+            last: _,
         } = self;
     }
 }
 
-impl<'a, 's> Loads<'a, 's> {
-    /// The number of the pair that it sees, where its halves are equal, and its version is between those before and after.
-    fn load(&mut self, rt: &impl Wait) -> Option<u64> {
+impl<'a> User for Loads<'a> {
+    fn turn(&mut self, rt: &impl Wait, _at: u64) -> Turn {
         let before = self.value.version();
         let (left, right) = self.value.load(rt);
         let after = self.value.version();
         let version = left.wrapping_add(FIRST_VERSION);
-        if left == right && before <= version && version <= after {
-            Some(left)
+        let last = self.last;
+        self.last = left;
+        if left != right || left < last || version < before || after < version {
+            Turn::Wrong
+        } else if left == last {
+            Turn::Nothing
         } else {
-            None
+            Turn::Right
         }
-    }
-
-    /// The number of the pair that comes after this one. None where it comes otherwise, and at the limit.
-    fn next(&mut self, rt: &impl Wait, last: u64) -> Option<u64> {
-        let mut limit = Limit::new(TURNS);
-        for _ in 0..u64::MAX {
-            let number = self.load(rt)?;
-            self.rests.goes_on();
-            if number != last {
-                return if number > last { Some(number) } else { None };
-            }
-            if !limit.waits() {
-                return None;
-            }
-        }
-        None
-    }
-
-    fn loads(&mut self, rt: &impl Wait) -> bool {
-        let mut last = 0;
-        for _ in 0..LAST {
-            let Some(number) = self.next(rt, last) else {
-                return false;
-            };
-            self.rests.sees();
-            if number == LAST {
-                return true;
-            }
-            last = number;
-        }
-        false
     }
 }
 
-impl<'a, 's> Task for Loads<'a, 's> {
-    fn run(mut self, rt: &(impl Wait + Clock)) -> bool {
-        let well = self.loads(rt);
-        self.rests.ends_all();
-        well
-    }
-}
-
-/// One who loads.
-fn loader<'a, 's>(value: &mut Handle<'a, Pair>, rests: &'s Rests) -> Option<Loads<'a, 's>> {
+/// One who loads, by a handle that is split off.
+fn loader<'a>(value: &mut Handle<'a, Pair>) -> Option<Loads<'a>> {
     let value = value.split()?;
-    Some(Loads { value, rests })
+    Some(Loads { value, last: 0 })
 }
 
 /// Whether one who stores and two who load see what they must, and one of these a new pair in each rest of the first.
 /// None where the role or a further handle is not to be had.
-fn stores_and_loads<R: Wait + Threads + Clock + Sync>(
-    rt: &R,
-    mut value: Handle<'_, Pair>,
-) -> Option<bool> {
-    let rests = Rests::beside(3, 2);
-    let loaders = loader(&mut value, &rests).zip(loader(&mut value, &rests));
+fn store_and_load<R: Wait + Threads + Sync>(rt: &R, mut value: Handle<'_, Pair>) -> Option<bool> {
+    let rests = Rests::of(3, 2);
+    let (one, other) = loader(&mut value).zip(loader(&mut value))?;
     let mut last = value.split()?;
-    let ((one, other), producer) = loaders.zip(value.acquire_producer().ok())?;
+    let producer = value.acquire_producer().ok()?;
     let had = last.has_producer() && last.version() == FIRST_VERSION;
     let stores = Stores {
         producer,
         rests: &rests,
     };
-    let well = three_run(rt, Ends::of(stores, &rests), one, other);
+    let well = run_three(
+        rt,
+        Turns::of(stores, LAST, &rests),
+        Beside::of(one, &rests),
+        Beside::of(other, &rests),
+    );
     let least = LAST / EVERY - 1;
     let ended = !last.has_producer() && last.version() == FIRST_VERSION + LAST;
+    let ended = ended && last.load(rt) == (LAST, LAST);
     Some(had && well && ended && rests.crossed() >= least && rests.seen() >= least)
 }
 
 #[test]
 fn pairs_from_one_writer_to_two_readers(rt: HostRuntime) -> Result<(), Fail> {
     let (value, pass) = UnrestrictedAtomic::new(rt.alloc(), (0, 0))?;
-    assert!(rt; stores_and_loads(&rt, value.handle(pass)) == Some(true));
+    assert!(rt; store_and_load(&rt, value.handle(pass)) == Some(true));
     Ok(())
 }
