@@ -1,26 +1,20 @@
-//! Calls over written words: the calls of a machine without its rules.
-use crate::calls;
-use crate::stage::Stage;
+//! Words, what a family keeps beside them, and calls on them.
 use machine::event::{Event, Start};
-use machine::families::{Beside, Registry};
-use machine::party::{Doing, Latest, Party, Progress, Seat};
+use machine::families::Registry;
+use machine::party::Progress;
 use machine::turn::{Kind, Refusal, Shape, Turn};
-use schedule::bare::read_words;
+use schedule::bare::{line_of, line_of_refusal, read_command, read_words, text_of};
+use schedule::grammar::Command;
+use schedule::pen::Pen;
 use std::alloc::Global;
-use std::collections::BTreeMap;
-use steps::ask::{Ask, Want};
-use steps::container::state::ContainerState;
 use steps::enums::OwnerId;
 use steps::indices::head::HeadDetails;
-use tests_texts::text::{number, numbers};
-use turns::families::{self, is_asking};
-use turns::party::{flight_of, progress_of};
-use turns::words;
+use turns::families;
 
 /// The latest call of each party, for those who do not name the calls of all families.
 pub trait Calls {
     /// The party begins the call, if it may.
-    fn begins(
+    fn begin(
         &mut self,
         kind: Kind,
         capacity: u32,
@@ -30,32 +24,39 @@ pub trait Calls {
     ) -> Result<(), Refusal>;
 
     /// The party's call takes its step, or is handed a decision.
-    fn goes_on(
-        &mut self,
-        number: u32,
-        said: Option<bool>,
-        words: &mut Vec<u64>,
-        kept: &mut Registry<u128>,
-        events: &mut Vec<Event<u128>>,
-    ) -> Result<(), Refusal>;
+    fn go_on(&mut self, number: u32, said: Option<bool>, world: &mut World) -> Result<(), Refusal>;
 
     fn progress(&self, party: u32) -> Option<Progress>;
 
     fn is_going(&self, party: u32) -> bool;
 
-    /// A row of a call under way.
-    fn row(&self, party: u32, word: &str, rest: &str) -> Option<bool>;
+    /// What a call under way says of itself. None where there is none, or it says no such thing.
+    fn tell(&self, party: u32, word: &str, rest: &str, pen: &mut Pen) -> Option<()>;
 }
 
-/// Words, what a family keeps beside them, and the latest call of each party.
-pub struct Bare<C> {
+/// The words, what a family keeps beside them, and what happened.
+pub struct World {
+    pub words: Vec<u64>,
+    pub kept: Registry<u128>,
+    pub events: Vec<Event<u128>>,
+}
+
+impl Drop for World {
+    fn drop(self) {
+        let Self {
+            words: _words,
+            kept: _kept,
+            events: _events,
+        } = self;
+    }
+}
+
+struct Bare<C> {
     alloc: Global,
     kind: Kind,
     capacity: u32,
-    words: Vec<u64>,
-    kept: Registry<u128>,
+    world: World,
     calls: C,
-    events: Vec<Event<u128>>,
 }
 
 impl<C: Drop> Drop for Bare<C> {
@@ -64,10 +65,8 @@ impl<C: Drop> Drop for Bare<C> {
             alloc: _,
             kind: _,
             capacity: _,
-            words: _words,
-            kept: _kept,
+            world: _world,
             calls: _calls,
-            events: _events,
         } = self;
     }
 }
@@ -81,178 +80,37 @@ fn write_death<T: Copy>(events: &mut Vec<Event<T>>, owner: OwnerId) -> bool {
     true
 }
 
-fn opening(alloc: Global, shape: Shape) -> Option<(Vec<u64>, Registry<u128>)> {
-    let capacity = u32::try_from(shape.capacity()).ok()?;
-    let queue = u32::try_from(shape.queue()).ok()?;
-    families::opening::<u128>(alloc, shape.kind(), capacity, queue).ok()
+fn put_numbers(numbers: &mut Vec<u64>, text: &str) -> Option<()> {
+    for word in text.split(' ') {
+        numbers.push(word.parse().ok()?).ok()?;
+    }
+    Some(())
 }
 
-/// The operation that a step does, and none with a decision.
-fn asked(want: Want<()>, said: Option<bool>) -> Result<Option<Ask>, Refusal> {
-    match (want, said) {
-        (Want::Ask(ask), None) => Ok(Some(ask)),
-        (Want::Question(_), Some(_)) | (Want::Nothing, None) => Ok(None),
-        _ => Err(Refusal::Undecided),
-    }
-}
-
-/// Marks the party's call as done. It is a function of its own since the call's flight is dropped here, which has many
-/// cases.
-fn finish(party: &mut Party<u128>) {
-    party.doing = Doing::Over(0);
-}
-
-/// Lets a call take its step, or hands it a decision: as a machine does.
-fn advance(
-    party: &mut Party<u128>,
-    number: u32,
-    said: Option<bool>,
-    beside: Beside,
-    words: &mut Vec<u64>,
-    kept: &mut Registry<u128>,
-    events: &mut Vec<Event<u128>>,
-) -> Result<(), Refusal> {
-    let Doing::Going(flight, _) = &mut party.doing else {
-        return Err(Refusal::Idle);
-    };
-    let (want, most) = families::going(flight);
-    let ask = asked(want, said)?;
-    if let Some(refusal) = families::going_refusal(flight, kept, said) {
-        return Err(refusal);
-    }
-    let Ok(()) = events.reserve(most + 1) else {
-        return Err(Refusal::NoMemory);
-    };
-    let access = words::read(words, ask);
-    let answer = match said {
-        Some(said) => u64::from(said),
-        None => access.old,
-    };
-    let went = families::advance(
-        flight,
-        number,
-        &party.start,
-        words,
-        beside,
-        answer,
-        kept,
-        events,
-    );
-    party.steps = party.steps.wrapping_add(words::count(ask));
-    party.backs = party.backs.wrapping_add(u64::from(went.back));
-    if let Some(answer) = went.done {
-        events.push_reserved(Event::Finished(number, party.start, answer));
-        finish(party);
-    }
-    words::write(words, access);
-    Ok(())
-}
-
-/// Where the latest call of each party is.
-pub struct Seats {
-    alloc: Global,
-    latest: Latest<u128>,
-}
-
-impl Drop for Seats {
-    fn drop(self) {
-        let Self {
-            alloc: _,
-            latest: _latest,
-        } = self;
-    }
-}
-
-impl Seats {
-    pub fn new(alloc: Global) -> Seats {
-        Seats {
-            alloc,
-            latest: BTreeMap::new(alloc),
-        }
-    }
-}
-
-impl Calls for Seats {
-    fn begins(
-        &mut self,
-        kind: Kind,
-        capacity: u32,
-        kept: &Registry<u128>,
-        number: u32,
-        start: Start<u128>,
-    ) -> Result<(), Refusal> {
-        if flight_of(&self.latest, number).is_some() {
-            return Err(Refusal::Busy);
-        }
-        let flight = families::admit(self.alloc, kind, capacity, kept, number, &start)?;
-        let party = Party {
-            start,
-            steps: 0,
-            backs: 0,
-            doing: Doing::Going(flight, 0),
-        };
-        let Ok(party) = Box::new(self.alloc, party) else {
-            return Err(Refusal::NoMemory);
-        };
-        match self.latest.insert(number, Seat { party }) {
-            Ok(_) => Ok(()),
-            Err(_) => Err(Refusal::NoMemory),
-        }
-    }
-
-    fn goes_on(
-        &mut self,
-        number: u32,
-        said: Option<bool>,
-        words: &mut Vec<u64>,
-        kept: &mut Registry<u128>,
-        events: &mut Vec<Event<u128>>,
-    ) -> Result<(), Refusal> {
-        let beside = families::look_beside(kept, words, &self.latest, number);
-        let Some(seat) = self.latest.get_mut(&number) else {
-            return Err(Refusal::Idle);
-        };
-        advance(&mut *seat.party, number, said, beside, words, kept, events)
-    }
-
-    fn progress(&self, party: u32) -> Option<Progress> {
-        progress_of(&self.latest, 0, party)
-    }
-
-    fn is_going(&self, party: u32) -> bool {
-        match flight_of(&self.latest, party) {
-            Some(flight) => !is_asking(flight),
-            None => false,
-        }
-    }
-
-    fn row(&self, party: u32, word: &str, rest: &str) -> Option<bool> {
-        calls::row(flight_of(&self.latest, party)?, word, rest)
-    }
-}
-
-impl<C: Calls + Drop> Bare<C> {
-    /// Opens what the first line of a schedule names: the words of its opening, beside these calls.
-    pub fn opened(alloc: Global, calls: C, line: &str) -> Option<Bare<C>> {
-        let shape = read_words(line.as_bytes()).ok()?.shape;
-        let (words, kept) = opening(alloc, shape)?;
-        Some(Bare {
-            alloc,
-            kind: shape.kind(),
-            capacity: u32::try_from(shape.capacity()).ok()?,
+impl World {
+    fn opened(alloc: Global, shape: Shape) -> Option<World> {
+        let capacity = u32::try_from(shape.capacity()).ok()?;
+        let queue = u32::try_from(shape.queue()).ok()?;
+        let (words, kept) = families::opening::<u128>(alloc, shape.kind(), capacity, queue).ok()?;
+        Some(World {
             words,
             kept,
-            calls,
             events: Vec::new(alloc),
         })
     }
 
-    fn begins(&mut self, number: u32, start: Start<u128>) -> Result<(), Refusal> {
-        self.calls
-            .begins(self.kind, self.capacity, &self.kept, number, start)?;
-        if !families::keep(&mut self.kept, self.capacity, &start, number) {
-            return Err(Refusal::NoMemory);
+    fn die(&mut self, owner: OwnerId) -> Result<(), Refusal> {
+        if let Some(refusal) = families::death_refusal(&self.kept, owner) {
+            return Err(refusal);
         }
+        if families::mark_dead(&mut self.kept, owner) && write_death(&mut self.events, owner) {
+            Ok(())
+        } else {
+            Err(Refusal::NoMemory)
+        }
+    }
+
+    fn write_begun(&mut self, number: u32, start: Start<u128>) -> Result<(), Refusal> {
         let Ok(()) = self.events.reserve(1) else {
             return Err(Refusal::NoMemory);
         };
@@ -260,55 +118,20 @@ impl<C: Calls + Drop> Bare<C> {
         Ok(())
     }
 
-    fn goes_on(&mut self, number: u32, said: Option<bool>) -> Result<(), Refusal> {
-        self.calls.goes_on(
-            number,
-            said,
-            &mut self.words,
-            &mut self.kept,
-            &mut self.events,
-        )
-    }
-
-    fn keeps_dead(&mut self, owner: OwnerId) -> bool {
-        families::mark_dead(&mut self.kept, owner)
-    }
-
-    fn dies(&mut self, owner: OwnerId) -> Result<(), Refusal> {
-        if let Some(refusal) = families::death_refusal(&self.kept, owner) {
-            return Err(refusal);
-        }
-        if self.keeps_dead(owner) && write_death(&mut self.events, owner) {
-            Ok(())
-        } else {
-            Err(Refusal::NoMemory)
-        }
-    }
-
-    /// The words are these from now on.
-    fn sets(&mut self, rest: &str) -> Option<bool> {
-        self.words = numbers(self.alloc, rest)?;
-        Some(true)
-    }
-
-    fn puts(&mut self, at: usize, word: u64) -> bool {
-        match self.words.get_mut(at) {
-            Some(old) => {
-                *old = word;
-                true
-            }
-            None => false,
-        }
+    fn put(&mut self, at: usize, word: u64) -> Option<()> {
+        let old = self.words.get_mut(at)?;
+        *old = word;
+        Some(())
     }
 
     /// `3 7`: another party writes this word.
-    fn writes(&mut self, rest: &str) -> Option<bool> {
+    fn write(&mut self, rest: &str) -> Option<()> {
         let (at, word) = rest.split_once(' ')?;
-        Some(self.puts(at.parse().ok()?, number(word)?))
+        self.put(at.parse().ok()?, word.parse().ok()?)
     }
 
     /// `0 65535 2`: it writes the head of a unique index set.
-    fn writes_head(&mut self, rest: &str) -> Option<bool> {
+    fn write_head(&mut self, rest: &str) -> Option<()> {
         let (head, rest) = rest.split_once(' ')?;
         let (aba, borrowed) = rest.split_once(' ')?;
         let details = HeadDetails {
@@ -316,71 +139,186 @@ impl<C: Calls + Drop> Bare<C> {
             aba: aba.parse().ok()?,
             borrowed_indices: borrowed.parse().ok()?,
         };
-        Some(self.puts(0, details.value()))
+        self.put(0, details.value())
     }
 
     /// The party holds this index from now on.
-    fn holds(&mut self, party: u32, index: u32) -> bool {
+    fn hold(&mut self, party: u32, index: u32) -> Option<()> {
         match &mut self.kept {
             Registry::Indices(holders) => {
                 holders.put(index, Some(party));
-                true
+                Some(())
             }
-            _ => false,
+            _ => None,
+        }
+    }
+
+    fn tell_events(&self, before: usize, pen: &mut Pen) {
+        for at in before..self.events.len() {
+            if let Some(event) = self.events.get(at) {
+                let line = line_of(event);
+                pen.put(text_of(&line));
+                pen.put("\n");
+            }
+        }
+    }
+
+    fn tell_words(&self, pen: &mut Pen) {
+        pen.put("words");
+        for word in self.words.iter() {
+            pen.large(" ", u128::from(*word));
+        }
+        pen.put("\n");
+    }
+
+    /// What the party's state shows at an index.
+    fn value(&self, party: u32, index: u32) -> Option<u128> {
+        match &self.kept {
+            Registry::Container(_, states) => states.get(party)?.get(index as usize).copied(),
+            _ => None,
+        }
+    }
+
+    fn tell_state(&self, party: u32, capacity: u32, pen: &mut Pen) {
+        for index in 0..capacity {
+            if let Some(value) = self.value(party, index) {
+                pen.large("state ", u128::from(party));
+                pen.large(" ", u128::from(index));
+                pen.large(" ", value);
+                pen.put("\n");
+            }
         }
     }
 }
 
-impl<C: Calls + Drop> Stage for Bare<C> {
-    fn kind(&self) -> Kind {
-        self.kind
+fn tell_refusal(refusal: Refusal, pen: &mut Pen) {
+    let line = line_of_refusal(refusal);
+    pen.put(text_of(&line));
+    pen.put("\n");
+}
+
+fn tell_progress(party: u32, progress: Progress, pen: &mut Pen) {
+    pen.large("call ", u128::from(party));
+    pen.large(" ", u128::from(progress.steps));
+    pen.large(" ", u128::from(progress.backs));
+    pen.large(" ", u128::from(progress.others));
+    pen.put(if progress.finished { " ended\n" } else { "\n" });
+}
+
+impl<C: Calls> Bare<C> {
+    fn begin(&mut self, number: u32, start: Start<u128>) -> Result<(), Refusal> {
+        self.calls
+            .begin(self.kind, self.capacity, &self.world.kept, number, start)?;
+        if !families::keep(&mut self.world.kept, self.capacity, &start, number) {
+            return Err(Refusal::NoMemory);
+        }
+        self.world.write_begun(number, start)
     }
 
     fn step(&mut self, turn: Turn<u128>) -> Result<(), Refusal> {
         match turn {
-            Turn::Begin(number, start) => self.begins(number, start),
-            Turn::Next(number) => self.goes_on(number, None),
-            Turn::Decide(number, said) => self.goes_on(number, Some(said)),
-            Turn::Die(owner) => self.dies(owner),
+            Turn::Begin(number, start) => self.begin(number, start),
+            Turn::Next(number) => self.calls.go_on(number, None, &mut self.world),
+            Turn::Decide(number, said) => self.calls.go_on(number, Some(said), &mut self.world),
+            Turn::Die(owner) => self.world.die(owner),
         }
     }
 
-    fn words(&self) -> &[u64] {
-        &self.words
-    }
-
-    fn events(&self) -> &[Event<u128>] {
-        &self.events
-    }
-
-    fn progress(&self, party: u32) -> Option<Progress> {
-        self.calls.progress(party)
-    }
-
-    fn is_going(&self, party: u32) -> bool {
-        self.calls.is_going(party)
-    }
-
-    fn state(&self, party: u32) -> Option<&ContainerState<u128>> {
-        match &self.kept {
-            Registry::Container(_, states) => states.get(party),
-            _ => None,
+    /// Takes a turn, and prints what it did below the number of its line. Whether it was taken.
+    fn take(&mut self, number: u64, turn: Turn<u128>, pen: &mut Pen) -> bool {
+        let before = self.world.events.len();
+        let went = self.step(turn);
+        pen.large("turn ", u128::from(number));
+        pen.put("\n");
+        self.world.tell_events(before, pen);
+        match went {
+            Ok(()) => true,
+            Err(refusal) => {
+                tell_refusal(refusal, pen);
+                false
+            }
         }
     }
 
-    fn row(&mut self, word: &str, rest: &str) -> Option<bool> {
+    fn take_all(&mut self, number: u64, command: Command, pen: &mut Pen) {
+        match command {
+            Command::Once(turn) => {
+                self.take(number, turn, pen);
+            }
+            Command::Times(party, most) => {
+                for _ in 0..most {
+                    if !self.take(number, Turn::Next(party), pen) || !self.calls.is_going(party) {
+                        break;
+                    }
+                }
+            }
+        }
+    }
+
+    /// The words are these from now on.
+    fn set(&mut self, rest: &str) -> Option<()> {
+        let mut words = Vec::new(self.alloc);
+        put_numbers(&mut words, rest)?;
+        self.world.words = words;
+        Some(())
+    }
+
+    fn show(&self, party: u32, pen: &mut Pen) {
+        self.world.tell_words(pen);
+        if let Some(progress) = self.calls.progress(party) {
+            tell_progress(party, progress, pen);
+        }
+        self.world.tell_state(party, self.capacity, pen);
+    }
+
+    fn do_for(&mut self, party: u32, rest: &str, pen: &mut Pen) -> Option<()> {
+        let (word, rest) = rest.split_once(' ').unwrap_or((rest, ""));
         match word {
-            "words" => self.sets(rest),
-            "write" => self.writes(rest),
-            "head" => self.writes_head(rest),
-            _ => None,
+            "shows" => {
+                self.show(party, pen);
+                Some(())
+            }
+            "holds" => self.world.hold(party, rest.parse().ok()?),
+            _ => self.calls.tell(party, word, rest, pen),
         }
     }
 
-    fn row_of(&mut self, party: u32, word: &str, rest: &str) -> Option<bool> {
+    /// What is no turn of a schedule.
+    fn do_other(&mut self, line: &str, pen: &mut Pen) -> Option<()> {
+        let (word, rest) = line.split_once(' ')?;
         match word {
-            "holds" => Some(self.holds(party, rest.parse().ok()?)),
-            _ => self.calls.row(party, word, rest),
+            "words" => self.set(rest),
+            "write" => self.world.write(rest),
+            "head" => self.world.write_head(rest),
+            _ => self.do_for(word.parse().ok()?, rest, pen),
         }
     }
+
+    fn do_line(&mut self, number: u64, line: &str, pen: &mut Pen) {
+        if let Ok(command) = read_command(self.kind, line.as_bytes()) {
+            return self.take_all(number, command, pen);
+        }
+        pen.large("turn ", u128::from(number));
+        pen.put("\n");
+        if self.do_other(line, pen).is_none() {
+            pen.put("refused Unread\n");
+        }
+    }
+}
+
+/// Opens what the first line names, with these calls, and does what the other lines say. None where nothing is opened.
+pub fn play<C: Calls + Drop>(alloc: Global, calls: C, text: &str, pen: &mut Pen) -> Option<()> {
+    let (first, rest) = text.split_once('\n')?;
+    let shape = read_words(first.as_bytes()).ok()?.shape;
+    let mut bare = Bare {
+        alloc,
+        kind: shape.kind(),
+        capacity: u32::try_from(shape.capacity()).ok()?,
+        world: World::opened(alloc, shape)?,
+        calls,
+    };
+    for (at, line) in rest.lines().enumerate() {
+        bare.do_line((at as u64).wrapping_add(2), line, pen);
+    }
+    Some(())
 }

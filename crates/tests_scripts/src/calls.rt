@@ -4,140 +4,118 @@ use machine::families::bits::calls::BitsFlight;
 use machine::families::indices::calls::IndexFlight;
 use machine::families::indices::robust::calls::RobustFlight;
 use machine::families::queues::calls::{OverflowCall, QueueFlight};
+use schedule::pen::Pen;
 use steps::ask::{Ask, Op, Question, Want};
 use steps::indices::unique::AcquireStage;
-use tests_texts::text::number;
 use turns::families::{atomic, bits, container, going, indices, loan, queues};
 
-/// A call under way, for those who do not name the calls of all families: a function that does is proved with the types
-/// of all of them.
-pub trait Call {
-    /// Whether it begins a turn of its loop again once it is handed this.
-    fn goes_back(&self, answer: u64) -> bool;
-
-    /// The index at which an acquire scans the claim flags.
-    fn scanned(&self) -> Option<u32>;
-
-    /// Whose index a recovery frees where it is handed this, and which.
-    fn freed(&self, answer: u64) -> Option<(u64, u32)>;
-
-    /// The word in the room of a call that has one.
-    fn room(&self) -> Option<u64>;
-
-    fn wanted(&self) -> Want<()>;
-}
-
-impl Call for Flight<u128> {
-    fn goes_back(&self, answer: u64) -> bool {
-        match self {
-            Flight::Queues(call) => queues::calls::goes_back(call, answer),
-            Flight::Atomic(call) => atomic::calls::goes_back(call, answer),
-            Flight::Bits(call) => bits::calls::goes_back(call, answer),
-            Flight::Indices(call) => indices::calls::goes_back(call, answer),
-            Flight::Robust(call) => indices::robust::calls::goes_back(call, answer),
-            Flight::Container(call) => container::calls::goes_back(call, answer),
-            Flight::Loan(call) => loan::calls::goes_back(call, answer),
-        }
-    }
-
-    fn scanned(&self) -> Option<u32> {
-        let Flight::Indices(IndexFlight::Acquire(run)) = self else {
-            return None;
-        };
-        match run.call.stage {
-            AcquireStage::Scans { index } => Some(index),
-            _ => None,
-        }
-    }
-
-    fn freed(&self, answer: u64) -> Option<(u64, u32)> {
-        let Flight::Robust(RobustFlight::Recover(run)) = self else {
-            return None;
-        };
-        let (owner, index) = run.call.frees(answer)?;
-        Some((owner.value(), index))
-    }
-
-    fn room(&self) -> Option<u64> {
-        match self {
-            Flight::Queues(QueueFlight::Overflow(OverflowCall::Pop(run))) => Some(run.room.0),
-            Flight::Bits(BitsFlight::TakeAll(run)) => Some(run.room.0),
-            _ => None,
-        }
-    }
-
-    fn wanted(&self) -> Want<()> {
-        going(self).0
+/// Whether it begins a turn of its loop again once it is handed this.
+fn goes_back(call: &Flight<u128>, answer: u64) -> bool {
+    match call {
+        Flight::Queues(call) => queues::calls::goes_back(call, answer),
+        Flight::Atomic(call) => atomic::calls::goes_back(call, answer),
+        Flight::Bits(call) => bits::calls::goes_back(call, answer),
+        Flight::Indices(call) => indices::calls::goes_back(call, answer),
+        Flight::Robust(call) => indices::robust::calls::goes_back(call, answer),
+        Flight::Container(call) => container::calls::goes_back(call, answer),
+        Flight::Loan(call) => loan::calls::goes_back(call, answer),
     }
 }
 
-/// `7 yes`: whether it begins a turn of its loop again where it is handed 7.
-fn is_back<C: Call>(call: &C, rest: &str) -> Option<bool> {
-    let (answer, back) = rest.split_once(' ')?;
-    Some(call.goes_back(number(answer)?) == (back == "yes"))
-}
-
-/// `1 -> 2 0`: where it is handed 1, the call frees index 0 of owner 2. `1 -> none`: it frees nothing.
-fn frees<C: Call>(call: &C, rest: &str) -> Option<bool> {
-    let (answer, freed_so) = rest.split_once(" -> ")?;
-    let freed = call.freed(number(answer)?);
-    match freed_so.split_once(' ') {
-        Some((owner, index)) => Some(freed == Some((number(owner)?, index.parse().ok()?))),
-        None => Some(freed_so == "none" && freed.is_none()),
-    }
-}
-
-fn asks(question: Question<()>, rest: &str) -> Option<bool> {
-    match question {
-        Question::Index(at) => Some(rest.parse() == Ok(at)),
-        Question::Value(at, ()) => Some(rest.parse() == Ok(at)),
-        Question::Owned(owner, at) => {
-            let (index, of) = rest.split_once(" of ")?;
-            Some(index.parse() == Ok(at) && number(of)? == owner.value())
-        }
-    }
-}
-
-/// `0`, or `0 of 1` with its owner: the index about which the call asks.
-fn is_asking<C: Call>(call: &C, rest: &str) -> Option<bool> {
-    match call.wanted() {
-        Want::Question(question) => asks(question, rest),
-        _ => Some(false),
-    }
-}
-
-/// `load 4`, or `exchange 4 0 1`: the word, what it has to be and what it becomes.
-fn operation(rest: &str) -> Option<Ask> {
-    let (name, rest) = rest.split_once(' ')?;
-    if name == "load" {
-        let word = rest.parse().ok()?;
-        return Some(Ask { word, op: Op::Load });
-    }
-    let (word, rest) = rest.split_once(' ')?;
-    let (old, new) = rest.split_once(' ')?;
-    let op = Op::Exchange(number(old)?, number(new)?);
-    let word = word.parse().ok()?;
-    Some(Ask { word, op })
-}
-
-/// What the call wants next: an operation, or `nothing`.
-fn wants<C: Call>(call: &C, rest: &str) -> Option<bool> {
-    match call.wanted() {
-        Want::Ask(ask) => Some(ask == operation(rest)?),
-        Want::Nothing => Some(rest == "nothing"),
-        Want::Question(_) => Some(false),
-    }
-}
-
-/// A row of a call under way.
-pub fn row<C: Call>(call: &C, word: &str, rest: &str) -> Option<bool> {
-    match word {
-        "back" => is_back(call, rest),
-        "scans" => Some(call.scanned()? == rest.parse().ok()?),
-        "frees" => frees(call, rest),
-        "room" => Some(call.room()? == number(rest)?),
-        "asks" => is_asking(call, rest),
-        "wants" => wants(call, rest),
+/// The index at which an acquire scans the claim flags.
+fn scanned(call: &Flight<u128>) -> Option<u32> {
+    let Flight::Indices(IndexFlight::Acquire(run)) = call else {
+        return None;
+    };
+    match run.call.stage {
+        AcquireStage::Scans { index } => Some(index),
         _ => None,
     }
+}
+
+/// Whose index a recovery frees where it is handed this, and which.
+fn freed(call: &Flight<u128>, answer: u64) -> Option<(u64, u32)> {
+    let Flight::Robust(RobustFlight::Recover(run)) = call else {
+        return None;
+    };
+    let (owner, index) = run.call.frees(answer)?;
+    Some((owner.value(), index))
+}
+
+/// The word in the room of a call that has one.
+fn room(call: &Flight<u128>) -> Option<u64> {
+    match call {
+        Flight::Queues(QueueFlight::Overflow(OverflowCall::Pop(run))) => Some(run.room.0),
+        Flight::Bits(BitsFlight::TakeAll(run)) => Some(run.room.0),
+        _ => None,
+    }
+}
+
+fn tell_freed(freed: Option<(u64, u32)>, pen: &mut Pen) {
+    match freed {
+        Some((owner, index)) => {
+            pen.large("", u128::from(owner));
+            pen.large(" ", u128::from(index));
+        }
+        None => pen.put("none"),
+    }
+}
+
+fn tell_question(question: Question<()>, pen: &mut Pen) {
+    match question {
+        Question::Index(at) => pen.number("asks ", at),
+        Question::Value(at, ()) => pen.number("asks ", at),
+        Question::Owned(owner, at) => {
+            pen.number("asks ", at);
+            pen.large(" of ", u128::from(owner.value()));
+        }
+    }
+}
+
+/// An operation of those that are asked about, and the word: of an exchange what it has to be and what it becomes.
+fn tell_operation(ask: Ask, pen: &mut Pen) -> Option<()> {
+    match ask.op {
+        Op::Load => pen.number("load ", ask.word),
+        Op::Exchange(old, new) => {
+            pen.number("exchange ", ask.word);
+            pen.large(" ", u128::from(old));
+            pen.large(" ", u128::from(new));
+        }
+        _ => return None,
+    }
+    Some(())
+}
+
+/// What the call wants next: an operation, a decision, or nothing.
+fn tell_wanted(want: Want<()>, pen: &mut Pen) -> Option<()> {
+    match want {
+        Want::Ask(ask) => tell_operation(ask, pen),
+        Want::Nothing => {
+            pen.put("nothing");
+            Some(())
+        }
+        Want::Question(question) => {
+            tell_question(question, pen);
+            Some(())
+        }
+    }
+}
+
+/// `back 7`: whether it begins a turn of its loop again where it is handed 7, and so on.
+pub fn tell(call: &Flight<u128>, word: &str, rest: &str, pen: &mut Pen) -> Option<()> {
+    pen.put("said ");
+    match word {
+        "back" => pen.put(if goes_back(call, rest.parse().ok()?) {
+            "yes"
+        } else {
+            "no"
+        }),
+        "scans" => pen.large("", u128::from(scanned(call)?)),
+        "frees" => tell_freed(freed(call, rest.parse().ok()?), pen),
+        "room" => pen.large("", u128::from(room(call)?)),
+        "wants" => tell_wanted(going(call).0, pen)?,
+        _ => return None,
+    }
+    pen.put("\n");
+    Some(())
 }

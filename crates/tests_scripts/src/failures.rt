@@ -1,11 +1,16 @@
-//! Reads and writes that fail, and what is told of them.
-use crate::stopped::{STOPPED_PUSH, STOPPED_PUSH_OUTPUT};
-use schedule::bare::{ran_and_told, ran_in, told};
+//! Reads and writes that are interrupted or fail at each call, and what is told of them.
+use schedule::bare::{ran_in, told};
 use schedule::error::{Cause, ScheduleError};
 use std::alloc::{AllocError, Global};
 use std::io;
 use std::io::{ErrorKind, Read, Write};
-use std::test::Fail;
+
+/// A push that is stopped before it publishes, and what it prints.
+const STOPPED_PUSH: &[u8] =
+    b"index_queue 1 2\n0 begin acquire_producer\n0 next\n1 begin acquire_consumer\n1 next\n0 begin push 5\n0 next 3\n1 begin pop\n1 next 4\n0 next\n";
+
+const STOPPED_PUSH_OUTPUT: &[u8] =
+    b"0 begun acquire_producer\n0 finished acquire_producer -> true\n1 begun acquire_consumer\n1 finished acquire_consumer -> true\n0 begun push 5\n1 begun pop\n1 acted pop -> none\n1 finished pop -> none\n0 published 5\n0 acted push 5 -> true\n0 finished push 5 -> true\n";
 
 /// A reader or a writer that does a few bytes at a call, and fails from some call on.
 #[derive(Drop)]
@@ -101,23 +106,17 @@ fn ends_reading(
     })
 }
 
-#[test]
-fn failing_reads(rt: HostRuntime) -> Result<(), Fail> {
+/// Whether all ends right where the reads fail from each call on, or one of them is interrupted.
+pub fn reads_end_right(alloc: Global) -> Result<bool, AllocError> {
     for calls in 0..40 {
         // 132 bytes by 7 are 19 reads, and one more finds the end.
-        let whole = calls >= 20;
-        assert!(rt;
-            ends_reading(rt.alloc(), calls, ErrorKind::Other, whole)?,
-            "{calls}"
-        );
+        if !ends_reading(alloc, calls, ErrorKind::Other, calls >= 20)?
+            || !ends_reading(alloc, calls, ErrorKind::Interrupted, true)?
+        {
+            return Ok(false);
+        }
     }
-    for calls in 0..20 {
-        assert!(rt;
-            ends_reading(rt.alloc(), calls, ErrorKind::Interrupted, true)?,
-            "{calls}"
-        );
-    }
-    Ok(())
+    Ok(true)
 }
 
 /// How a run ends whose writes fail from this call on, and what it has written then.
@@ -142,38 +141,36 @@ fn has_ended_right(ended: Result<(), ScheduleError>, written: &[u8]) -> bool {
     }
 }
 
-#[test]
-fn failing_writes(rt: HostRuntime) {
-    let mut failures = 0u32;
-    for calls in 0..90 {
-        let (ended, written) = ends_writing(rt.alloc(), 5, calls, ErrorKind::Other);
-        assert!(rt; has_ended_right(ended, written.as_slice()), "{calls}");
-        // Each call before the failure has written.
-        assert!(rt; calls == 0 || !written.is_empty(), "{calls}");
-        if ended != Ok(()) {
-            failures = failures.wrapping_add(1);
-        }
-    }
-    assert!(rt; failures > 11 && failures < 90);
-    for calls in 0..60 {
-        let (ended, written) = ends_writing(rt.alloc(), 5, calls, ErrorKind::Interrupted);
-        assert!(rt;
-            ended == Ok(()) && written.as_slice() == STOPPED_PUSH_OUTPUT,
-            "{calls}"
-        );
-    }
-    // A writer that takes nothing.
-    let (ended, _) = ends_writing(rt.alloc(), 0, 90, ErrorKind::Other);
-    assert!(rt; ended == Err(ScheduleError::WriteFailed));
+/// Whether all ends right where the writes fail from this call on, after each before it has written, or where it is interrupted.
+fn ends_right(alloc: Global, calls: usize) -> bool {
+    let (ended, written) = ends_writing(alloc, 5, calls, ErrorKind::Other);
+    let (went_on, all) = ends_writing(alloc, 5, calls, ErrorKind::Interrupted);
+    has_ended_right(ended, written.as_slice())
+        && (calls == 0 || !written.is_empty())
+        && went_on == Ok(())
+        && all.as_slice() == STOPPED_PUSH_OUTPUT
 }
 
-#[test]
-fn failing_flushes(rt: HostRuntime) {
+/// Whether that is so of each call, of a writer that takes nothing, and of one that cannot let go of what it has.
+pub fn writes_end_right(alloc: Global) -> bool {
+    for calls in 0..90 {
+        if !ends_right(alloc, calls) {
+            return false;
+        }
+    }
+    let (none, _) = ends_writing(alloc, 0, 90, ErrorKind::Other);
+    let (all, _) = ends_writing(alloc, 5, 90, ErrorKind::Other);
+    none == Err(ScheduleError::WriteFailed) && all == Ok(()) && flushes_end_right(alloc)
+}
+
+fn flushes_end_right(alloc: Global) -> bool {
     for input in [STOPPED_PUSH, b"index_queue 1 1\n0 jump"] {
         let mut reader = input;
-        let ended = ran_in(rt.alloc(), rt.alloc(), &mut reader, &mut Stuck);
-        assert!(rt; ended == Err(ScheduleError::WriteFailed));
+        if ran_in(alloc, alloc, &mut reader, &mut Stuck) != Err(ScheduleError::WriteFailed) {
+            return false;
+        }
     }
+    true
 }
 
 /// How a run ended, what is told of it and the exit status.
@@ -208,33 +205,12 @@ fn is_told(alloc: Global, ran: &Result<(), ScheduleError>, wanted: &[u8], exit: 
         && wanted.starts_with(broken.bytes.as_slice())
 }
 
-#[test]
-fn what_is_told(rt: HostRuntime) {
-    for (at, (ran, wanted, exit)) in TOLD.iter().enumerate() {
-        assert!(rt; is_told(rt.alloc(), ran, wanted, *exit), "row {at}");
+/// Whether all is told so.
+pub fn are_told(alloc: Global) -> bool {
+    for (ran, wanted, exit) in &TOLD {
+        if !is_told(alloc, ran, wanted, *exit) {
+            return false;
+        }
     }
-}
-
-/// Whether a run ends with exit 1 and this line.
-fn fails<R: Read, W: Write>(alloc: Global, reader: &mut R, output: &mut W, wanted: &[u8]) -> bool {
-    let mut errors = Vec::new(alloc);
-    let exit = ran_and_told(alloc, alloc, reader, output, &mut errors);
-    exit == 1 && errors.as_slice() == wanted
-}
-
-#[test]
-fn a_failure_ends_with_exit_1(rt: HostRuntime) -> Result<(), Fail> {
-    let alloc = rt.alloc();
-    let input = Vec::from_slice(alloc, STOPPED_PUSH)?;
-    let mut written: Vec<u8> = Vec::new(alloc);
-    let mut reader = Faulty::new(input, 7, 3, ErrorKind::Other);
-    assert!(rt; fails(alloc, &mut reader, &mut written, b"read failed\n"));
-    assert!(rt; written.is_empty());
-    let mut writer = Faulty::new(Vec::new(alloc), 5, 2, ErrorKind::Other);
-    let mut reader = STOPPED_PUSH;
-    assert!(rt; fails(alloc, &mut reader, &mut writer, b"write failed\n"));
-    assert!(rt; writer.bytes.as_slice() == b"0 begun ac".as_slice());
-    let mut reader = STOPPED_PUSH;
-    assert!(rt; fails(alloc, &mut reader, &mut Stuck, b"write failed\n"));
-    Ok(())
+    true
 }

@@ -85,9 +85,9 @@ fn holds<T: Words + PartialEq>(alloc: Global, first: T, second: T) -> bool {
     goes_on(&mut machine, first, second, owner)
 }
 
-#[test]
-fn values_of_one_word_of_two_and_of_128(rt: HostRuntime) {
-    assert!(rt; holds::<u64>(rt.alloc(), u64::MAX, 5));
-    assert!(rt; holds::<u128>(rt.alloc(), 18446744073709551618, 36893488147419103233));
-    assert!(rt; holds::<Greatest>(rt.alloc(), Greatest(1, 9, u64::MAX), Greatest(3, 9, 4)));
+/// Whether they do so at values of one word, of two and of 128.
+pub fn of_three_sizes(alloc: Global) -> bool {
+    holds::<u64>(alloc, u64::MAX, 5)
+        && holds::<u128>(alloc, 18446744073709551618, 36893488147419103233)
+        && holds::<Greatest>(alloc, Greatest(1, 9, u64::MAX), Greatest(3, 9, 4))
 }

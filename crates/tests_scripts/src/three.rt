@@ -6,86 +6,28 @@ use machine::families::queues::QueueStart;
 use machine::turn::{Kind, Shape, Turn};
 use schedule::bare::{is_going, made_of, step};
 use std::alloc::Global;
-use std::test::Fail;
-use steps::words::Words;
+use tests_calls::long_values::Three;
 
-/// Three numbers, each a word of its own.
-#[derive(Debug, Clone, Copy, PartialEq, Eq)]
-struct Reading {
-    pub time: u64,
-    pub level: u64,
-    pub state: u64,
-}
+const ACQUIRE_PRODUCER: Start<Three> = Start::Queues(QueueStart::AcquireProducer);
 
-impl Words for Reading {
-    ghost use Rattle.std.specs.Prelude.{ℕ, refl, [], ◌∷◌, slice_index};
-    ghost use Rattle.std.proofs.Common.{rules};
+const ACQUIRE_CONSUMER: Start<Three> = Start::Queues(QueueStart::AcquireConsumer);
 
-    const WORDS: usize = 3;
+const POP: Start<Three> = Start::Queues(QueueStart::Pop);
 
-    ghost WORDS = { 3 };
+const PEEK: Start<Three> = Start::Queues(QueueStart::Peek);
 
-    ghost words_of = { λ x. x.time ∷ x.level ∷ x.state ∷ [] };
+const LEN: Start<Three> = Start::Queues(QueueStart::Len);
 
-    ghost value_of = { λ words. record {
-      time = slice_index words 0;
-      level = slice_index words 1;
-      state = slice_index words 2;
-    } };
+const FIRST: Three = Three(1, u64::MAX, 3);
 
-    ghost some = { Prim.search rules };
+const SECOND: Three = Three(4, 5, 6);
 
-    ghost few = { Prim.search rules };
+const PUSH_FIRST: QueueStart<Three> = QueueStart::Push(FIRST);
 
-    ghost sized = { λ x. refl };
-
-    ghost given_back = { λ x. refl };
-
-    fn word(&self, at: usize) -> u64 {
-        match at {
-            0 => self.time,
-            1 => self.level,
-            _ => self.state,
-        }
-    }
-
-    fn of_words(words: &[u64]) -> Reading {
-        Reading {
-            time: words[0],
-            level: words[1],
-            state: words[2],
-        }
-    }
-}
-
-const ACQUIRE_PRODUCER: Start<Reading> = Start::Queues(QueueStart::AcquireProducer);
-
-const ACQUIRE_CONSUMER: Start<Reading> = Start::Queues(QueueStart::AcquireConsumer);
-
-const POP: Start<Reading> = Start::Queues(QueueStart::Pop);
-
-const PEEK: Start<Reading> = Start::Queues(QueueStart::Peek);
-
-const LEN: Start<Reading> = Start::Queues(QueueStart::Len);
-
-const FIRST: Reading = Reading {
-    time: 1,
-    level: u64::MAX,
-    state: 3,
-};
-
-const SECOND: Reading = Reading {
-    time: 4,
-    level: 5,
-    state: 6,
-};
-
-const PUSH_FIRST: QueueStart<Reading> = QueueStart::Push(FIRST);
-
-const PUSH_SECOND: QueueStart<Reading> = QueueStart::Push(SECOND);
+const PUSH_SECOND: QueueStart<Three> = QueueStart::Push(SECOND);
 
 /// The party, its call, the turns that it takes of it, and the last event and the words then.
-type Row = (u32, QueueStart<Reading>, u64, Event<Reading>, [u64; 7]);
+type Row = (u32, QueueStart<Three>, u64, Event<Three>, [u64; 7]);
 
 const ROWS: [Row; 10] = [
     (
@@ -161,7 +103,7 @@ const ROWS: [Row; 10] = [
     ),
 ];
 
-const TOLD: [Event<Reading>; 4] = [
+const TOLD: [Event<Three>; 4] = [
     Event::Begun(1, POP),
     Event::HandedOut(1, Item::Value(FIRST)),
     Event::Acted(1, POP, Answer::Popped(FIRST)),
@@ -169,7 +111,7 @@ const TOLD: [Event<Reading>; 4] = [
 ];
 
 /// Whether so many turns of the party's call are taken.
-fn goes(machine: &mut Machine<Reading>, party: u32, turns: u64) -> bool {
+fn go(machine: &mut Machine<Three>, party: u32, turns: u64) -> bool {
     let mut taken = true;
     for _ in 0..turns {
         taken &= step(machine, Turn::Next(party)).is_ok();
@@ -178,20 +120,20 @@ fn goes(machine: &mut Machine<Reading>, party: u32, turns: u64) -> bool {
 }
 
 /// Whether the row comes out as it says. A call that is under way goes on.
-fn does(machine: &mut Machine<Reading>, row: &Row) -> bool {
+fn come_out(machine: &mut Machine<Three>, row: &Row) -> bool {
     let (party, start, turns, last, words) = row;
     let begins = is_going(machine, *party)
         || step(machine, Turn::Begin(*party, Start::Queues(*start))).is_ok();
     begins
-        & goes(machine, *party, *turns)
+        & go(machine, *party, *turns)
         & (machine.events().last() == Some(last))
         & (machine.words() == words.as_slice())
 }
 
 /// The first row that comes out otherwise.
-fn wrong_row(machine: &mut Machine<Reading>) -> Option<usize> {
+fn wrong_row(machine: &mut Machine<Three>) -> Option<usize> {
     for (at, row) in ROWS.iter().enumerate() {
-        if !does(machine, row) {
+        if !come_out(machine, row) {
             return Some(at);
         }
     }
@@ -199,7 +141,7 @@ fn wrong_row(machine: &mut Machine<Reading>) -> Option<usize> {
 }
 
 /// Likewise, or behind them all whether the last events are others.
-fn wrong_of_queue(machine: &mut Machine<Reading>) -> Option<usize> {
+fn wrong_of_queue(machine: &mut Machine<Three>) -> Option<usize> {
     match wrong_row(machine) {
         Some(at) => Some(at),
         None if machine.events().ends_with(&TOLD) => None,
@@ -207,20 +149,12 @@ fn wrong_of_queue(machine: &mut Machine<Reading>) -> Option<usize> {
     }
 }
 
-const ZEROS: Reading = Reading {
-    time: 0,
-    level: 0,
-    state: 0,
-};
+const ZEROS: Three = Three(0, 0, 0);
 
-const VALUE: Reading = Reading {
-    time: 7,
-    level: u64::MAX,
-    state: 9,
-};
+const VALUE: Three = Three(7, u64::MAX, 9);
 
 /// A party, its call, the turns that it takes, and its answer.
-const THREE_WORDS: [(u32, AtomicStart<Reading>, u64, Answer<Reading>); 6] = [
+const THREE_WORDS: [(u32, AtomicStart<Three>, u64, Answer<Three>); 6] = [
     (0, AtomicStart::AcquireProducer, 1, Answer::Truth(true)),
     (1, AtomicStart::Load, 5, Answer::Loaded(ZEROS)),
     (0, AtomicStart::Store(VALUE), 5, Answer::Truth(true)),
@@ -231,20 +165,20 @@ const THREE_WORDS: [(u32, AtomicStart<Reading>, u64, Answer<Reading>); 6] = [
 
 /// Whether the call takes so many turns, of which the last gives this answer.
 fn answers(
-    machine: &mut Machine<Reading>,
+    machine: &mut Machine<Three>,
     party: u32,
-    start: AtomicStart<Reading>,
+    start: AtomicStart<Three>,
     turns: u64,
-    answer: Answer<Reading>,
+    answer: Answer<Three>,
 ) -> bool {
     let last = Event::Finished(party, Start::Atomic(start), answer);
     step(machine, Turn::Begin(party, Start::Atomic(start))).is_ok()
-        & goes(machine, party, turns)
+        & go(machine, party, turns)
         & (machine.events().last() == Some(&last))
 }
 
 /// The first of them that comes out otherwise.
-fn wrong_answer(machine: &mut Machine<Reading>) -> Option<usize> {
+fn wrong_answer(machine: &mut Machine<Three>) -> Option<usize> {
     for (at, (party, start, turns, answer)) in THREE_WORDS.iter().enumerate() {
         if !answers(machine, *party, *start, *turns, *answer) {
             return Some(at);
@@ -254,7 +188,7 @@ fn wrong_answer(machine: &mut Machine<Reading>) -> Option<usize> {
 }
 
 /// Likewise, or behind them all whether the words are others.
-fn wrong_of_value(machine: &mut Machine<Reading>) -> Option<usize> {
+fn wrong_of_value(machine: &mut Machine<Three>) -> Option<usize> {
     match wrong_answer(machine) {
         Some(at) => Some(at),
         None if machine.words() == [2, 0, 0, 0, 0, 7, u64::MAX, 9].as_slice() => None,
@@ -262,7 +196,7 @@ fn wrong_of_value(machine: &mut Machine<Reading>) -> Option<usize> {
     }
 }
 
-fn wrong_of(machine: &mut Machine<Reading>, kind: Kind) -> Option<usize> {
+fn wrong_of(machine: &mut Machine<Three>, kind: Kind) -> Option<usize> {
     match kind {
         Kind::Queue => wrong_of_queue(machine),
         _ => wrong_of_value(machine),
@@ -278,12 +212,7 @@ fn wrong(alloc: Global, kind: Kind) -> Option<usize> {
     }
 }
 
-#[test]
-fn three_words_at_once(rt: HostRuntime) {
-    assert_eq!(rt; wrong(rt.alloc(), Kind::Queue), None);
-}
-
-#[test]
-fn three_words_in_one_value(rt: HostRuntime) {
-    assert_eq!(rt; wrong(rt.alloc(), Kind::Atomic), None);
+/// Whether all comes out right at values of three words, in a queue and alone.
+pub fn of_three_words(alloc: Global) -> bool {
+    wrong(alloc, Kind::Queue).is_none() && wrong(alloc, Kind::Atomic).is_none()
 }

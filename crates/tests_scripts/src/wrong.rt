@@ -8,14 +8,19 @@ use machine::families::queues::QueueStart;
 use machine::turn::{Kind, Refusal, Shape, Turn};
 use schedule::bare::{made_of, step};
 use std::alloc::Global;
-use std::test::Fail;
 use steps::enums::OwnerId;
 
 const POP: Start<u128> = Start::Queues(QueueStart::Pop);
 
 const PEEK: Start<u128> = Start::Queues(QueueStart::Peek);
 
-const WRONG: [(Kind, Start<u128>); 15] = [
+const LEN: Start<u128> = Start::Queues(QueueStart::Len);
+
+const PUSH: Start<u128> = Start::Queues(QueueStart::Push(1));
+
+const WRONG: [(Kind, Start<u128>); 17] = [
+    (Kind::IndexQueue, PUSH),
+    (Kind::Atomic, PUSH),
     (Kind::Atomic, POP),
     (Kind::Bits, POP),
     (Kind::Counts, POP),
@@ -44,34 +49,57 @@ fn is_wrong(alloc: Global, kind: Kind, start: Start<u128>) -> bool {
     }
 }
 
-#[test]
-fn wrong_calls(rt: HostRuntime) -> Result<(), Fail> {
-    for (at, (kind, start)) in WRONG.iter().enumerate() {
-        assert!(rt; is_wrong(rt.alloc(), *kind, *start), "{at}");
+/// Whether a call that the kind does not have is refused as one of a party that has a call under way.
+fn is_busy(alloc: Global) -> bool {
+    match made_of(alloc, Shape::Of(Kind::IndexQueue, 1), 2) {
+        Ok(mut machine) => {
+            step(&mut machine, Turn::Begin(0, LEN)).is_ok()
+                && step(&mut machine, Turn::Begin(0, PUSH)) == Err(Refusal::Busy)
+        }
+        Err(_) => false,
     }
-    // One with an owner, which no constant can hold.
-    let acquire = Start::Robust(RobustStart::Acquire(OwnerId::new(2)?));
-    assert!(rt; is_wrong(rt.alloc(), Kind::IndexQueue, acquire));
-    Ok(())
 }
 
-#[test]
-fn refusals_have_their_numbers(rt: HostRuntime) {
-    let rows = [
-        (Refusal::NoParty, 1),
-        (Refusal::Busy, 2),
-        (Refusal::Idle, 3),
-        (Refusal::WrongCall, 4),
-        (Refusal::NoRole, 5),
-        (Refusal::NotHeld, 6),
-        (Refusal::BadIndex, 7),
-        (Refusal::OwnerIsDead, 8),
-        (Refusal::OwnerLives, 9),
-        (Refusal::Undecided, 10),
-        (Refusal::NoMemory, 11),
-        (Refusal::AtEnd, 12),
-    ];
-    for (refusal, number) in rows {
-        assert!(rt; refusal as u8 == number, "{number}");
+/// Whether each is refused so.
+pub fn are_refused(alloc: Global) -> bool {
+    for (kind, start) in &WRONG {
+        if !is_wrong(alloc, *kind, *start) {
+            return false;
+        }
     }
+    // One with an owner, which no constant can hold.
+    let Ok(owner) = OwnerId::new(2) else {
+        return false;
+    };
+    is_busy(alloc)
+        && is_wrong(
+            alloc,
+            Kind::IndexQueue,
+            Start::Robust(RobustStart::Acquire(owner)),
+        )
+}
+
+const NUMBERS: [(Refusal, u8); 12] = [
+    (Refusal::NoParty, 1),
+    (Refusal::Busy, 2),
+    (Refusal::Idle, 3),
+    (Refusal::WrongCall, 4),
+    (Refusal::NoRole, 5),
+    (Refusal::NotHeld, 6),
+    (Refusal::BadIndex, 7),
+    (Refusal::OwnerIsDead, 8),
+    (Refusal::OwnerLives, 9),
+    (Refusal::Undecided, 10),
+    (Refusal::NoMemory, 11),
+    (Refusal::AtEnd, 12),
+];
+
+/// Whether the refusals have these numbers.
+pub fn have_numbers() -> bool {
+    for (refusal, number) in &NUMBERS {
+        if *refusal as u8 != *number {
+            return false;
+        }
+    }
+    true
 }
