@@ -78,7 +78,7 @@ fn perhaps(place: Option<usize>, answer: &mut Answer) {
 
 /// What an emptying hands out.
 #[tactic(auto, using(plain::proofs::Visits::takes_any))]
-fn empties(set: &mut plain::BitSet, answer: &mut Answer) {
+fn empty(set: &mut plain::BitSet, answer: &mut Answer) {
     answer.word("done");
     set.reset_all(&mut |place| answer.number(place as u64));
 }
@@ -101,7 +101,7 @@ impl Answers<BitCall> for plain::BitSet {
                 }
             }
             BitCall::Next => perhaps(self.reset_next(), answer),
-            BitCall::All => empties(self, answer),
+            BitCall::All => empty(self, answer),
             BitCall::Capacity => answer.number(self.capacity() as u64),
         }
     }

@@ -17,7 +17,7 @@ mod kept;
 mod user;
 
 /// Plays the block on a container of threads, and on one of one caller.
-fn plays_both<T: Numbered>(
+fn play_both<T: Numbered>(
     rt: &impl Wait,
     scene: Scene<'_>,
     stage: &mut Stage,
@@ -35,7 +35,7 @@ impl<T: Numbered> Form for Heap<T> {
     fn plays(rt: &impl Wait, scene: Scene<'_>, stage: &mut Stage) -> Made {
         let (container, pass) = Container::<T>::new(scene.alloc, scene.capacity, scene.number)?;
         let user = User::new(rt, scene, &container, pass);
-        plays_both(rt, scene, stage, user)
+        play_both(rt, scene, stage, user)
     }
 }
 
@@ -48,7 +48,7 @@ impl<T: Numbered, const CAPACITY: usize> Form for Fixed<T, CAPACITY> {
     fn plays(rt: &impl Wait, scene: Scene<'_>, stage: &mut Stage) -> Made {
         let (container, pass) = FixedSizeContainer::<T, CAPACITY>::new(scene.alloc, scene.number)?;
         let user = User::new(rt, scene, &container, pass);
-        plays_both(rt, scene, stage, user)
+        play_both(rt, scene, stage, user)
     }
 }
 

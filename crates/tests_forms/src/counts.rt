@@ -77,15 +77,15 @@ impl Call for CountCall {
 }
 
 /// What an emptying hands out: a place with its count.
-fn says(state: BitState, answer: &mut Answer) {
+fn say(state: BitState, answer: &mut Answer) {
     answer.number(state.bit() as u64);
     answer.number(state.count());
 }
 
 #[tactic(auto, using(plain::proofs::Visits::takes_any))]
-fn empties(set: &mut plain::CountingBitSet, answer: &mut Answer) {
+fn empty(set: &mut plain::CountingBitSet, answer: &mut Answer) {
     answer.word("done");
-    set.reset_all(&mut |state| says(state, answer));
+    set.reset_all(&mut |state| say(state, answer));
 }
 
 impl Answers<CountCall> for plain::CountingBitSet {
@@ -105,7 +105,7 @@ impl Answers<CountCall> for plain::CountingBitSet {
                     answer.refused();
                 }
             }
-            CountCall::All => empties(self, answer),
+            CountCall::All => empty(self, answer),
             CountCall::Capacity => answer.number(self.capacity() as u64),
             CountCall::MaxCount => answer.number(plain::CountingBitSet::max_count()),
         }
@@ -137,7 +137,7 @@ impl Places<CountCall> for Counts {
             }
             CountCall::All => {
                 answer.word("done");
-                set.reset_all(&mut |state| says(state, answer));
+                set.reset_all(&mut |state| say(state, answer));
             }
             CountCall::Capacity => answer.number(set.capacity() as u64),
             CountCall::MaxCount => answer.number(CountingBitSet::max_count()),

@@ -92,7 +92,6 @@ impl<T: Numbered> Answers<ValueCall> for plain::UnrestrictedAtomic<T> {
 }
 
 /// Who stores and loads a value of threads: a pass, and the producer where the role is taken.
-#[derive(Drop)]
 struct User<'a, T: Words> {
     value: &'a UnrestrictedAtomic<T>,
     pass: Pass<T>,
@@ -104,11 +103,22 @@ struct User<'a, T: Words> {
     ghost producing: { ForSome producer (λ p. value_of_producer p ≡ value_id value.now) },
 }
 
+impl<'a, T: Words> Drop for User<'a, T> {
+    fn drop(self) {
+        let Self {
+            value: _,
+            pass: _pass,
+            producer: _producer,
+            ahead: _,
+        } = self;
+    }
+}
+
 impl<'a, T: Numbered> User<'a, T> {
     /// Where the role was not taken yet it is taken first.
-    fn stores(&mut self, value: T, answer: &mut Answer) {
+    fn store(&mut self, value: T, answer: &mut Answer) {
         if self.producer.is_none() {
-            self.takes();
+            self.take();
         }
         match &mut self.producer {
             Some(producer) => answer.truth(producer.store(value)),
@@ -116,7 +126,7 @@ impl<'a, T: Numbered> User<'a, T> {
         }
     }
 
-    fn loads(&mut self, rt: &impl Wait, answer: &mut Answer) {
+    fn load(&mut self, rt: &impl Wait, answer: &mut Answer) {
         answer.number(self.value.load(rt, &mut self.pass).number());
     }
 
@@ -129,7 +139,7 @@ impl<'a, T: Numbered> User<'a, T> {
     }
 
     /// Whether a new pass gets the producer's role.
-    fn takes(&mut self) -> bool {
+    fn take(&mut self) -> bool {
         let Some(pass) = self.pass.split() else {
             return false;
         };
@@ -160,7 +170,7 @@ impl<'a, T: Numbered> User<'a, T> {
     }
 
     /// The producer takes in the pass that is kept, and a new one is kept.
-    fn joins(&mut self) -> bool {
+    fn join(&mut self) -> bool {
         let Some(new) = self.pass.split() else {
             return false;
         };
@@ -174,7 +184,7 @@ impl<'a, T: Numbered> User<'a, T> {
     }
 
     /// The role is given back and taken again: whether it was free.
-    fn takes_again(&mut self, drops: bool) -> bool {
+    fn take_again(&mut self, drops: bool) -> bool {
         match self.producer.take() {
             Some(producer) => {
                 if drops {
@@ -185,18 +195,18 @@ impl<'a, T: Numbered> User<'a, T> {
             }
             None => {}
         }
-        self.takes()
+        self.take()
     }
 
-    fn produces(&mut self, rt: &impl Wait, call: RoleCall, answer: &mut Answer) {
+    fn produce(&mut self, rt: &impl Wait, call: RoleCall, answer: &mut Answer) {
         match call {
-            RoleCall::Take => answer.truth(self.takes()),
+            RoleCall::Take => answer.truth(self.take()),
             RoleCall::Release => self.releases(rt, answer),
             RoleCall::Drop => answer.truth(self.drops()),
-            RoleCall::Join => answer.truth(self.joins()),
+            RoleCall::Join => answer.truth(self.join()),
             RoleCall::Has => answer.truth(self.has_producer()),
             RoleCall::Looks => answer.truth(self.has_producer() == self.producer.is_some()),
-            RoleCall::Again(drops) => answer.truth(self.takes_again(drops)),
+            RoleCall::Again(drops) => answer.truth(self.take_again(drops)),
         }
     }
 }
@@ -204,11 +214,11 @@ impl<'a, T: Numbered> User<'a, T> {
 impl<'a, T: Numbered> Answers<ValueCall> for User<'a, T> {
     fn answer(&mut self, rt: &impl Wait, call: ValueCall, answer: &mut Answer) {
         match call {
-            ValueCall::Store(number) => self.stores(T::of_number(number), answer),
-            ValueCall::Load => self.loads(rt, answer),
+            ValueCall::Store(number) => self.store(T::of_number(number), answer),
+            ValueCall::Load => self.load(rt, answer),
             ValueCall::Version => answer.number(self.version()),
             ValueCall::Words => answer.number(T::WORDS as u64),
-            ValueCall::Role(call) => self.produces(rt, call, answer),
+            ValueCall::Role(call) => self.produce(rt, call, answer),
         }
     }
 }

@@ -2,15 +2,13 @@
 ghost use Rattle.lock_free.specs.Bits.Calls.{IsPassOf};
 
 use crate::hand::bits as by_hand;
-use crate::timing::{Another, Asked, Row};
+use crate::timing::{Asked, Row};
 use lock_free::mpmc::bit_set::{BitSet, Pass};
 use std::alloc::Global;
 use std::sync::Wait;
-use std::thread::Threads;
 use std::time::CpuClock;
 
 /// A bit set with a pass, of which no place stands.
-#[derive(Drop)]
 struct Bits<'a> {
     set: &'a BitSet,
     pass: Pass,
@@ -20,6 +18,17 @@ struct Bits<'a> {
     ghost of: { IsPassOf set.now pass },
 }
 
+impl<'a> Drop for Bits<'a> {
+    fn drop(self) {
+        let Self {
+            set: _,
+            pass: _pass,
+            hand: _hand,
+            mask: _,
+        } = self;
+    }
+}
+
 impl<'a> Bits<'a> {
     #[inline(never)]
     fn set<R: Wait>(&mut self, rt: &R, place: usize) -> bool {
@@ -27,19 +36,6 @@ impl<'a> Bits<'a> {
             return false;
         }
         self.set.set(rt, place, &mut self.pass)
-    }
-}
-
-impl<'a> Another for Bits<'a> {
-    fn another(&mut self) -> Option<Bits<'a>> {
-        let pass = self.pass.split()?;
-        let hand = self.hand.another()?;
-        Some(Bits {
-            set: self.set,
-            pass,
-            hand,
-            mask: self.mask,
-        })
     }
 }
 
@@ -82,7 +78,7 @@ impl<'a> Row<Bits<'a>> for SetAgain {
     }
 }
 
-pub fn rows<R: Wait + Threads + CpuClock + Print + Sync>(
+pub fn rows<R: Wait + CpuClock + Print>(
     rt: &R,
     alloc: Global,
     asked: &Asked<'_>,
@@ -96,6 +92,6 @@ pub fn rows<R: Wait + Threads + CpuClock + Print + Sync>(
         hand,
         mask: (capacity as u64).saturating_sub(1),
     };
-    asked.both::<SetResetNext, Bits<'_>, R>(rt, alloc, capacity, &mut on)?;
+    asked.alone::<SetResetNext, Bits<'_>, R>(rt, capacity, &mut on)?;
     asked.alone::<SetAgain, Bits<'_>, R>(rt, capacity, &mut on)
 }

@@ -14,98 +14,38 @@ use passing::{Ends, Reader, WAITING, Writer};
 use std::alloc::Global;
 use std::io;
 use std::sync::{Mutex, Wait};
-use std::thread::Threads;
-use std::time::{Clock, CpuClock, Instant};
+use std::time::CpuClock;
 use zero_copy_bus::bus::Bus;
 use zero_copy_bus::error::BusError;
 use zero_copy_loans::channel::Channel;
 
-/// What a row is about: records of so many words, each of which so many read, how many of them a round passes, and whether
-/// a thread writes them while another reads.
+/// What a row is about: records of so many words, each of which so many read, and how many of them a round passes.
 #[derive(Clone, Copy)]
 struct Passed {
-    name: &'static str,
     words: usize,
     readers: usize,
     records: u64,
-    at_once: bool,
 }
 
-/// A row of one thread.
-fn by_turns(words: usize, readers: usize, records: u64) -> Passed {
-    Passed {
-        name: "by turns in one thread",
-        words,
-        readers,
-        records,
-        at_once: false,
-    }
-}
-
-/// A row of two threads.
-fn at_once(words: usize, records: u64) -> Passed {
-    Passed {
-        name: "between two threads",
-        words,
-        readers: 1,
-        records,
-        at_once: true,
-    }
-}
-
-/// All rows.
-fn rows() -> [Passed; 12] {
-    [
-        by_turns(8, 1, 100_000),
-        by_turns(8, 4, 50_000),
-        by_turns(8, 16, 10_000),
-        by_turns(512, 1, 20_000),
-        by_turns(512, 4, 10_000),
-        by_turns(512, 16, 5_000),
-        by_turns(8192, 1, 2_000),
-        by_turns(8192, 4, 1_000),
-        by_turns(8192, 16, 500),
-        at_once(8, 100_000),
-        at_once(512, 20_000),
-        at_once(8192, 2_000),
-    ]
-}
+/// Of each size of a record its words, and how many of them a round passes.
+const SIZES: [(usize, u64); 5] = [
+    (8, 50_000),
+    (128, 20_000),
+    (512, 10_000),
+    (8192, 1_000),
+    (131_072, 100),
+];
 
 /// How many nanoseconds one way takes, of the processor, and the sum of what was read.
-fn time_by_turns<W: Writer, D: Reader, R: Wait + CpuClock>(
-    rt: &R,
-    ends: &mut Ends<W, D>,
-    records: u64,
-) -> Option<(u64, u64)> {
-    let start = rt.thread_cpu_time().ok()?;
-    let sum = ends.by_turns(rt, records)?;
-    let taken = rt.thread_cpu_time().ok()?.saturating_sub(start).as_nanos();
-    Some((u64::try_from(taken).ok()?, sum))
-}
-
-/// The same of two threads, by the clock.
-fn time_at_once<W: Writer + Send, D: Reader + Send, R: Wait + Threads + Clock + Sync>(
-    rt: &R,
-    ends: &mut Ends<W, D>,
-    records: u64,
-) -> Option<(u64, u64)> {
-    let start = Instant::now(rt).ok()?;
-    let sum = ends.at_once(rt, records)?;
-    let taken = start.elapsed(rt).ok()?.as_nanos();
-    Some((u64::try_from(taken).ok()?, sum))
-}
-
-/// The one or the other, as the row asks.
-fn time<W: Writer + Send, D: Reader + Send, R: Wait + Threads + Clock + CpuClock + Sync>(
+fn time<W: Writer, D: Reader, R: Wait + CpuClock>(
     rt: &R,
     ends: &mut Ends<W, D>,
     passed: &Passed,
 ) -> Option<(u64, u64)> {
-    if passed.at_once {
-        time_at_once(rt, ends, passed.records)
-    } else {
-        time_by_turns(rt, ends, passed.records)
-    }
+    let start = rt.thread_cpu_time().ok()?;
+    let sum = ends.pass(rt, passed.records)?;
+    let taken = rt.thread_cpu_time().ok()?.saturating_sub(start).as_nanos();
+    Some((u64::try_from(taken).ok()?, sum))
 }
 
 /// What the rounds of a row came to: records a second by the way that it is about and by copies, how many times as many
@@ -119,13 +59,12 @@ struct Came {
 }
 
 /// Passes the records of all rounds, one way and the other by turns. None where some do not come, or no clock tells.
-fn rounds<
-    W: Writer + Send,
-    D: Reader + Send,
-    X: Writer + Send,
-    Y: Reader + Send,
-    R: Wait + Threads + Clock + CpuClock + Sync,
->(rt: &R, passed: &Passed, ours: &mut Ends<W, D>, copies: &mut Ends<X, Y>) -> Option<Came> {
+fn rounds<W: Writer, D: Reader, X: Writer, Y: Reader, R: Wait + CpuClock>(
+    rt: &R,
+    passed: &Passed,
+    ours: &mut Ends<W, D>,
+    copies: &mut Ends<X, Y>,
+) -> Option<Came> {
     let mut of_ours = [0u64; ROUNDS];
     let mut of_copies = [0u64; ROUNDS];
     let mut ratios = [0u64; ROUNDS];
@@ -147,7 +86,7 @@ fn rounds<
 }
 
 /// The same of one way, beside a buffer under a lock.
-fn rounds_beside<W: Writer + Send, D: Reader + Send, R: Wait + Threads + Clock + CpuClock + Sync>(
+fn rounds_beside<W: Writer, D: Reader, R: Wait + CpuClock>(
     rt: &R,
     alloc: Global,
     passed: &Passed,
@@ -160,7 +99,7 @@ fn rounds_beside<W: Writer + Send, D: Reader + Send, R: Wait + Threads + Clock +
 }
 
 /// What comes of a row of the bus.
-fn run_bus<R: Wait + Threads + Clock + CpuClock + Sync>(
+fn run_bus<R: Wait + CpuClock>(
     rt: &R,
     alloc: Global,
     passed: &Passed,
@@ -177,11 +116,7 @@ fn run_bus<R: Wait + Threads + Clock + CpuClock + Sync>(
 }
 
 /// The same of a typed loan channel, which has one who reads.
-fn run_loans<R: Wait + Threads + Clock + CpuClock + Sync>(
-    rt: &R,
-    alloc: Global,
-    passed: &Passed,
-) -> Option<Came> {
+fn run_loans<R: Wait + CpuClock>(rt: &R, alloc: Global, passed: &Passed) -> Option<Came> {
     let spares = spares(alloc, passed.words).ok()?;
     let mut channel = Channel::new(alloc, WAITING, WAITING).ok()?;
     let mut ends = by_loans::ends(alloc, &mut channel, spares)?;
@@ -189,11 +124,7 @@ fn run_loans<R: Wait + Threads + Clock + CpuClock + Sync>(
 }
 
 /// The same of records in an `Arc`, which go through a ring that has one who reads.
-fn run_arcs<R: Wait + Threads + Clock + CpuClock + Sync>(
-    rt: &R,
-    alloc: Global,
-    passed: &Passed,
-) -> Option<Came> {
+fn run_arcs<R: Wait + CpuClock>(rt: &R, alloc: Global, passed: &Passed) -> Option<Came> {
     let mut ends = by_arcs::ends(alloc, passed.words).ok()?;
     rounds_beside(rt, alloc, passed, &mut ends)
 }
@@ -201,7 +132,7 @@ fn run_arcs<R: Wait + Threads + Clock + CpuClock + Sync>(
 /// Prints a row, of what came of it.
 fn print_row(rt: &impl Print, way: &str, passed: &Passed, came: Option<Came>) -> io::Result<()> {
     let Some(came) = came else {
-        return println!(rt; "{way}, {}: no memory, no clock, or no record", passed.name);
+        return println!(rt; "{way}: no memory, no clock, or no record");
     };
     let said = if came.same {
         ""
@@ -209,8 +140,7 @@ fn print_row(rt: &impl Print, way: &str, passed: &Passed, came: Option<Came>) ->
         " not the same answers"
     };
     println!(rt;
-        "| {way} | {} | {} | {} | {} | {} | {}.{}{} |{said}",
-        passed.name,
+        "| {way} | {} | {} | {} | {} | {}.{}{} |{said}",
         passed.words.saturating_mul(8),
         passed.readers,
         came.ours,
@@ -221,21 +151,35 @@ fn print_row(rt: &impl Print, way: &str, passed: &Passed, came: Option<Came>) ->
     )
 }
 
-/// Prints the table.
-pub fn print_table<R: Wait + Threads + Clock + CpuClock + Print + Sync>(
+/// Prints the rows of records of a size, with so many who read.
+fn print_rows<R: Wait + CpuClock + Print>(
     rt: &R,
     alloc: Global,
+    passed: &Passed,
 ) -> io::Result<()> {
+    let by_bus = run_bus(rt, alloc, passed).unwrap_or(None);
+    print_row(rt, "the bus", passed, by_bus)?;
+    if passed.readers == 1 {
+        print_row(rt, "the loan channel", passed, run_loans(rt, alloc, passed))?;
+        print_row(rt, "Arc and rtrb", passed, run_arcs(rt, alloc, passed))?;
+    }
+    Ok(())
+}
+
+/// Prints the table.
+pub fn print_table<R: Wait + CpuClock + Print>(rt: &R, alloc: Global) -> io::Result<()> {
     println!(rt;
-        "| by | records | bytes | subscribers | this way, a second | copied through a Mutex and a Vec, a second | ratio |"
+        "| by | bytes | subscribers | this way, a second | copied through a Mutex and a Vec, a second | ratio |"
     )?;
-    println!(rt; "|---|---|---|---|---|---|---|")?;
-    for passed in rows().iter() {
-        let by_bus = run_bus(rt, alloc, passed).unwrap_or(None);
-        print_row(rt, "the bus", passed, by_bus)?;
-        if passed.readers == 1 {
-            print_row(rt, "the loan channel", passed, run_loans(rt, alloc, passed))?;
-            print_row(rt, "Arc and rtrb", passed, run_arcs(rt, alloc, passed))?;
+    println!(rt; "|---|---|---|---|---|---|")?;
+    for (words, records) in &SIZES {
+        for readers in [1, 2, 4] {
+            let passed = Passed {
+                words: *words,
+                readers,
+                records: *records,
+            };
+            print_rows(rt, alloc, &passed)?;
         }
     }
     Ok(())

@@ -57,13 +57,24 @@ impl<'a> Row<Adds<'a>> for AddRemove {
 }
 
 /// A container of numbers, the owner that adds, a dead one, and what a user would take instead.
-#[derive(Drop)]
 struct Values<'a> {
     container: Handle<'a, u64>,
     owner: OwnerId,
     dead: OwnerId,
     hand: by_hand::Values,
     list: &'a Mutex<Vec<u64>>,
+}
+
+impl<'a> Drop for Values<'a> {
+    fn drop(self) {
+        let Self {
+            container: _container,
+            owner: _,
+            dead: _,
+            hand: _hand,
+            list: _,
+        } = self;
+    }
 }
 
 impl<'a> Values<'a> {

@@ -1,8 +1,8 @@
 //! The steps written by hand: words under no rule, and one operation on one of them.
-ghost use Rattle.std.specs.Prelude.{◌≡◌, ◌<◌, length, IfOk, IfSome};
+ghost use Rattle.std.specs.Prelude.{◌≡◌, ◌<◌, length, IfOk};
 ghost use Rattle.std.specs.Arc.{arc_value};
 
-use atomic_table::{Play, Seat, Split, Table, TableRule};
+use atomic_table::{Play, Seat, Table, TableRule};
 use std::alloc::{AllocError, Global};
 use std::sync::Arc;
 
@@ -25,20 +25,23 @@ impl Play<(), ()> for Anything {
     ghost then = { λ _ _ _ _. Unit {0} };
 }
 
-impl Split<()> for Anything {
-    ghost left = { λ v. v };
-
-    ghost right = { λ v. v };
-}
-
 /// Words that threads could share, of which each operation is one atomic step.
-#[derive(Drop)]
 pub struct Words {
     seat: Seat<(), ()>,
     table: Arc<Table<(), (), (), Anything, Global>, Global>,
     size: usize,
     ghost mine: { seat.table_id ≡ (arc_value table).shared.table_id },
     ghost sized: { (arc_value table).shared.table_id.words ≡ size },
+}
+
+impl Drop for Words {
+    fn drop(self) {
+        let Self {
+            seat: _seat,
+            table: _table,
+            size: _,
+        } = self;
+    }
 }
 
 impl Words {
@@ -52,23 +55,6 @@ impl Words {
             seat,
             table,
             size: numbers.len(),
-        })
-    }
-
-    /// The same words, for another thread. None where no further reference to them can be counted.
-    pub fn another(&mut self) -> Option<Words>
-        requires { 0 < self.old.size }
-        ensures same { self.new.size ≡ self.old.size }
-        ensures other { IfSome result (λ w. w.size ≡ self.old.size) }
-    {
-        let Ok(table) = Arc::try_clone(&self.table) else {
-            return None;
-        };
-        let seat = self.table.shared.split_seat::<Anything>(&mut self.seat);
-        Some(Words {
-            seat,
-            table,
-            size: self.size,
         })
     }
 

@@ -49,7 +49,6 @@ impl Kept {
 
 /// A container in which a seven stands at each index, a state of it, and the handle of the last value, whose index the steps
 /// by hand take too; and what a user would take instead, with a copy.
-#[derive(Drop)]
 struct Looks<'a> {
     container: Handle<'a, u64>,
     state: ContainerState<u64>,
@@ -58,6 +57,20 @@ struct Looks<'a> {
     last: u32,
     kept: &'a Mutex<Kept>,
     copy: Kept,
+}
+
+impl<'a> Drop for Looks<'a> {
+    fn drop(self) {
+        let Self {
+            container: _container,
+            state: _state,
+            one: _,
+            hand: _hand,
+            last: _,
+            kept: _,
+            copy: _copy,
+        } = self;
+    }
 }
 
 impl<'a> Looks<'a> {

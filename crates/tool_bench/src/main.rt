@@ -1,7 +1,7 @@
 //! Times threaded calls against the same steps written by hand, or against what a user would take instead, and prints a
 //! table. The first argument is what the name of a row begins with, or `all`; without one it times nothing. With a second
 //! one, `together`, these are the rows in which several threads make the calls at once. `bus` prints a table of its own,
-//! of records that go from thread to thread. `bin/bench` builds it and runs it.
+//! of records that go from one end to another. `bin/bench` builds it and runs it.
 #![tactic(auto)]
 
 mod bits;

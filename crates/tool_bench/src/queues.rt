@@ -14,13 +14,24 @@ use std::time::CpuClock;
 const PUSH_AND_POP: &str = "index queue: push and pop";
 
 /// What a user would take instead.
-#[derive(Drop)]
 struct Usual {
     producer: rtrb::Producer<u64>,
     consumer: rtrb::Consumer<u64>,
     array: ArrayQueue<u64>,
     deque: Mutex<VecDeque<u64>>,
     capacity: usize,
+}
+
+impl Drop for Usual {
+    fn drop(self) {
+        let Self {
+            producer: _producer,
+            consumer: _consumer,
+            array: _array,
+            deque: _deque,
+            capacity: _,
+        } = self;
+    }
 }
 
 impl Usual {
@@ -45,11 +56,20 @@ impl Usual {
 }
 
 /// The two ends of an index queue.
-#[derive(Drop)]
 struct Numbers<'a> {
     producer: Producer<'a>,
     consumer: Consumer<'a>,
     usual: Usual,
+}
+
+impl<'a> Drop for Numbers<'a> {
+    fn drop(self) {
+        let Self {
+            producer: _producer,
+            consumer: _consumer,
+            usual: _usual,
+        } = self;
+    }
 }
 
 impl<'a> Numbers<'a> {
@@ -126,10 +146,18 @@ impl<'a> Row<Numbers<'a>> for BesideDeque {
 }
 
 /// The consumer's end of an overflowing queue.
-#[derive(Drop)]
 struct Overflowing<'a> {
     consumer: overflow::Consumer<'a>,
     hand: by_hand::Overflowing,
+}
+
+impl<'a> Drop for Overflowing<'a> {
+    fn drop(self) {
+        let Self {
+            consumer: _consumer,
+            hand: _hand,
+        } = self;
+    }
 }
 
 struct OverflowPop;

@@ -2,18 +2,16 @@
 ghost use Rattle.lock_free.specs.RobustUniqueIndexSet.{IsPassOf};
 
 use crate::hand::robust as by_hand;
-use crate::timing::{Another, Asked, Row};
+use crate::timing::{Asked, Row};
 use lock_free::mpmc::robust_unique_index_set::{
     CallbackProgression, OwnerId, Pass, RobustUniqueIndexSet,
 };
 use lock_free::mpmc::unique_index_set_enums::{ReleaseMode, ReleaseState};
 use std::alloc::Global;
 use std::sync::Wait;
-use std::thread::Threads;
 use std::time::CpuClock;
 
 /// A set with a pass, the owner that acquires, and a dead one.
-#[derive(Drop)]
 struct Robust<'a> {
     set: &'a RobustUniqueIndexSet,
     pass: Pass,
@@ -23,17 +21,15 @@ struct Robust<'a> {
     ghost of: { IsPassOf set.now pass },
 }
 
-impl<'a> Another for Robust<'a> {
-    fn another(&mut self) -> Option<Robust<'a>> {
-        let pass = self.pass.split()?;
-        let hand = self.hand.another()?;
-        Some(Robust {
-            set: self.set,
-            pass,
-            owner: self.owner,
-            dead: self.dead,
-            hand,
-        })
+impl<'a> Drop for Robust<'a> {
+    fn drop(self) {
+        let Self {
+            set: _,
+            pass: _pass,
+            owner: _,
+            dead: _,
+            hand: _hand,
+        } = self;
     }
 }
 
@@ -145,7 +141,7 @@ impl<'a> Row<Robust<'a>> for FindEach {
     }
 }
 
-pub fn rows<R: Wait + Threads + CpuClock + Print + Sync>(
+pub fn rows<R: Wait + CpuClock + Print>(
     rt: &R,
     alloc: Global,
     asked: &Asked<'_>,
@@ -161,7 +157,7 @@ pub fn rows<R: Wait + Threads + CpuClock + Print + Sync>(
         dead,
         hand,
     };
-    asked.both::<Turns, Robust<'_>, R>(rt, alloc, capacity, &mut on)?;
+    asked.alone::<Turns, Robust<'_>, R>(rt, capacity, &mut on)?;
     asked.alone::<RecoverOne, Robust<'_>, R>(rt, capacity, &mut on)?;
     on.fill(rt, capacity);
     asked.alone::<RecoverFull, Robust<'_>, R>(rt, capacity, &mut on)?;

@@ -15,13 +15,23 @@ const NAME: &str = "unique index set: acquire and release";
 const NONE: u64 = 1 << 32;
 
 /// A set with a pass, and what a user would take instead: a slab, for one thread, and the free indices under a lock.
-#[derive(Drop)]
 struct Unique<'a> {
     set: &'a UniqueIndexSet,
     pass: Pass,
     slab: Option<Slab<u64>>,
     free: &'a Mutex<Vec<u32>>,
     ghost of: { IsPassOf set.now pass },
+}
+
+impl<'a> Drop for Unique<'a> {
+    fn drop(self) {
+        let Self {
+            set: _,
+            pass: _pass,
+            slab: _slab,
+            free: _,
+        } = self;
+    }
 }
 
 impl<'a> Another for Unique<'a> {

@@ -1,12 +1,11 @@
 //! The rows of the single value, of 16 words.
 ghost use Rattle.lock_free.specs.Value.Calls.{IsPassOf};
 
-use crate::timing::{Another, Asked, Row};
+use crate::timing::{Asked, Row};
 use lock_free::spmc::unrestricted_atomic::{Pass, Producer, UnrestrictedAtomic};
 use lock_free::words::Words;
 use std::alloc::Global;
 use std::sync::{Mutex, Wait};
-use std::thread::Threads;
 use std::time::CpuClock;
 
 /// What a user would take instead.
@@ -100,24 +99,6 @@ struct Loads<'a> {
     ghost of: { IsPassOf value.now pass },
 }
 
-impl<'a> Loads<'a> {
-    #[inline(always)]
-    fn first<R: Wait>(&mut self, rt: &R) -> u64 {
-        self.value.load(rt, &mut self.pass).0
-    }
-}
-
-impl<'a> Another for Loads<'a> {
-    fn another(&mut self) -> Option<Loads<'a>> {
-        let pass = self.pass.split()?;
-        Some(Loads {
-            value: self.value,
-            pass,
-            locked: self.locked,
-        })
-    }
-}
-
 /// A load.
 struct Load;
 
@@ -127,7 +108,7 @@ impl<'a> Row<Loads<'a>> for Load {
     const BESIDE: &'static str = LOCKED;
 
     fn ours<R: Wait>(on: &mut Loads<'a>, rt: &R, _number: u64) -> u64 {
-        on.first(rt)
+        on.value.load(rt, &mut on.pass).0
     }
 
     fn theirs<R: Wait>(on: &mut Loads<'a>, rt: &R, _number: u64) -> u64 {
@@ -152,7 +133,7 @@ fn rows_of_stores<R: Wait + CpuClock + Print>(
     asked.alone::<Store, Stores<'_>, R>(rt, capacity, &mut on)
 }
 
-pub fn rows<R: Wait + Threads + CpuClock + Print + Sync>(
+pub fn rows<R: Wait + CpuClock + Print>(
     rt: &R,
     alloc: Global,
     asked: &Asked<'_>,
@@ -165,6 +146,6 @@ pub fn rows<R: Wait + Threads + CpuClock + Print + Sync>(
         pass,
         locked: &locked,
     };
-    asked.both::<Load, Loads<'_>, R>(rt, alloc, capacity, &mut loads)?;
+    asked.alone::<Load, Loads<'_>, R>(rt, capacity, &mut loads)?;
     rows_of_stores(rt, alloc, asked, capacity)
 }

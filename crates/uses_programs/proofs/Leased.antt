@@ -28,10 +28,12 @@ use Rattle.uses_programs.specs.Leases.{grants, ends, HasLeased}
 pub leased_none : HasLeased [] []
 leased_none = record { granted = λ i. refl; kept = refl }
 
+-- an acquire that is granted an index leases one more
 pub leased_more : (v w : View ℕ) (is : List ℕ) (i owner : ℕ) → HasLeased is v.made → HasTaken owner (Ok i) v w
     → HasLeased (is ++ i ∷ []) w.made
 leased_more v w is i owner was h = record { granted = granted; kept = kept }
   where
+    -- each index was granted as often as it was leased
     granted : (j : ℕ) → sum_by (grants j) w.made ≡ times j (is ++ i ∷ [])
     granted j =
         let a = sum_made (grants j) h.by (Robust (Acquire owner)) (Index i) h.wrote v w h.called in
@@ -42,6 +44,7 @@ leased_more v w is i owner was h = record { granted = granted; kept = kept }
         let more = times_one i j in
         omega arith
 
+    -- no lease has ended
     kept : sum_by ends w.made ≡ 0
     kept =
         let a = sum_made ends h.by (Robust (Acquire owner)) (Index i) h.wrote v w h.called in
@@ -50,6 +53,7 @@ leased_more v w is i owner was h = record { granted = granted; kept = kept }
         let old = was.kept in
         omega arith
 
+-- two passes together have leased what both have
 pub leased_both : (is others : List ℕ) (mine theirs : List (Event ℕ)) → HasLeased is mine → HasLeased others theirs
     → HasLeased (is ++ others) (mine ++ theirs)
 leased_both is others mine theirs one two =
@@ -79,6 +83,7 @@ stays owner (Told p index o) none = absurd (omega arith)
 stays owner (Begun p (Container (containers.Recover o mode))) none = absurd (omega arith)
 stays owner e none = refl
 
+-- nobody is gone in a history in which no lease ended
 nobody_gone : (owner : ℕ) (es : List (Event ℕ)) → sum_by ends es ≡ 0 → is_gone Word owner es ≡ false
 nobody_gone owner [] none = refl
 nobody_gone owner (e ∷ es) none =
@@ -90,6 +95,7 @@ frees_right : (before : List (Event ℕ)) (e : Event ℕ) → ends e ≡ 0 → F
 frees_right before (FreedOf p index owner) none = absurd (omega arith)
 frees_right before e none = tt
 
+-- where nobody is gone, each event that ends no lease acts for an owner as it may
 acts_right : (before : List (Event ℕ)) (e : Event ℕ) → ends e ≡ 0 → ((owner : ℕ) → is_gone Word owner before ≡ false) → ActsForRight before e
 acts_right before (FreedOf p index owner) none free = absurd (omega arith)
 acts_right before (Filled p index owner) none free = free owner
@@ -116,6 +122,7 @@ module _ (i : ℕ) where
   abbrev HoldsOn : List (Event ℕ) → Event ℕ → Type 0
   HoldsOn before e = held (holder_after i (holder_of i before) e) ≡ grants i e + held (holder_of i before)
 
+  -- an event that ends no lease leaves whom the index was granted to as its holder
   holds_on : (before : List (Event ℕ)) (e : Event ℕ) → ends e ≡ 0 → HoldsRight before e → HoldsOn before e
   holds_on before (Granted p index owner) none free = ⊎_elim here there (cases_eq index i)
     where
@@ -130,6 +137,7 @@ module _ (i : ℕ) where
   holds_on before (FreedOf p index owner) none free = absurd (omega arith)
   holds_on before e none free = omega arith
 
+  -- behind such a history the index is granted at most once more, where nobody holds it
   at_most_once : (before es : List (Event ℕ)) → sum_by ends es ≡ 0 → Each HoldsRight (before ++ es)
       → sum_by (grants i) es + held (holder_of i before) ≤ 1
   at_most_once before [] none each = at_most_one (holder_of i before)
@@ -161,6 +169,7 @@ apart (x ∷ xs) few =
     AllPairs-cons (λ i j. i ≢ j) x xs (none xs (omega arith))
     (apart xs (λ i. (let all = few i in let rest = times_both i (x ∷ []) xs in omega arith)))
   where
+    -- what stands nowhere in a list is apart from all that do
     none : (ys : List ℕ) → times x ys ≡ 0 → All (λ y. x ≢ y) ys
     none [] zero = All-nil (λ y. x ≢ y)
     none (y ∷ ys) zero =
@@ -172,6 +181,7 @@ apart (x ∷ xs) few =
         absurd (omega arith)) in
         All-cons (λ z. x ≢ z) y ys other (none ys (omega arith))
 
+-- where all that was made is known, no index was leased twice
 pub leased_apart : (capacity : ℕ) (is : List ℕ) (seen made : List (Event ℕ)) → IsSound capacity seen
     → ((f : Event ℕ → ℕ) → sum_by f seen ≡ sum_by f made) → HasLeased is made → AllPairs (λ i j. i ≢ j) is
 leased_apart capacity is seen made sound whole leased =

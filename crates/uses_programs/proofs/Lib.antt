@@ -2,5 +2,4 @@ mod Names
 mod Halves
 mod Leased
 pub mod Rings
-pub mod Tallied
 mod Readings

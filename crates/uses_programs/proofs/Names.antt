@@ -2,16 +2,13 @@
 pub use Rattle.lock_free.proofs.Unique.Pools.{both_hold, holds_none, holds_more, holds_next, holds_rest, holds_last, holds_apart, none_out}
 pub use Rattle.lock_free.specs.Event.{Event}
 pub use Rattle.lock_free.specs.History.{IsBeginning}
-pub use Rattle.lock_free.specs.HistoryLooks.{ShowsCopied}
 pub use Rattle.lock_free.specs.HistoryView.View.{View}
-pub use Rattle.lock_free.specs.Loan.Sender.{set_of_sender}
 pub use Rattle.lock_free.specs.Queues.Item.TheVariants.{Index}
-pub use Rattle.lock_free.specs.Queues.QueueKind.TheVariants.{IndexQueue}
 pub use Rattle.lock_free.specs.Queues.Contracts.{HasPopped}
 pub use Rattle.lock_free.specs.Queues.Views.{first_view}
 pub use Rattle.lock_free.specs.Share.{Share}
 pub use Rattle.lock_free.specs.Shares.{IsAll, all_shares, both_of, half_of}
-pub use Rattle.lock_free.specs.Sums.{counts, is_count_of, sets, take_of, takes}
+pub use Rattle.lock_free.specs.Sums.{sets}
 pub use Rattle.lock_free.specs.Unique.Held.{IsSound}
 pub use Rattle.lock_free.specs.Unique.Pools.{Holding}
 pub use Rattle.lock_free.specs.Value.Opened.{opened_view}

@@ -28,6 +28,7 @@ module _ {T : Type 0} where
   stored_on : (old new : List (Event T)) (b : IsBeginning old new) → stored new ≡ stored old ++ stored b.rest
   stored_on old new b = ap stored b.is ∙ flat_map-append stores old b.rest
 
+  -- what stands in a list stands in a list that begins with it
   still_there : (xs ys zs : List T) → zs ≡ xs ++ ys → (x : T) → Contains xs x → Contains zs x
   still_there xs ys zs is x c =
       let long = length-append xs ys in
@@ -40,6 +41,7 @@ module _ {T : Type 0} where
 
   -- ---- the writer
 
+  -- a writer that has acquired the role has written nothing yet
   pub written_none : (all : List T) (v w : View T) → Goes v w → HasAcquired true v w → HasWritten (take 0 all) v w
   written_none all v w goes h =
       record {
@@ -49,6 +51,7 @@ module _ {T : Type 0} where
         share = goes.share;
       }
 
+  -- a store writes one value more
   written_more : (xs : List T) (x : T) (v w u : View T) → HasWritten xs v w → Goes w u
       → HasStored x w u → HasWritten (xs ++ x ∷ []) v u
   written_more xs x v w u k goes h =
@@ -59,6 +62,7 @@ module _ {T : Type 0} where
         share = goes.share ∙ k.share;
       }
 
+  -- a store of the next value of a list writes the list up to that one
   pub writes : (all : List T) (n : ℕ) (x d : T) (v w u : View T) → n < length all
       → x ≡ get_or all n d → HasWritten (take n all) v w → Goes w u → HasStored x w u
       → HasWritten (take (n + 1) all) v u
@@ -66,6 +70,7 @@ module _ {T : Type 0} where
       subst (λ xs. HasWritten xs v u) (ap (λ z. take n all ++ z ∷ []) is ∙ sym (take_more all n d lt))
       (written_more (take n all) x v w u k goes h)
 
+  -- a writer that gives the role back has written all, if it has written so many
   pub written_all : (all : List T) (n : ℕ) (v w u : View T) → length all ≤ n
       → HasWritten (take n all) v w → Goes w u → HasReleased w u → HasWritten all v u
   written_all all n v w u past k goes h =
@@ -81,6 +86,7 @@ module _ {T : Type 0} where
 
   -- ---- the reader
 
+  -- a reader that has loaded nothing has read nothing
   pub read_none : (v : View T) → HasRead [] v v
   read_none v =
       record {
@@ -99,6 +105,7 @@ module _ {T : Type 0} where
       still_there (last.others ++ x ∷ []) (stored h.after) (stored u.seen) whole x
       (length last.others, (let long = length-append last.others (x ∷ []) in omega arith), get_or_push last.others x x (length last.others) refl)
 
+  -- a load reads one value more
   pub read_more : (xs : List T) (x : T) (v w u : View T) → HasRead xs v w → Goes w u → HasLoaded x w u → HasRead (xs ++ x ∷ []) v u
   read_more xs x v w u k goes h =
       record {
@@ -119,6 +126,7 @@ module _ {T : Type 0} where
 
   module _ (size : ℕ) (first : T) (all seen : List T) (v left right a b z : View T) (opens : v ≡ opened_view first size 1) (cut : HasSplit v left right)
       (s : HasWritten all left a) (r : HasRead seen right b) (h : HasJoined a b z) (none : MissesNothing z) where
+    -- the joined pass has the whole share
     whole : IsAll z.share
     whole =
         let start : v.share ≡ all_shares = ap (λ (t : View T). t.share) opens in
@@ -130,6 +138,7 @@ module _ {T : Type 0} where
     opened_with : stored left.seen ≡ first ∷ []
     opened_with = ap stored cut.seen ∙ ap (λ (t : View T). stored t.seen) opens
 
+    -- what was stored is the first value and all that the writer wrote
     all_stored : stored z.seen ≡ first ∷ all
     all_stored =
         let f : Event T → ℕ = λ e. length (stores e) in
@@ -154,6 +163,7 @@ module _ {T : Type 0} where
         subst (λ ys. All (Contains ys) seen) all_stored
         (all_there (stored b.seen) (stored h.others.rest) (stored z.seen) seen (stored_on b.seen z.seen h.others) r.all)
 
+    -- the last load answers the last value that was written
     pub last_is : (y : T) (u : View T) → Goes z u → HasLoaded y z u → y ≡ last_of first all
     last_is y u goes load =
         let it = newest y z u load whole (subst IsAll (sym goes.share) whole) none goes.all in

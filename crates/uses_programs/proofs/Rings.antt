@@ -26,6 +26,7 @@ times_push bell b xs = sum_by_push (λ x. cond (x == bell) 1 0) xs b
 
 -- ---- a set
 
+-- a set that answers true rings one bell more
 pub rings : (xs more : List ℕ) (b : ℕ) (answer : Bool) (old new : View ℕ) → answer ≡ true → HasSet b answer old new
     → more ≡ xs ++ b ∷ [] → HasRung xs old.made → HasRung more new.made
 rings xs more b answer old new began h is was =
@@ -36,6 +37,7 @@ rings xs more b answer old new began h is was =
       cleared = λ bell. (set_adds old new b added bell).1 ∙ was.cleared bell;
     })
 
+-- a set that answers false rings none
 pub rings_again : (xs : List ℕ) (b : ℕ) (answer : Bool) (old new : View ℕ) → answer ≡ false
     → HasSet b answer old new → HasRung xs old.made → HasRung xs new.made
 rings_again xs b answer old new stood h was =
@@ -63,6 +65,7 @@ rang_on bells n b answer old new lt is h stood all =
 
 -- ---- a reset
 
+-- a reset that finds a bell hears one more
 pub hears : (xs ys more : List ℕ) (b : ℕ) (first : List (Event ℕ)) (old new : View ℕ) → HasReset (Some b) old new
     → more ≡ ys ++ b ∷ [] → HearsMore xs ys first old.made → HearsMore xs more first new.made
 hears xs ys more b first old new h is was =
@@ -72,6 +75,7 @@ hears xs ys more b first old new h is was =
       cleared = λ bell. (let adds = (reset_adds old new b h bell).1 in let so_far = was.cleared bell in let push = times_push bell b ys in omega arith);
     })
 
+-- a reset that finds none hears none
 pub hears_none : (xs ys : List ℕ) (first : List (Event ℕ)) (old new : View ℕ) → HasReset None old new
     → HearsMore xs ys first old.made → HearsMore xs ys first new.made
 hears_none xs ys first old new h was =
@@ -122,6 +126,7 @@ module _ (one two heard left : List ℕ) (rung start listened joined : List (Eve
       let zero : sets {T = ℕ} bell [] ≡ 0 = refl in
       omega arith
 
+  -- what was heard and what still rang are all that was rung
   pub all_heard : (bell : ℕ) → times bell heard + times bell left ≡ times bell one + times bell two
   all_heard bell =
       let s = set_in_all bell in

@@ -2,6 +2,3 @@
 pub mod Bells
 pub mod Leases
 pub mod Readings
-pub mod Records
-pub mod Registry
-pub mod Tallies

@@ -6,13 +6,10 @@
 mod bells;
 mod closing;
 mod leases;
-mod loans;
 mod pool;
-mod registry;
 mod relay;
 mod relay_overflow;
 mod relay_readings;
-mod tallies;
 
 use std::alloc::Global;
 use std::process::ExitCode;
@@ -21,16 +18,13 @@ use std::thread::Threads;
 use std::{env, io};
 
 /// The names of the programs, in the order in which all run.
-const NAMES: [&str; 10] = [
+const NAMES: [&str; 7] = [
     "relay",
     "relay_overflow",
     "relay_readings",
     "bells",
-    "tallies",
     "pool",
     "leases",
-    "loans",
-    "registry",
     "closing",
 ];
 
@@ -45,12 +39,9 @@ fn run_at<R: Threads + Wait + Print + Sync>(
         1 => relay_overflow::report(rt, alloc),
         2 => relay_readings::report(rt, alloc),
         3 => bells::report(rt, alloc),
-        4 => tallies::report(rt, alloc),
-        5 => pool::report(rt, alloc),
-        6 => leases::report(rt, alloc),
-        7 => loans::report(rt, alloc),
-        8 => registry::report(rt, alloc),
-        9 => closing::report(rt, alloc),
+        4 => pool::report(rt, alloc),
+        5 => leases::report(rt, alloc),
+        6 => closing::report(rt, alloc),
         _ => Ok(()),
     }
 }

@@ -61,7 +61,7 @@ pub fn shown<T: Numbered>(state: &ContainerState<T>, stop: u64, answer: &mut Ans
 }
 
 /// Says what a state has at the index.
-pub fn gets<T: Numbered>(state: &ContainerState<T>, index: usize, answer: &mut Answer) {
+pub fn get<T: Numbered>(state: &ContainerState<T>, index: usize, answer: &mut Answer) {
     match state.get(index) {
         Some(value) => answer.perhaps(Some(value.number())),
         None => answer.perhaps(None),
@@ -85,12 +85,22 @@ pub fn found<T: Numbered>(
 }
 
 /// A container of one caller, and the state that was taken last.
-#[derive(Drop)]
 pub struct Alone<T: Numbered> {
     container: Container<T>,
     state: ContainerState<T>,
     kept: Kept<T>,
     number: u64,
+}
+
+impl<T: Numbered> Drop for Alone<T> {
+    fn drop(self) {
+        let Self {
+            container: _container,
+            state: _state,
+            kept: _kept,
+            number: _,
+        } = self;
+    }
 }
 
 impl<T: Numbered> Alone<T> {
@@ -106,20 +116,20 @@ impl<T: Numbered> Alone<T> {
         })
     }
 
-    fn adds(&mut self, number: u64, owner: OwnerId, answer: &mut Answer) {
+    fn add(&mut self, number: u64, owner: OwnerId, answer: &mut Answer) {
         added(self.container.add(T::of_number(number), owner), answer);
     }
 
-    fn removes(&mut self, handle: ContainerHandle, mode: ReleaseMode, answer: &mut Answer) {
+    fn remove(&mut self, handle: ContainerHandle, mode: ReleaseMode, answer: &mut Answer) {
         removed(self.container.remove(handle, mode), answer);
     }
 
-    fn replaces(&mut self, handle: ContainerHandle, number: u64, answer: &mut Answer) {
+    fn replace(&mut self, handle: ContainerHandle, number: u64, answer: &mut Answer) {
         replaced(self.container.replace(handle, T::of_number(number)), answer);
     }
 
     /// Takes a state anew.
-    fn gets_state(&mut self, answer: &mut Answer) {
+    fn get_state(&mut self, answer: &mut Answer) {
         match self.container.get_state() {
             Ok(state) => self.state = state,
             Err(_) => answer.word("no_memory"),
@@ -127,7 +137,7 @@ impl<T: Numbered> Alone<T> {
     }
 
     /// Brings the state up to date.
-    fn updates(&mut self, answer: &mut Answer) {
+    fn update(&mut self, answer: &mut Answer) {
         if self.container.is_state_of(&self.state) {
             answer.truth(self.container.update_state(&mut self.state));
         } else {
@@ -135,16 +145,16 @@ impl<T: Numbered> Alone<T> {
         }
     }
 
-    fn shows(&mut self, how: Show, answer: &mut Answer) {
+    fn show(&mut self, how: Show, answer: &mut Answer) {
         match how.update {
-            Update::Anew => self.gets_state(answer),
-            Update::Up => self.updates(answer),
+            Update::Anew => self.get_state(answer),
+            Update::Up => self.update(answer),
             Update::Nothing => {}
         }
         shown(&self.state, how.stop, answer);
     }
 
-    fn shows_other(&mut self, capacity: usize, number: u64, answer: &mut Answer) {
+    fn show_other(&mut self, capacity: usize, number: u64, answer: &mut Answer) {
         match Container::<T>::new(answer.alloc(), capacity, number) {
             Ok(mut container) => {
                 if container.is_state_of(&self.state) {
@@ -157,7 +167,7 @@ impl<T: Numbered> Alone<T> {
         }
     }
 
-    fn finds(&mut self, owner: OwnerId, stop: u64, answer: &mut Answer) {
+    fn find(&mut self, owner: OwnerId, stop: u64, answer: &mut Answer) {
         let mut number = 0u64;
         let container = self.number;
         let came = self.container.find(
@@ -172,7 +182,7 @@ impl<T: Numbered> Alone<T> {
         answer.number(came as u64);
     }
 
-    fn recovers(&mut self, how: Recovery, answer: &mut Answer) {
+    fn recover(&mut self, how: Recovery, answer: &mut Answer) {
         let Recovery { owner, frees, mode } = how;
         let mut answers = Asked::new(frees);
         let mut asked = Heard::new(answer.alloc());
@@ -192,17 +202,17 @@ impl<T: Numbered> Alone<T> {
 impl<T: Numbered> Answers<ContainerCall> for Alone<T> {
     fn answer(&mut self, _rt: &impl Wait, call: ContainerCall, answer: &mut Answer) {
         match call {
-            ContainerCall::Add(number, owner) => self.adds(number, owner, answer),
-            ContainerCall::Remove(handle, mode) => self.removes(handle, mode, answer),
-            ContainerCall::Replace(handle, number) => self.replaces(handle, number, answer),
-            ContainerCall::Show(how) => self.shows(how, answer),
+            ContainerCall::Add(number, owner) => self.add(number, owner, answer),
+            ContainerCall::Remove(handle, mode) => self.remove(handle, mode, answer),
+            ContainerCall::Replace(handle, number) => self.replace(handle, number, answer),
+            ContainerCall::Show(how) => self.show(how, answer),
             ContainerCall::ShowOther(capacity, number) => {
-                self.shows_other(capacity, number, answer);
+                self.show_other(capacity, number, answer);
             }
-            ContainerCall::Get(index) => gets(&self.state, index, answer),
+            ContainerCall::Get(index) => get(&self.state, index, answer),
             ContainerCall::State(at) => self.kept.turns(&mut self.state, at),
-            ContainerCall::Find(owner, stop) => self.finds(owner, stop, answer),
-            ContainerCall::Recover(how) => self.recovers(how, answer),
+            ContainerCall::Find(owner, stop) => self.find(owner, stop, answer),
+            ContainerCall::Recover(how) => self.recover(how, answer),
             ContainerCall::Len => answer.number(self.container.len() as u64),
             ContainerCall::IsEmpty => answer.truth(self.container.is_empty()),
             ContainerCall::IsLocked => answer.truth(self.container.is_locked()),

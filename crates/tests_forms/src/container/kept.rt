@@ -5,10 +5,18 @@ use steps::container::state::ContainerState;
 use tests_calls::numbered::Numbered;
 
 /// States at their numbers, but the one that is used: at its number stands what takes its place.
-#[derive(Drop)]
 pub struct Kept<T: Numbered> {
     states: Vec<ContainerState<T>>,
     used: usize,
+}
+
+impl<T: Numbered> Drop for Kept<T> {
+    fn drop(self) {
+        let Self {
+            states: _states,
+            used: _,
+        } = self;
+    }
 }
 
 impl<T: Numbered> Kept<T> {

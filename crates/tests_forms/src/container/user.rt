@@ -1,7 +1,7 @@
 //! Who uses a container of threads.
 ghost use Rattle.lock_free.specs.Container.Names.{IsPassOf};
 
-use super::alone::{added, found, gets, removed, replaced, shown};
+use super::alone::{added, found, get, removed, replaced, shown};
 use super::call::{ContainerCall, Recovery, Show, Update};
 use super::kept::Kept;
 use lock_free::mpmc::container::{
@@ -19,13 +19,24 @@ use tests_calls::said::{ended, goes_on};
 use tests_calls::stage::Scene;
 
 /// Who uses a container of threads, and the state that was taken last.
-#[derive(Drop)]
 pub struct User<'a, T: Numbered> {
     now: Handle<'a, T>,
     other: Handle<'a, T>,
     state: ContainerState<T>,
     kept: Kept<T>,
     number: u64,
+}
+
+impl<'a, T: Numbered> Drop for User<'a, T> {
+    fn drop(self) {
+        let Self {
+            now: _now,
+            other: _other,
+            state: _state,
+            kept: _kept,
+            number: _,
+        } = self;
+    }
 }
 
 impl<'a, T: Numbered> User<'a, T> {
@@ -52,12 +63,12 @@ impl<'a, T: Numbered> User<'a, T> {
         })
     }
 
-    fn adds(&mut self, rt: &impl Wait, number: u64, owner: OwnerId, answer: &mut Answer) {
+    fn add(&mut self, rt: &impl Wait, number: u64, owner: OwnerId, answer: &mut Answer) {
         let value = T::of_number(number);
         added(self.now.add(rt, value, owner), answer);
     }
 
-    fn removes(
+    fn remove(
         &mut self,
         rt: &impl Wait,
         handle: ContainerHandle,
@@ -67,13 +78,13 @@ impl<'a, T: Numbered> User<'a, T> {
         removed(self.now.remove(rt, handle, mode), answer);
     }
 
-    fn replaces(&mut self, handle: ContainerHandle, number: u64, answer: &mut Answer) {
+    fn replace(&mut self, handle: ContainerHandle, number: u64, answer: &mut Answer) {
         let value = T::of_number(number);
         replaced(self.now.replace(handle, value), answer);
     }
 
     /// Takes a state anew.
-    fn gets_state(&mut self, rt: &impl Wait, answer: &mut Answer) {
+    fn get_state(&mut self, rt: &impl Wait, answer: &mut Answer) {
         match self.now.get_state(rt) {
             Ok(state) => self.state = state,
             Err(_) => answer.word("no_memory"),
@@ -81,7 +92,7 @@ impl<'a, T: Numbered> User<'a, T> {
     }
 
     /// Brings the state up to date.
-    fn updates(&mut self, rt: &impl Wait, answer: &mut Answer) {
+    fn update(&mut self, rt: &impl Wait, answer: &mut Answer) {
         if self.now.is_state_of(&self.state) {
             answer.truth(self.now.update_state(rt, &mut self.state));
         } else {
@@ -89,16 +100,16 @@ impl<'a, T: Numbered> User<'a, T> {
         }
     }
 
-    fn shows(&mut self, rt: &impl Wait, how: Show, answer: &mut Answer) {
+    fn show(&mut self, rt: &impl Wait, how: Show, answer: &mut Answer) {
         match how.update {
-            Update::Anew => self.gets_state(rt, answer),
-            Update::Up => self.updates(rt, answer),
+            Update::Anew => self.get_state(rt, answer),
+            Update::Up => self.update(rt, answer),
             Update::Nothing => {}
         }
         shown(&self.state, how.stop, answer);
     }
 
-    fn shows_other(&mut self, rt: &impl Wait, capacity: usize, number: u64, answer: &mut Answer) {
+    fn show_other(&mut self, rt: &impl Wait, capacity: usize, number: u64, answer: &mut Answer) {
         match Container::<T>::new(answer.alloc(), capacity, number) {
             Ok((container, mut pass)) => {
                 if container.is_state_of(&self.state) {
@@ -111,7 +122,7 @@ impl<'a, T: Numbered> User<'a, T> {
         }
     }
 
-    fn finds(&mut self, owner: OwnerId, stop: u64, answer: &mut Answer) {
+    fn find(&mut self, owner: OwnerId, stop: u64, answer: &mut Answer) {
         let mut number = 0u64;
         let container = self.number;
         let came = self.now.find(
@@ -126,7 +137,7 @@ impl<'a, T: Numbered> User<'a, T> {
         answer.number(came as u64);
     }
 
-    fn recovers(&mut self, rt: &impl Wait, how: Recovery, answer: &mut Answer) {
+    fn recover(&mut self, rt: &impl Wait, how: Recovery, answer: &mut Answer) {
         let Recovery { owner, frees, mode } = how;
         let mut answers = Asked::new(frees);
         let mut asked = Heard::new(answer.alloc());
@@ -147,17 +158,17 @@ impl<'a, T: Numbered> User<'a, T> {
 impl<'a, T: Numbered> Answers<ContainerCall> for User<'a, T> {
     fn answer(&mut self, rt: &impl Wait, call: ContainerCall, answer: &mut Answer) {
         match call {
-            ContainerCall::Add(number, owner) => self.adds(rt, number, owner, answer),
-            ContainerCall::Remove(handle, mode) => self.removes(rt, handle, mode, answer),
-            ContainerCall::Replace(handle, number) => self.replaces(handle, number, answer),
-            ContainerCall::Show(how) => self.shows(rt, how, answer),
+            ContainerCall::Add(number, owner) => self.add(rt, number, owner, answer),
+            ContainerCall::Remove(handle, mode) => self.remove(rt, handle, mode, answer),
+            ContainerCall::Replace(handle, number) => self.replace(handle, number, answer),
+            ContainerCall::Show(how) => self.show(rt, how, answer),
             ContainerCall::ShowOther(capacity, number) => {
-                self.shows_other(rt, capacity, number, answer);
+                self.show_other(rt, capacity, number, answer);
             }
-            ContainerCall::Get(index) => gets(&self.state, index, answer),
+            ContainerCall::Get(index) => get(&self.state, index, answer),
             ContainerCall::State(at) => self.kept.turns(&mut self.state, at),
-            ContainerCall::Find(owner, stop) => self.finds(owner, stop, answer),
-            ContainerCall::Recover(how) => self.recovers(rt, how, answer),
+            ContainerCall::Find(owner, stop) => self.find(owner, stop, answer),
+            ContainerCall::Recover(how) => self.recover(rt, how, answer),
             ContainerCall::Len => answer.number(self.now.len(rt) as u64),
             ContainerCall::IsEmpty => answer.truth(self.now.is_empty(rt)),
             ContainerCall::IsLocked => answer.truth(self.now.is_locked()),

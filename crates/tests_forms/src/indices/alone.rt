@@ -26,7 +26,7 @@ fn releases_or_locks(set: &mut UniqueIndexSet, index: u32, answer: &mut Answer) 
 }
 
 /// Takes so many indices: how many come in order, from 0 on.
-fn keeps(set: &mut UniqueIndexSet, number: u64) -> u64 {
+fn keep(set: &mut UniqueIndexSet, number: u64) -> u64 {
     for index in 0..number {
         match set.acquire_raw_index() {
             Ok(came) => {
@@ -45,7 +45,7 @@ impl Answers<IndexCall> for UniqueIndexSet {
         match call {
             IndexCall::Acquire => acquired(self.acquire_raw_index(), answer),
             IndexCall::Hold => acquired(self.acquire_raw_index(), answer),
-            IndexCall::Keep(number) => answer.number(keeps(self, number)),
+            IndexCall::Keep(number) => answer.number(keep(self, number)),
             IndexCall::Release(index) => releases(self, index, answer),
             IndexCall::Drop(index) => releases(self, index, answer),
             IndexCall::ReleaseOrLock(index) => releases_or_locks(self, index, answer),

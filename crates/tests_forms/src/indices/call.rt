@@ -69,7 +69,7 @@ impl Call for IndexCall {
     fn each(at: usize, capacity: usize) -> Option<IndexCall> {
         match turn_of(at, capacity)? {
             Turn::Comes(_) => Some(comes(at % 2 == 0)),
-            Turn::Goes(index) => Some(goes(index.min(0xffff) as u32, at % 2 == 0)),
+            Turn::Goes(index) => Some(go(index.min(0xffff) as u32, at % 2 == 0)),
         }
     }
 
@@ -101,7 +101,7 @@ fn comes(is_raw: bool) -> IndexCall {
 }
 
 /// An index is given back, by a drop if so.
-fn goes(index: u32, drops: bool) -> IndexCall {
+fn go(index: u32, drops: bool) -> IndexCall {
     if drops {
         IndexCall::Drop(index)
     } else {
@@ -116,6 +116,6 @@ fn drawn(draws: &mut Draws, capacity: usize, fills: bool) -> IndexCall {
     } else if draws.in_eight(2) {
         IndexCall::ReleaseOrLock(index)
     } else {
-        goes(index, draws.in_eight(4))
+        go(index, draws.in_eight(4))
     }
 }

@@ -96,7 +96,6 @@ impl<'a> Index<'a> {
 }
 
 /// A caller of a set between threads, by two passes in turn.
-#[derive(Drop)]
 pub struct User<'a> {
     set: &'a UniqueIndexSet,
     now: Handle<'a>,
@@ -105,6 +104,17 @@ pub struct User<'a> {
     out: Vec<Option<Index<'a>>>,
     ghost of: { set_in now ≡ set.now },
     ghost of_other: { set_in other ≡ set.now },
+}
+
+impl<'a> Drop for User<'a> {
+    fn drop(self) {
+        let Self {
+            set: _,
+            now: _now,
+            other: _other,
+            out: _out,
+        } = self;
+    }
 }
 
 impl<'a> User<'a> {
@@ -156,7 +166,7 @@ impl<'a> User<'a> {
     }
 
     /// Takes a raw index by a further pass.
-    fn acquires(&mut self, rt: &impl Wait, answer: &mut Answer) {
+    fn acquire(&mut self, rt: &impl Wait, answer: &mut Answer) {
         let Some(further) = self.now.split() else {
             answer.word("no_pass");
             return;
@@ -188,15 +198,15 @@ impl<'a> User<'a> {
     }
 
     /// Takes an index for good, by a further pass.
-    fn keeps_one(&mut self, rt: &impl Wait) -> Option<u32> {
+    fn keep_one(&mut self, rt: &impl Wait) -> Option<u32> {
         let mut pass = self.now.split()?.into_pass();
         self.set.acquire_raw_index(rt, &mut pass).ok()
     }
 
     /// Takes so many indices for good: how many come in order, from 0 on.
-    fn keeps(&mut self, rt: &impl Wait, number: u64, answer: &mut Answer) {
+    fn keep(&mut self, rt: &impl Wait, number: u64, answer: &mut Answer) {
         for index in 0..number {
-            match self.keeps_one(rt) {
+            match self.keep_one(rt) {
                 Some(came) => {
                     if came as u64 != index {
                         answer.number(index);
@@ -257,9 +267,9 @@ impl<'a> User<'a> {
 impl<'a> Answers<IndexCall> for User<'a> {
     fn answer(&mut self, rt: &impl Wait, call: IndexCall, answer: &mut Answer) {
         match call {
-            IndexCall::Acquire => self.acquires(rt, answer),
+            IndexCall::Acquire => self.acquire(rt, answer),
             IndexCall::Hold => self.holds(rt, answer),
-            IndexCall::Keep(number) => self.keeps(rt, number, answer),
+            IndexCall::Keep(number) => self.keep(rt, number, answer),
             IndexCall::Release(index) => self.releases(index, answer),
             IndexCall::Drop(index) => self.releases_by_drop(index, answer),
             IndexCall::ReleaseOrLock(index) => self.releases_or_locks(rt, index, answer),

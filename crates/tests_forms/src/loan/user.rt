@@ -19,7 +19,6 @@ use tests_calls::play::Answers;
 use tests_calls::said::acquired;
 
 /// Both who use a channel.
-#[derive(Drop)]
 pub struct User<'a> {
     set: &'a UniqueIndexSet,
     looks: Pass,
@@ -30,6 +29,19 @@ pub struct User<'a> {
     ghost of: { IsPassOf set.now looks },
     ghost from: { ForSome sender (λ s. IsSenderOf set.now s) },
     ghost through: { ForSome sender (λ s. submission_of s ≡ ends.consumer_queue receives) },
+}
+
+impl<'a> Drop for User<'a> {
+    fn drop(self) {
+        let Self {
+            set: _,
+            looks: _looks,
+            sender: _sender,
+            receives: _receives,
+            returns: _returns,
+            last: _last,
+        } = self;
+    }
 }
 
 /// A sender that is made of these.
@@ -76,14 +88,14 @@ impl<'a> User<'a> {
         })
     }
 
-    fn loans(&mut self, rt: &impl Wait, answer: &mut Answer) {
+    fn loan(&mut self, rt: &impl Wait, answer: &mut Answer) {
         match &mut self.sender {
             Some(sender) => acquired(sender.loan(rt), answer),
             None => answer.refused(),
         }
     }
 
-    fn sends(&mut self, index: u32, answer: &mut Answer) {
+    fn send(&mut self, index: u32, answer: &mut Answer) {
         match &mut self.sender {
             Some(sender) => {
                 if sender.is_loaned(index) {
@@ -96,7 +108,7 @@ impl<'a> User<'a> {
         }
     }
 
-    fn gives_up(&mut self, index: u32, answer: &mut Answer) {
+    fn give_up(&mut self, index: u32, answer: &mut Answer) {
         match &mut self.sender {
             Some(sender) => {
                 if sender.is_loaned(index) {
@@ -117,14 +129,14 @@ impl<'a> User<'a> {
         }
     }
 
-    fn takes_back(&mut self, answer: &mut Answer) {
+    fn take_back(&mut self, answer: &mut Answer) {
         match &mut self.sender {
             Some(sender) => answer.perhaps(sender.take_back()),
             None => answer.refused(),
         }
     }
 
-    fn reclaims(&mut self, rt: &impl Wait, answer: &mut Answer) {
+    fn reclaim(&mut self, rt: &impl Wait, answer: &mut Answer) {
         match &mut self.sender {
             Some(sender) => answer.number(sender.reclaim(rt, &mut self.receives) as u64),
             None => answer.refused(),
@@ -135,7 +147,7 @@ impl<'a> User<'a> {
         answer.number(self.set.borrowed_indices(&mut self.looks) as u64);
     }
 
-    fn finishes(&mut self, answer: &mut Answer) {
+    fn finish(&mut self, answer: &mut Answer) {
         match self.sender.take() {
             Some(sender) => {
                 let mut pass = sender.finish();
@@ -162,16 +174,16 @@ impl<'a> User<'a> {
 impl<'a> Answers<LoanCall> for User<'a> {
     fn answer(&mut self, rt: &impl Wait, call: LoanCall, answer: &mut Answer) {
         match call {
-            LoanCall::Loan => self.loans(rt, answer),
-            LoanCall::Send(index) => self.sends(index, answer),
-            LoanCall::GiveUp(index) => self.gives_up(index, answer),
+            LoanCall::Loan => self.loan(rt, answer),
+            LoanCall::Send(index) => self.send(index, answer),
+            LoanCall::GiveUp(index) => self.give_up(index, answer),
             LoanCall::IsLoaned(index) => self.is_loaned(index, answer),
-            LoanCall::TakeBack => self.takes_back(answer),
+            LoanCall::TakeBack => self.take_back(answer),
             LoanCall::Receive => answer.perhaps(self.receives.pop(rt)),
             LoanCall::GiveBack(value) => answer.truth(self.returns.push(value)),
-            LoanCall::Reclaim => self.reclaims(rt, answer),
+            LoanCall::Reclaim => self.reclaim(rt, answer),
             LoanCall::Borrowed => self.borrowed(answer),
-            LoanCall::Finish => self.finishes(answer),
+            LoanCall::Finish => self.finish(answer),
         }
     }
 }

@@ -144,7 +144,7 @@ pub fn alone(call: RoleCall, answer: &mut Answer) {
     }
 }
 
-fn looks<E: Copy, T: Numbered>(queue: &mut List<E, T>, answer: &mut Answer) {
+fn look<E: Copy, T: Numbered>(queue: &mut List<E, T>, answer: &mut Answer) {
     answer.number(queue.len() as u64);
     answer.truth(queue.is_empty());
     answer.truth(queue.is_full());
@@ -159,7 +159,7 @@ fn answers<E: Copy, T: Numbered>(queue: &mut List<E, T>, call: QueueCall, answer
         QueueCall::Len => answer.number(queue.len() as u64),
         QueueCall::IsEmpty => answer.truth(queue.is_empty()),
         QueueCall::IsFull => answer.truth(queue.is_full()),
-        QueueCall::Looks => looks(queue, answer),
+        QueueCall::Looks => look(queue, answer),
         QueueCall::Capacity => answer.number(queue.capacity() as u64),
         QueueCall::Role(_, call) => alone(call, answer),
     }
@@ -183,7 +183,7 @@ impl Answers<QueueCall> for plain::IndexQueue {
     }
 }
 
-fn looks_over(queue: &mut plain::SafelyOverflowingIndexQueue, answer: &mut Answer) {
+fn look_over(queue: &mut plain::SafelyOverflowingIndexQueue, answer: &mut Answer) {
     answer.number(queue.len() as u64);
     answer.truth(queue.is_empty());
     answer.truth(queue.is_full());
@@ -198,7 +198,7 @@ impl Answers<QueueCall> for plain::SafelyOverflowingIndexQueue {
             QueueCall::Len => answer.number(self.len() as u64),
             QueueCall::IsEmpty => answer.truth(self.is_empty()),
             QueueCall::IsFull => answer.truth(self.is_full()),
-            QueueCall::Looks => looks_over(self, answer),
+            QueueCall::Looks => look_over(self, answer),
             QueueCall::Capacity => answer.number(self.capacity() as u64),
             QueueCall::Role(_, call) => alone(call, answer),
         }

@@ -3,7 +3,7 @@ ghost use Rattle.std.specs.Prelude.{◌≡◌};
 ghost use Rattle.lock_free.specs.Queues.Rings.{IsPassOf};
 
 use super::call::QueueCall;
-use super::user::{ends, plays};
+use super::user::{play_ending, plays};
 use lock_free::spsc::index_queue::{FixedSizeIndexQueue, IndexQueue};
 use std::sync::Wait;
 use steps::enums::UniqueIndexCreationError;
@@ -30,7 +30,7 @@ impl Form for Heap {
         let (queue, mut pass) = IndexQueue::new_at(scene.alloc, scene.capacity, scene.number)?;
         let mut alone = plain::IndexQueue::alone(scene)?;
         let _beside = plays(rt, scene, stage, &mut alone, &queue, &mut pass);
-        ends(rt, scene, stage, &mut alone, queue.close(pass)?);
+        play_ending(rt, scene, stage, &mut alone, queue.close(pass)?);
         Ok(())
     }
 }
@@ -43,7 +43,7 @@ impl<const CAPACITY: usize> Form for Fixed<CAPACITY> {
         let (queue, mut pass) = FixedSizeIndexQueue::<CAPACITY>::new(scene.alloc)?;
         let mut alone = plain::IndexQueue::alone(scene)?;
         let _beside = plays(rt, scene, stage, &mut alone, &queue, &mut pass);
-        ends(rt, scene, stage, &mut alone, queue.close(pass)?);
+        play_ending(rt, scene, stage, &mut alone, queue.close(pass)?);
         Ok(())
     }
 }

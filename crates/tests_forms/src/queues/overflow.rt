@@ -3,7 +3,7 @@ ghost use Rattle.std.specs.Prelude.{◌≡◌};
 ghost use Rattle.lock_free.specs.Queues.Rings.{IsPassOf};
 
 use super::call::QueueCall;
-use super::user::{ends, plays};
+use super::user::{play_ending, plays};
 use lock_free::spsc::safely_overflowing_index_queue::{
     FixedSizeSafelyOverflowingIndexQueue, SafelyOverflowingIndexQueue,
 };
@@ -38,7 +38,7 @@ impl Form for Heap {
         )?;
         let mut alone = plain::SafelyOverflowingIndexQueue::alone(scene)?;
         let _beside = plays(rt, scene, stage, &mut alone, &queue, &mut pass);
-        ends(rt, scene, stage, &mut alone, queue.close(pass)?);
+        play_ending(rt, scene, stage, &mut alone, queue.close(pass)?);
         Ok(())
     }
 }
@@ -51,7 +51,7 @@ impl<const CAPACITY: usize> Form for Fixed<CAPACITY> {
         let (queue, mut pass) = FixedSizeSafelyOverflowingIndexQueue::<CAPACITY>::new(scene.alloc)?;
         let mut alone = plain::SafelyOverflowingIndexQueue::alone(scene)?;
         let _beside = plays(rt, scene, stage, &mut alone, &queue, &mut pass);
-        ends(rt, scene, stage, &mut alone, queue.close(pass)?);
+        play_ending(rt, scene, stage, &mut alone, queue.close(pass)?);
         Ok(())
     }
 }

@@ -67,7 +67,6 @@ impl Kind<u64> for Overflowing {
 }
 
 /// A pass, and a guard of each role that is taken.
-#[derive(Drop)]
 struct User<'a, E: ring::rule::Kind, T: Words> {
     queue: &'a Ring<E, T>,
     pass: Pass<E, T>,
@@ -76,6 +75,17 @@ struct User<'a, E: ring::rule::Kind, T: Words> {
     ghost of: { IsPassOf queue.now pass },
     ghost producing: { ForSome producer (λ p. producer_queue p ≡ queue_id queue.now) },
     ghost consuming: { ForSome consumer (λ c. consumer_queue c ≡ queue_id queue.now) },
+}
+
+impl<'a, E: ring::rule::Kind, T: Words> Drop for User<'a, E, T> {
+    fn drop(self) {
+        let Self {
+            queue: _,
+            pass: _pass,
+            producer: _producer,
+            consumer: _consumer,
+        } = self;
+    }
 }
 
 impl<'a, E: ring::rule::Kind, T: Words> User<'a, E, T> {
@@ -94,7 +104,7 @@ impl<'a, E: ring::rule::Kind, T: Words> User<'a, E, T> {
     }
 
     /// The pass; the guards give their roles back.
-    fn leaves(self) -> Pass<E, T> {
+    fn leave(self) -> Pass<E, T> {
         let User {
             queue: _,
             pass,
@@ -116,14 +126,14 @@ impl<'a, E: ring::rule::Kind, T: Words> User<'a, E, T> {
         answer.truth(self.queue.is_full(rt, &mut self.pass));
     }
 
-    fn looks(&mut self, rt: &impl Wait, answer: &mut Answer) {
+    fn look(&mut self, rt: &impl Wait, answer: &mut Answer) {
         self.number(rt, answer);
         self.is_empty(rt, answer);
         self.is_full(rt, answer);
     }
 
     /// Whether a new pass gets the producer's role.
-    fn takes_producer(&mut self) -> bool {
+    fn take_producer(&mut self) -> bool {
         let Some(pass) = self.pass.split() else {
             return false;
         };
@@ -140,7 +150,7 @@ impl<'a, E: ring::rule::Kind, T: Words> User<'a, E, T> {
     }
 
     /// The same of the consumer.
-    fn takes_consumer(&mut self) -> bool {
+    fn take_consumer(&mut self) -> bool {
         let Some(pass) = self.pass.split() else {
             return false;
         };
@@ -157,7 +167,7 @@ impl<'a, E: ring::rule::Kind, T: Words> User<'a, E, T> {
     }
 
     /// Whether the producer gives its role back, with its pass.
-    fn releases_producer(&mut self) -> bool {
+    fn release_producer(&mut self) -> bool {
         match self.producer.take() {
             Some(producer) => {
                 self.pass.join(producer.release());
@@ -168,7 +178,7 @@ impl<'a, E: ring::rule::Kind, T: Words> User<'a, E, T> {
     }
 
     /// The same of the consumer.
-    fn releases_consumer(&mut self) -> bool {
+    fn release_consumer(&mut self) -> bool {
         match self.consumer.take() {
             Some(consumer) => {
                 self.pass.join(consumer.release());
@@ -178,16 +188,16 @@ impl<'a, E: ring::rule::Kind, T: Words> User<'a, E, T> {
         }
     }
 
-    fn drops_producer(&mut self) -> bool {
+    fn drop_producer(&mut self) -> bool {
         self.producer.take().is_some()
     }
 
-    fn drops_consumer(&mut self) -> bool {
+    fn drop_consumer(&mut self) -> bool {
         self.consumer.take().is_some()
     }
 
     /// Whether the consumer gives its role back, and its pass to the producer.
-    fn joins_producer(&mut self) -> bool {
+    fn join_producer(&mut self) -> bool {
         let Some(consumer) = self.consumer.take() else {
             return false;
         };
@@ -201,7 +211,7 @@ impl<'a, E: ring::rule::Kind, T: Words> User<'a, E, T> {
     }
 
     /// The same the other way round.
-    fn joins_consumer(&mut self) -> bool {
+    fn join_consumer(&mut self) -> bool {
         let Some(producer) = self.producer.take() else {
             return false;
         };
@@ -222,40 +232,40 @@ impl<'a, E: ring::rule::Kind, T: Words> User<'a, E, T> {
         self.queue.has_consumer(&mut self.pass)
     }
 
-    fn produces(&mut self, call: RoleCall) -> bool {
+    fn produce(&mut self, call: RoleCall) -> bool {
         match call {
-            RoleCall::Take => self.takes_producer(),
-            RoleCall::Release => self.releases_producer(),
-            RoleCall::Drop => self.drops_producer(),
-            RoleCall::Join => self.joins_producer(),
+            RoleCall::Take => self.take_producer(),
+            RoleCall::Release => self.release_producer(),
+            RoleCall::Drop => self.drop_producer(),
+            RoleCall::Join => self.join_producer(),
             RoleCall::Has => self.has_producer(),
             RoleCall::Looks => self.has_producer() == self.producer.is_some(),
             RoleCall::Again(drops) => {
                 if drops {
-                    self.drops_producer();
+                    self.drop_producer();
                 } else {
-                    self.releases_producer();
+                    self.release_producer();
                 }
-                self.takes_producer()
+                self.take_producer()
             }
         }
     }
 
-    fn consumes(&mut self, call: RoleCall) -> bool {
+    fn consume(&mut self, call: RoleCall) -> bool {
         match call {
-            RoleCall::Take => self.takes_consumer(),
-            RoleCall::Release => self.releases_consumer(),
-            RoleCall::Drop => self.drops_consumer(),
-            RoleCall::Join => self.joins_consumer(),
+            RoleCall::Take => self.take_consumer(),
+            RoleCall::Release => self.release_consumer(),
+            RoleCall::Drop => self.drop_consumer(),
+            RoleCall::Join => self.join_consumer(),
             RoleCall::Has => self.has_consumer(),
             RoleCall::Looks => self.has_consumer() == self.consumer.is_some(),
             RoleCall::Again(drops) => {
                 if drops {
-                    self.drops_consumer();
+                    self.drop_consumer();
                 } else {
-                    self.releases_consumer();
+                    self.release_consumer();
                 }
-                self.takes_consumer()
+                self.take_consumer()
             }
         }
     }
@@ -265,7 +275,7 @@ impl<'a, E: Kind<T>, T: Words> User<'a, E, T> {
     /// Where the role was not taken yet it is taken first.
     fn pushes(&mut self, number: u64, answer: &mut Answer) {
         if self.producer.is_none() {
-            self.takes_producer();
+            self.take_producer();
         }
         match &mut self.producer {
             Some(producer) => E::push(producer, number, answer),
@@ -276,7 +286,7 @@ impl<'a, E: Kind<T>, T: Words> User<'a, E, T> {
     /// The same of a pop.
     fn pops(&mut self, rt: &impl Wait, answer: &mut Answer) {
         if self.consumer.is_none() {
-            self.takes_consumer();
+            self.take_consumer();
         }
         match &mut self.consumer {
             Some(consumer) => E::pop(rt, consumer, answer),
@@ -287,7 +297,7 @@ impl<'a, E: Kind<T>, T: Words> User<'a, E, T> {
     /// The same of a peek.
     fn peeks(&mut self, answer: &mut Answer) {
         if self.consumer.is_none() {
-            self.takes_consumer();
+            self.take_consumer();
         }
         match &mut self.consumer {
             Some(consumer) => E::peek(consumer, answer),
@@ -305,11 +315,11 @@ impl<'a, E: Kind<T>, T: Words> Answers<QueueCall> for User<'a, E, T> {
             QueueCall::Len => self.number(rt, answer),
             QueueCall::IsEmpty => self.is_empty(rt, answer),
             QueueCall::IsFull => self.is_full(rt, answer),
-            QueueCall::Looks => self.looks(rt, answer),
+            QueueCall::Looks => self.look(rt, answer),
             QueueCall::Capacity => answer.number(self.queue.capacity() as u64),
             QueueCall::Role(role, call) => match role {
-                Role::Producer => answer.truth(self.produces(call)),
-                Role::Consumer => answer.truth(self.consumes(call)),
+                Role::Producer => answer.truth(self.produce(call)),
+                Role::Consumer => answer.truth(self.consume(call)),
             },
         }
     }
@@ -332,7 +342,7 @@ fn ending(scene: Scene<'_>) -> Option<Scene<'_>> {
 }
 
 /// Plays what follows the line `close` on what was left of both queues.
-pub fn ends<P: Answers<QueueCall>, Q: Answers<QueueCall> + Drop>(
+pub fn play_ending<P: Answers<QueueCall>, Q: Answers<QueueCall> + Drop>(
     rt: &impl Wait,
     scene: Scene<'_>,
     stage: &mut Stage,
@@ -363,7 +373,7 @@ pub fn plays<E: Kind<T>, T: Words, P: Answers<QueueCall>>(
         return None;
     };
     play::<QueueCall, P, User<'_, E, T>>(rt, opening(scene), stage, alone, &mut user);
-    let other = user.leaves();
+    let other = user.leave();
     lives_beside(scene).then_some(other)
 }
 

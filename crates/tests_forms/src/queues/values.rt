@@ -3,7 +3,7 @@ ghost use Rattle.std.specs.Prelude.{◌≡◌};
 ghost use Rattle.lock_free.specs.Queues.Rings.{inner, IsPassOf};
 
 use super::call::QueueCall;
-use super::user::{ends, plays};
+use super::user::{play_ending, plays};
 use lock_free::spsc::queue::{Pass, Queue};
 use std::marker::PhantomData;
 use std::sync::Wait;
@@ -27,7 +27,7 @@ impl<T: Numbered> Alone<QueueCall> for plain::Queue<T> {
 
 /// Plays the block on a queue of threads and on one of one caller. What follows the line `close` it plays on what is left
 /// of both.
-fn plays_both<T: Numbered, const CAPACITY: usize>(
+fn play_both<T: Numbered, const CAPACITY: usize>(
     rt: &impl Wait,
     scene: Scene<'_>,
     stage: &mut Stage,
@@ -39,7 +39,7 @@ fn plays_both<T: Numbered, const CAPACITY: usize>(
     let mut pass = pass;
     let mut alone = plain::Queue::<T>::alone(scene)?;
     let _beside = plays(rt, scene, stage, &mut alone, &queue, &mut pass);
-    ends(rt, scene, stage, &mut alone, queue.close(pass)?);
+    play_ending(rt, scene, stage, &mut alone, queue.close(pass)?);
     Ok(())
 }
 
@@ -52,10 +52,10 @@ impl<T: Numbered, const CAPACITY: usize> Form for Of<T, CAPACITY> {
     fn plays(rt: &impl Wait, scene: Scene<'_>, stage: &mut Stage) -> Made {
         if scene.number == 0 {
             let (queue, pass) = Queue::<T, CAPACITY>::new(scene.alloc)?;
-            plays_both(rt, scene, stage, queue, pass)
+            play_both(rt, scene, stage, queue, pass)
         } else {
             let (queue, pass) = Queue::<T, CAPACITY>::new_at(scene.alloc, scene.number)?;
-            plays_both(rt, scene, stage, queue, pass)
+            play_both(rt, scene, stage, queue, pass)
         }
     }
 }

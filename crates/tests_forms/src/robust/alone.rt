@@ -34,15 +34,15 @@ pub fn released(
 }
 
 /// Whether it is said of whom an index is that a recovery has freed: where the line does not say it.
-pub fn says_owner(frees: Frees, owner: OwnerId) -> bool {
+pub fn say_owner(frees: Frees, owner: OwnerId) -> bool {
     match frees {
         Frees::Of(dead) => owner != dead,
-        _ => asks_owner(frees),
+        _ => ask_owner(frees),
     }
 }
 
 /// The same of an index that it asks about.
-pub fn asks_owner(frees: Frees) -> bool {
+pub fn ask_owner(frees: Frees) -> bool {
     match frees {
         Frees::Drawn(_) => true,
         Frees::Owned(_) => true,
@@ -72,7 +72,7 @@ fn releases(
     }
 }
 
-fn finds(set: &mut RobustUniqueIndexSet, owner: OwnerId, stop: u64, answer: &mut Answer) {
+fn find(set: &mut RobustUniqueIndexSet, owner: OwnerId, stop: u64, answer: &mut Answer) {
     let mut number = 0u64;
     answer.word("at");
     let found = set.find(
@@ -87,17 +87,17 @@ fn finds(set: &mut RobustUniqueIndexSet, owner: OwnerId, stop: u64, answer: &mut
     answer.number(found as u64);
 }
 
-fn recovers(set: &mut RobustUniqueIndexSet, mode: ReleaseMode, frees: Frees, answer: &mut Answer) {
+fn recover(set: &mut RobustUniqueIndexSet, mode: ReleaseMode, frees: Frees, answer: &mut Answer) {
     let mut answers = Asked::new(frees);
     let mut asked = Heard::new(answer.alloc());
     let mut told = Heard::new(answer.alloc());
     let state = set.recover(
         mode,
         &mut |owner, index| {
-            hear(&mut asked, asks_owner(frees), owner, index);
+            hear(&mut asked, ask_owner(frees), owner, index);
             answers.next(frees, owner)
         },
-        &mut |owner, index| hear(&mut told, says_owner(frees, owner), owner, index),
+        &mut |owner, index| hear(&mut told, say_owner(frees, owner), owner, index),
     );
     ended(state, answer);
     asked.say("asked", answer);
@@ -109,8 +109,8 @@ impl Answers<RobustCall> for RobustUniqueIndexSet {
         match call {
             RobustCall::Acquire(owner) => acquired(self.acquire(owner), answer),
             RobustCall::Release(index, owner, mode) => releases(self, index, owner, mode, answer),
-            RobustCall::Find(owner, stop) => finds(self, owner, stop, answer),
-            RobustCall::Recover(mode, frees) => recovers(self, mode, frees, answer),
+            RobustCall::Find(owner, stop) => find(self, owner, stop, answer),
+            RobustCall::Recover(mode, frees) => recover(self, mode, frees, answer),
             RobustCall::Borrowed => answer.number(self.borrowed_indices() as u64),
             RobustCall::IsLocked => answer.truth(self.is_locked()),
             RobustCall::IsLockedFurther => {}

@@ -1,7 +1,7 @@
 //! A set of indices of owners of threads answers calls, by a handle.
 ghost use Rattle.lock_free.specs.RobustUniqueIndexSet.{IsPassOf};
 
-use super::alone::{acquired, asks_owner, hear, released, says_owner};
+use super::alone::{acquired, ask_owner, hear, released, say_owner};
 use super::call::RobustCall;
 use lock_free::mpmc::robust_unique_index_set::{Handle, OwnerId, Pass, RobustUniqueIndexSet};
 use std::sync::Wait;
@@ -38,7 +38,7 @@ fn releases(
     }
 }
 
-fn finds(set: &mut Handle<'_>, owner: OwnerId, stop: u64, answer: &mut Answer) {
+fn find(set: &mut Handle<'_>, owner: OwnerId, stop: u64, answer: &mut Answer) {
     let mut number = 0u64;
     answer.word("at");
     let found = set.find(
@@ -53,7 +53,7 @@ fn finds(set: &mut Handle<'_>, owner: OwnerId, stop: u64, answer: &mut Answer) {
     answer.number(found as u64);
 }
 
-fn recovers(
+fn recover(
     rt: &impl Wait,
     set: &mut Handle<'_>,
     mode: ReleaseMode,
@@ -67,10 +67,10 @@ fn recovers(
         rt,
         mode,
         &mut |owner, index| {
-            hear(&mut asked, asks_owner(frees), owner, index);
+            hear(&mut asked, ask_owner(frees), owner, index);
             answers.next(frees, owner)
         },
-        &mut |owner, index| hear(&mut told, says_owner(frees, owner), owner, index),
+        &mut |owner, index| hear(&mut told, say_owner(frees, owner), owner, index),
     );
     ended(state, answer);
     asked.say("asked", answer);
@@ -92,8 +92,8 @@ impl<'a> Answers<RobustCall> for Handle<'a> {
             RobustCall::Release(index, owner, mode) => {
                 releases(rt, self, index, owner, mode, answer);
             }
-            RobustCall::Find(owner, stop) => finds(self, owner, stop, answer),
-            RobustCall::Recover(mode, frees) => recovers(rt, self, mode, frees, answer),
+            RobustCall::Find(owner, stop) => find(self, owner, stop, answer),
+            RobustCall::Recover(mode, frees) => recover(rt, self, mode, frees, answer),
             RobustCall::Borrowed => answer.number(self.borrowed_indices(rt) as u64),
             RobustCall::IsLocked => answer.truth(self.is_locked()),
             RobustCall::IsLockedFurther => is_locked_further(self, answer),

@@ -1,7 +1,7 @@
 //! Records that a writer and a reader share by `Arc`, which go through a ring of `rtrb`.
 
 use super::by_copy::blank;
-use super::passing::{Ends, LOOKS, Reader, WAITING, Writer, pause, word_of};
+use super::passing::{Ends, Reader, WAITING, Writer, word_of};
 use rtrb::{Consumer, Producer, RingBuffer};
 use std::alloc::{AllocError, Global};
 use std::sync::{Arc, Wait};
@@ -9,11 +9,19 @@ use std::sync::{Arc, Wait};
 /// A record that is shared.
 type Shared = Arc<Vec<u64>, Global>;
 
-/// Who writes records where they lie, as soon as nobody else has them, and passes them on.
-#[derive(Drop)]
+/// Who writes records where they lie, if nobody else has them, and passes them on.
 pub struct Shares {
     ring: Producer<Shared>,
     records: Vec<Shared>,
+}
+
+impl Drop for Shares {
+    fn drop(self) {
+        let Self {
+            ring: _ring,
+            records: _records,
+        } = self;
+    }
 }
 
 /// Who reads them there.
@@ -38,19 +46,16 @@ impl Writer for Shares {
     #[inline(always)]
     fn write<R: Wait>(&mut self, _rt: &R, number: u64) -> bool {
         let at = (number % WAITING as u64) as usize;
-        for looks in 0..LOOKS {
-            let Some(record) = self.records.get_mut(at) else {
-                return false;
-            };
-            if is_written(record, number) {
-                return match Arc::try_clone(record) {
-                    Ok(record) => self.ring.push(record).is_ok(),
-                    Err(_) => false,
-                };
-            }
-            pause(looks);
+        let Some(record) = self.records.get_mut(at) else {
+            return false;
+        };
+        if !is_written(record, number) {
+            return false;
         }
-        false
+        match Arc::try_clone(record) {
+            Ok(record) => self.ring.push(record).is_ok(),
+            Err(_) => false,
+        }
     }
 }
 

@@ -1,7 +1,7 @@
 //! Records that are written and read in the slots of a bus.
 
 use super::by_copy::blank;
-use super::passing::{Ends, LOOKS, Reader, WAITING, Writer, pause, word_of};
+use super::passing::{Ends, Reader, WAITING, Writer, word_of};
 use lock_free::mpmc::container::OwnerId;
 use std::alloc::{AllocError, Global};
 use std::sync::Wait;
@@ -40,20 +40,14 @@ pub struct Receives<'a> {
 }
 
 impl<'a> Publishes<'a> {
-    /// A slot, as soon as one is free.
+    /// A slot. Where none is free, those that came back are collected first.
     #[inline(always)]
     fn next_loan<R: Wait>(&mut self, rt: &R) -> Option<Loan<'a, Vec<u64>>> {
-        for looks in 0..LOOKS {
-            if let Ok(loan) = self.publisher.loan(rt) {
-                return Some(loan);
-            }
-            self.publisher.collect();
-            if let Ok(loan) = self.publisher.loan(rt) {
-                return Some(loan);
-            }
-            pause(looks);
+        if let Ok(loan) = self.publisher.loan(rt) {
+            return Some(loan);
         }
-        None
+        self.publisher.collect();
+        self.publisher.loan(rt).ok()
     }
 }
 

@@ -1,6 +1,6 @@
 //! Records that are copied into a buffer under a lock, and out of it again.
 
-use super::passing::{Ends, LOOKS, Reader, WAITING, Writer, pause, word_of};
+use super::passing::{Ends, Reader, WAITING, Writer, word_of};
 use std::alloc::{AllocError, Global};
 use std::sync::{Mutex, Wait};
 
@@ -97,13 +97,7 @@ impl<'a> Writer for Puts<'a> {
         for at in 0..self.record.len() {
             self.record[at] = word_of(number, at);
         }
-        for looks in 0..LOOKS {
-            if self.waiting.lock(rt).put(&self.record) {
-                return true;
-            }
-            pause(looks);
-        }
-        false
+        self.waiting.lock(rt).put(&self.record)
     }
 }
 

@@ -1,11 +1,11 @@
 //! Records that are written and read in the slots of a typed loan channel.
 
-use super::passing::{Ends, LOOKS, Reader, Writer, pause, word_of};
+use super::passing::{Ends, Reader, Writer, word_of};
 use std::alloc::Global;
 use std::sync::Wait;
 use zero_copy_loans::channel::Channel;
 use zero_copy_loans::receiver::{Receiver, Sample};
-use zero_copy_loans::sender::{Loan, Sender};
+use zero_copy_loans::sender::Sender;
 
 /// Who writes records into places that it loans, and sends them.
 #[derive(Drop)]
@@ -19,25 +19,11 @@ pub struct Gets<'a> {
     receiver: Receiver<'a, Vec<u64>>,
 }
 
-impl<'a> Sends<'a> {
-    /// A place, as soon as one is free.
-    #[inline(always)]
-    fn next_loan<R: Wait>(&mut self, rt: &R) -> Option<Loan<'a, Vec<u64>>> {
-        for looks in 0..LOOKS {
-            self.sender.take_back();
-            if let Ok(loan) = self.sender.loan(rt) {
-                return Some(loan);
-            }
-            pause(looks);
-        }
-        None
-    }
-}
-
 impl<'a> Writer for Sends<'a> {
     #[inline(always)]
     fn write<R: Wait>(&mut self, rt: &R, number: u64) -> bool {
-        let Some(mut loan) = self.next_loan(rt) else {
+        self.sender.take_back();
+        let Ok(mut loan) = self.sender.loan(rt) else {
             return false;
         };
         for (at, word) in loan.value.iter_mut().enumerate() {

@@ -32,15 +32,6 @@ impl Bits {
         })
     }
 
-    pub fn another(&mut self) -> Option<Bits> {
-        let words = self.words.another()?;
-        Some(Bits {
-            words,
-            capacity: self.capacity,
-            elements: self.elements,
-        })
-    }
-
     #[inline(never)]
     pub fn set<R: Wait>(&mut self, rt: &R, place: u32) -> bool {
         if place >= self.capacity {

@@ -6,7 +6,6 @@ use std::alloc::{AllocError, Global};
 
 /// How many changes there were, the owner of each index, the number of each element, and the elements; and of one who
 /// looks how many changes there were then, and the number and a copy of each element.
-#[derive(Drop)]
 pub struct Looks {
     words: Words,
     capacity: u32,
@@ -14,6 +13,18 @@ pub struct Looks {
     changes: u64,
     seen: Vec<(u64, u64)>,
     ghost sized: { words.size ≡ 1 + capacity + (capacity + capacity) },
+}
+
+impl Drop for Looks {
+    fn drop(self) {
+        let Self {
+            words: _words,
+            capacity: _,
+            alloc: _,
+            changes: _,
+            seen: _seen,
+        } = self;
+    }
 }
 
 impl Looks {

@@ -28,12 +28,6 @@ impl Owners {
         Ok(Owners { words, capacity })
     }
 
-    pub fn another(&mut self) -> Option<Owners> {
-        let words = self.words.another()?;
-        let capacity = self.capacity;
-        Some(Owners { words, capacity })
-    }
-
     /// Raises the counter: false where the set is locked.
     #[inline(always)]
     pub fn raise<R: Wait>(&mut self, rt: &R) -> bool

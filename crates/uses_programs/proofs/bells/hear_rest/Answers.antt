@@ -1,3 +1,5 @@
+-- `hear_rest` (src/bells.rt): the invariant of its loop holds at the start and after each iteration, and its return meets what it
+-- ensures.
 use Rattle.std.proofs.Common.{refl, sym, ap, subst, ◌≡◌, ◌∙◌, [], ◌∷◌, ◌++◌, arith}
 use Rattle.uses_programs.proofs.Names.{common_steps, IsAll}
 use Rattle.lock_free.specs.Bits.Calls.{SetId, set_of, view, share, made}

@@ -1,3 +1,4 @@
+-- `listen` (src/bells.rt): the invariant of its loop holds at the start and after each iteration.
 use Rattle.std.proofs.Common.{refl, sym, subst, ◌≡◌, ◌∙◌, [], ◌∷◌, ◌++◌, arith}
 use Rattle.uses_programs.proofs.Names.{common_steps}
 use Rattle.lock_free.specs.Bits.Calls.{view, made}

@@ -1,3 +1,4 @@
+-- `ring` (src/bells.rt): the invariant of its loop holds at the start and after each iteration, and its return meets the clause `all`.
 use Rattle.std.proofs.Common.{rules, ◌≡◌, ◌<◌, [], ◌∷◌, ◌++◌, length, slice_index_or, refl, sym, subst, ◌∙◌, ◌≤◌, arith, take_all}
 use Rattle.uses_programs.proofs.Names.{common_steps, All-nil, sets}
 use Rattle.lock_free.specs.Bits.Calls.{view, history, made}

@@ -1,3 +1,4 @@
+-- `ring_bells` (src/bells.rt): its call of `hear_rest` meets what that requires, and its return meets the clauses `same` and `all`.
 use Rattle.std.proofs.Common.{rules, ◌≡◌, [], sym, ap, subst, ◌∙◌}
 use Rattle.uses_programs.proofs.Names.{Share, all_shares, half_of, both_of, IsAll}
 use Rattle.lock_free.specs.Bits.Calls.{history, made, share}

@@ -1,3 +1,4 @@
+-- `ring_both` (src/bells.rt): its return meets the clauses `rung` and `all`.
 use Rattle.std.proofs.Common.{rules, sym, subst}
 use Rattle.lock_free.specs.Bits.Calls.{history, made}
 use Rattle.uses_programs.specs.Bells.{WereSet, HasRung, BothRung}

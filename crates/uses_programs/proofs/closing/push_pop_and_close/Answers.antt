@@ -1,3 +1,4 @@
+-- `push_pop_and_close` (src/closing.rt): its return meets what it ensures (`IfOk`).
 use Rattle.std.proofs.Common.{refl, rules, arith, ◌≡◌, ap, ◌∙◌, [], ◌∷◌}
 use Rattle.uses_programs.proofs.Names.{common_steps, slice_get, drop, front, index_tells, Index, Sending, Receiving, Sent, Received}
 use Rattle.uses_programs.proofs.Names.{sending_none, sending_one, sent_all, receiving_none, receiving_one, received_all, left_over}

@@ -1,3 +1,4 @@
+-- `lease` (src/leases.rt): the invariant of its loop holds at the start and after each iteration.
 use Rattle.std.proofs.Common.{rules, ◌≡◌, ◌<◌, Ok, IfOk, [], ◌∷◌, ◌++◌, refl, sym, subst, ◌∙◌}
 use Rattle.uses_programs.proofs.Names.{All, All-nil, All-push}
 use Rattle.lock_free.specs.RobustUniqueIndexSet.{view, made, capacity_of}

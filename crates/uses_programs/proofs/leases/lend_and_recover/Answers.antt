@@ -1,3 +1,4 @@
+-- `lend_and_recover` (src/leases.rt): its return meets the clause `apart`.
 use Rattle.std.proofs.Common.{rules, ◌≡◌, ◌++◌, sym, subst}
 use Rattle.uses_programs.proofs.Names.{all_shares, half_of, IsAll}
 use Rattle.lock_free.specs.RobustUniqueIndexSet.{history, made, share, set_of}

@@ -1,3 +1,5 @@
+-- `give_back` (src/pool.rt): its call of `release_raw_index` meets the requirement `held`, each iteration keeps the invariant of its
+-- loop, and its return meets what it ensures (`Holding`).
 use Rattle.uses_programs.proofs.Names.{arith, refl, holds_next, holds_rest, holds_last}
 use Rattle.uses_programs.proofs.pool.give_back.Goals as goal
 

@@ -1,3 +1,4 @@
+-- `hold_buffers` (src/pool.rt): its return meets the clauses `apart` and `none`.
 use Rattle.uses_programs.proofs.Names.{rules, holds_apart, none_out}
 use Rattle.uses_programs.proofs.pool.hold_buffers.Goals as goal
 

@@ -1,3 +1,4 @@
+-- `take` (src/pool.rt): the invariant of its loop holds at the start and after each iteration.
 use Rattle.uses_programs.proofs.Names.{rules, arith, common_steps, holds_none, holds_more}
 use Rattle.uses_programs.proofs.pool.take.Goals as goal
 

@@ -1,3 +1,4 @@
+-- `take_four` (src/pool.rt): its return meets the clause `held`.
 use Rattle.uses_programs.proofs.Names.{rules, both_hold}
 use Rattle.uses_programs.proofs.pool.take_four.Goals as goal
 

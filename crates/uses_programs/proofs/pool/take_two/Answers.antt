@@ -1,3 +1,4 @@
+-- `take_two` (src/pool.rt): its return meets what it ensures.
 use Rattle.uses_programs.proofs.Names.{rules, both_hold}
 use Rattle.uses_programs.proofs.pool.take_two.Goals as goal
 

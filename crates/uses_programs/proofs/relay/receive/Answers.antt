@@ -1,3 +1,4 @@
+-- `receive` (src/relay.rt): each iteration keeps the invariant of its loop, and its return meets the clause `received`.
 use Rattle.uses_programs.proofs.Names.{rules, arith, common_steps, receiving_one, receiving_still, received_all}
 use Rattle.uses_programs.proofs.relay.receive.Goals as goal
 

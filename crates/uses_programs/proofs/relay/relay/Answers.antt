@@ -1,3 +1,4 @@
+-- `relay` (src/relay.rt): its return meets the clause `relayed`.
 use Rattle.uses_programs.proofs.Names.{rules, arith, common_steps, index_tells, relayed}
 use Rattle.uses_programs.proofs.relay.relay.Goals as goal
 

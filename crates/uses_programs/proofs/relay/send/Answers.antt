@@ -1,3 +1,4 @@
+-- `send` (src/relay.rt): each iteration keeps the invariant of its loop, and its return meets what it ensures (`IfOk`).
 use Rattle.uses_programs.proofs.Names.{arith, sending_next, sending_still, sent_all}
 use Rattle.uses_programs.proofs.relay.send.Goals as goal
 

@@ -1,3 +1,5 @@
+-- `drain` (src/relay_overflow.rt): the invariant of its loop holds at the start and after each iteration, and its return meets the
+-- clause `drained`.
 use Rattle.std.proofs.Common.{rules, arith, ap, subst, sym, ◌≡◌, ◌<◌, ◌∙◌, [], ◌∷◌, ◌++◌, append_assoc, append-nil, refl, Some, None}
 use Rattle.uses_programs.proofs.Names.{common_steps, option_map, HasPopped}
 use Rattle.lock_free.specs.Queues.Item.TheVariants.{Index}

@@ -1,3 +1,4 @@
+-- `overflow` (src/relay_overflow.rt): its return meets what it ensures.
 use Rattle.std.proofs.Common.{rules, arith, ◌≡◌, ◌<◌, ◌-◌, ◌^◌, subst, sym, length, Result, Ok, Err, Option, Some, None}
 use Rattle.std.specs.Result.{result_ok, IfOk}
 use Rattle.uses_programs.proofs.Names.{common_steps, first_view}

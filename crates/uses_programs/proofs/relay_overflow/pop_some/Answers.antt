@@ -1,3 +1,5 @@
+-- `pop_some` (src/relay_overflow.rt): the invariant of its loop holds at the start and after each iteration, and its return meets the
+-- clause `popped`.
 use Rattle.std.proofs.Common.{rules, arith, ap, subst, sym, ◌≡◌, ◌<◌, [], ◌∷◌, ◌++◌, Ok, Some, None}
 use Rattle.uses_programs.proofs.Names.{common_steps, IfOk-at_ok, option_map, HasPopped}
 use Rattle.lock_free.specs.Queues.Item.TheVariants.{Index}

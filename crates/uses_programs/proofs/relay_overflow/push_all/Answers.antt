@@ -1,3 +1,5 @@
+-- `push_all` (src/relay_overflow.rt): the invariant of its loop holds at the start and after each iteration, and its return meets the
+-- clause `pushed`.
 use Rattle.std.proofs.Common.{rules, arith, subst, sym, refl, ap, ◌≡◌, ◌+◌, ◌<◌, [], ◌∷◌, ◌++◌, take, Ok}
 use Rattle.uses_programs.proofs.Names.{common_steps, IfOk-at_ok}
 use Rattle.lock_free.specs.Queues.Overflowing.{view, producer_view, producer_queue, QueueId}

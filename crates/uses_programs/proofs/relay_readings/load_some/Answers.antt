@@ -1,3 +1,4 @@
+-- `load_some` (src/relay_readings.rt): each iteration keeps the invariant of its loop.
 use Rattle.std.proofs.Common.{rules, arith, ◌≡◌, [], ◌∷◌, ◌++◌, sym, subst}
 use Rattle.uses_programs.proofs.Names.{common_steps}
 use Rattle.lock_free.specs.Value.Calls.{view}

@@ -1,3 +1,4 @@
+-- `show` (src/relay_readings.rt): its return meets the clauses `seen` and `last`.
 use Rattle.std.proofs.Common.{rules, arith, ◌≡◌}
 use Rattle.uses_programs.proofs.Names.{common_steps, opened_view}
 use Rattle.lock_free.specs.Value.Calls.{view}

@@ -1,3 +1,5 @@
+-- `write` (src/relay_readings.rt): the invariant of its loop holds at the start and after each iteration, and its return meets the
+-- clause `written`.
 use Rattle.std.proofs.Common.{rules, arith, refl, ◌≡◌, Ok}
 use Rattle.uses_programs.proofs.Names.{common_steps, IfOk-at_ok}
 use Rattle.lock_free.specs.Value.Calls.{view, producer_view}
