@@ -1,12 +1,13 @@
 //! A bus with few and with many lanes, whose slots are more than a byte's bits: each subscriber reads each record just as it was
 //! published, records and slots come back, and who joins in a freed lane finds nothing of who had it before.
-use crate::rooms::{publishes, reads};
-use crate::stage::{Failure, Plays, holds, on_new_bus, some};
+use crate::rooms::{publish, read};
+use crate::stage::{Failure, Plays, check, on_new_bus, some};
 use crate::words::Words;
 use lock_free::mpmc::container::OwnerId;
 use std::alloc::Global;
 use std::sync::Wait;
 use std::test::Fail;
+use std::thread::Threads;
 use zero_copy_bus::bus::Sizes;
 use zero_copy_bus::error::{LoanFailure, ReclaimFailure, SubscribeFailure};
 use zero_copy_bus::publisher::Publisher;
@@ -18,7 +19,7 @@ const WORDS: usize = 3;
 const ROOM: usize = 40;
 
 /// So many subscribers, each of which takes part, in the lane of its place.
-fn all_join<'a>(
+fn join_all<'a>(
     rt: &impl Wait,
     alloc: Global,
     publisher: &mut Publisher<'a, Words>,
@@ -28,7 +29,7 @@ fn all_join<'a>(
     for lane in 0..lanes {
         let owner = some(OwnerId::new((lane as u64).saturating_add(1)).ok())?;
         let subscriber = some(publisher.subscribe(rt, owner).ok())?;
-        holds(subscriber.place() == lane as u64)?;
+        check(subscriber.place() == lane as u64)?;
         if all.push(subscriber).is_err() {
             return Err(Failure::NoMemory);
         }
@@ -37,19 +38,19 @@ fn all_join<'a>(
 }
 
 /// Two records go to each of so many, who reads both, and gives them back. How many slots are out then.
-fn goes_round(
+fn go_round(
     rt: &impl Wait,
     publisher: &mut Publisher<'_, Words>,
     all: &mut Vec<Subscriber<'_, Words>>,
 ) -> Result<usize, Failure> {
     let first = publisher.next_number();
     let second = some(first.checked_add(1))?;
-    holds(publishes(rt, publisher, first)? == all.len())?;
-    holds(publishes(rt, publisher, second)? == all.len())?;
+    check(publish(rt, publisher, first)? == all.len())?;
+    check(publish(rt, publisher, second)? == all.len())?;
     for subscriber in all.iter_mut() {
-        holds(reads(rt, subscriber, first, WORDS) == Some(first))?;
-        holds(reads(rt, subscriber, second, WORDS) == Some(second))?;
-        holds(subscriber.receive(rt).is_none())?;
+        check(read(rt, subscriber, first, WORDS) == Some(first))?;
+        check(read(rt, subscriber, second, WORDS) == Some(second))?;
+        check(subscriber.receive(rt).is_none())?;
     }
     publisher.collect();
     Ok(publisher.borrowed())
@@ -63,19 +64,19 @@ fn leave_all(
     all: Vec<Subscriber<'_, Words>>,
 ) -> Result<(), Failure> {
     let lanes = all.len();
-    holds(publishes(rt, publisher, 0)? == lanes)?;
+    check(publish(rt, publisher, 0)? == lanes)?;
     let mut right = true;
     for subscriber in all {
         right &= subscriber.leave(rt).is_ok();
     }
     publisher.update(rt);
-    holds(right && publisher.is_free() && publisher.borrowed() == 0)?;
-    let mut others = all_join(rt, alloc, publisher, lanes)?;
+    check(right && publisher.is_free() && publisher.borrowed() == 0)?;
+    let mut others = join_all(rt, alloc, publisher, lanes)?;
     for subscriber in others.iter_mut() {
         right &= subscriber.receive(rt).is_none();
         right &= subscriber.expected() == publisher.next_number();
     }
-    holds(goes_round(rt, publisher, &mut others)? == 0 && right)
+    check(go_round(rt, publisher, &mut others)? == 0 && right)
 }
 
 /// So many lanes. Records are published more often than there are slots.
@@ -85,19 +86,19 @@ struct Lanes {
 }
 
 impl Plays for Lanes {
-    fn plays(
+    fn play(
         &self,
-        rt: &impl Wait,
+        rt: &(impl Threads + Wait + Sync),
         alloc: Global,
         publisher: &mut Publisher<'_, Words>,
     ) -> Result<Option<usize>, Failure> {
-        let mut all = all_join(rt, alloc, publisher, self.lanes)?;
+        let mut all = join_all(rt, alloc, publisher, self.lanes)?;
         match publisher.subscribe(rt, some(OwnerId::new(99).ok())?) {
             Err(SubscribeFailure::NoSeat) => {}
             _ => return Err(Failure::Wrong),
         }
         for _ in 0..ROOM {
-            holds(goes_round(rt, publisher, &mut all)? == 0)?;
+            check(go_round(rt, publisher, &mut all)? == 0)?;
         }
         leave_all(rt, alloc, publisher, all)?;
         Ok(None)
@@ -111,9 +112,9 @@ struct Loans {
 }
 
 impl Plays for Loans {
-    fn plays(
+    fn play(
         &self,
-        rt: &impl Wait,
+        rt: &(impl Threads + Wait + Sync),
         alloc: Global,
         publisher: &mut Publisher<'_, Words>,
     ) -> Result<Option<usize>, Failure> {
@@ -131,13 +132,13 @@ impl Plays for Loans {
         );
         right &= matches!(&publisher.reclaim(self.slots), Err(ReclaimFailure::NotHeld));
         publisher.give_up(last);
-        holds(right && publisher.loan(rt).is_ok())?;
+        check(right && publisher.loan(rt).is_ok())?;
         Ok(None)
     }
 }
 
 /// A bus of so many lanes.
-fn of_lanes(rt: &impl Wait, alloc: Global, lanes: usize) -> Result<(), Failure> {
+fn of_lanes(rt: &(impl Threads + Wait + Sync), alloc: Global, lanes: usize) -> Result<(), Failure> {
     let sizes = Sizes {
         slots: ROOM,
         subscribers: lanes,

@@ -4,18 +4,19 @@ ghost use Rattle.std.specs.Prelude.{◌≡◌, IfSome};
 ghost use Rattle.zero_copy_bus.specs.Ends.{place_at, receives_queue, IsOfLane};
 ghost use Rattle.zero_copy_bus.specs.Relays.{HasPublished};
 
-use crate::stage::{Failure, Plays, holds, on_new_bus, some};
+use crate::stage::{Failure, Plays, check, on_new_bus, some};
 use crate::words::Words;
 use lock_free::mpmc::container::OwnerId;
 use std::alloc::Global;
 use std::sync::Wait;
 use std::test::Fail;
+use std::thread::Threads;
 use zero_copy_bus::bus::Sizes;
 use zero_copy_bus::publisher::Publisher;
 use zero_copy_bus::subscriber::{Left, Subscriber};
 
 /// Publishes so many records. False where one of them cannot be.
-fn publishes(rt: &impl Wait, publisher: &mut Publisher<'_, Words>, number: usize) -> bool
+fn publish(rt: &impl Wait, publisher: &mut Publisher<'_, Words>, number: usize) -> bool
     ensures { HasPublished publisher.old publisher.new }
 {
     for _ in 0..number {
@@ -28,7 +29,7 @@ fn publishes(rt: &impl Wait, publisher: &mut Publisher<'_, Words>, number: usize
 }
 
 /// Receives a record and gives it back, and then one that it keeps, if there is one more.
-fn takes_two(rt: &impl Wait, subscriber: &mut Subscriber<'_, Words>) -> bool
+fn take_two(rt: &impl Wait, subscriber: &mut Subscriber<'_, Words>) -> bool
     ensures place { place_at subscriber.new ≡ place_at subscriber.old }
     ensures queue { receives_queue subscriber.new ≡ receives_queue subscriber.old }
 {
@@ -41,21 +42,17 @@ fn takes_two(rt: &impl Wait, subscriber: &mut Subscriber<'_, Words>) -> bool
 }
 
 /// Somebody subscribes, all slots go out to it, and it leaves. None where it does not come to this.
-fn leaves<'a>(
-    rt: &impl Wait,
-    publisher: &mut Publisher<'a, Words>,
-    slots: usize,
-) -> Option<Left<'a>>
+fn leave<'a>(rt: &impl Wait, publisher: &mut Publisher<'a, Words>, slots: usize) -> Option<Left<'a>>
     ensures { IfSome result (λ left. IsOfLane left publisher.new) }
 {
     let owner = OwnerId::new(1).ok()?;
     let Ok(mut subscriber) = publisher.subscribe(rt, owner) else {
         return None;
     };
-    if !publishes(rt, publisher, slots) {
+    if !publish(rt, publisher, slots) {
         return None;
     }
-    if !takes_two(rt, &mut subscriber) {
+    if !take_two(rt, &mut subscriber) {
         return None;
     }
     let Ok(left) = subscriber.leave(rt) else {
@@ -66,12 +63,12 @@ fn leaves<'a>(
 
 /// Somebody leaves, and the publisher looks who takes part before it takes in what was left. Whether no slot is out in the end, and a
 /// lane is free. None where it does not come to this.
-fn comes_back_before(
+fn come_back_before(
     rt: &impl Wait,
     publisher: &mut Publisher<'_, Words>,
     slots: usize,
 ) -> Option<bool> {
-    let left = leaves(rt, publisher, slots)?;
+    let left = leave(rt, publisher, slots)?;
     publisher.update(rt);
     publisher.rejoin(left);
     Some(publisher.is_free() && publisher.seat().is_some())
@@ -84,22 +81,22 @@ struct ComesBack {
 }
 
 impl Plays for ComesBack {
-    fn plays(
+    fn play(
         &self,
-        rt: &impl Wait,
+        rt: &(impl Threads + Wait + Sync),
         _alloc: Global,
         publisher: &mut Publisher<'_, Words>,
     ) -> Result<Option<usize>, Failure> {
-        let Some(left) = leaves(rt, publisher, self.slots) else {
+        let Some(left) = leave(rt, publisher, self.slots) else {
             return Err(Failure::Wrong);
         };
         publisher.rejoin(left);
-        holds(!publisher.is_free() && publisher.borrowed() == self.slots)?;
+        check(!publisher.is_free() && publisher.borrowed() == self.slots)?;
         publisher.update(rt);
-        holds(publisher.is_free() && publisher.seat().is_some())?;
+        check(publisher.is_free() && publisher.seat().is_some())?;
         // (the seat is free again)
         publisher.update(rt);
-        holds(comes_back_before(rt, publisher, self.slots) == Some(true))?;
+        check(come_back_before(rt, publisher, self.slots) == Some(true))?;
         Ok(None)
     }
 }
@@ -110,15 +107,15 @@ impl Plays for ComesBack {
 struct ComesBackLate;
 
 impl Plays for ComesBackLate {
-    fn plays(
+    fn play(
         &self,
-        rt: &impl Wait,
+        rt: &(impl Threads + Wait + Sync),
         _alloc: Global,
         publisher: &mut Publisher<'_, Words>,
     ) -> Result<Option<usize>, Failure> {
         let owner = some(OwnerId::new(1).ok())?;
         let subscriber = some(publisher.subscribe(rt, owner).ok())?;
-        holds(publishes(rt, publisher, 2))?;
+        check(publish(rt, publisher, 2))?;
         publisher.recover(rt, owner);
         let Err((_failure, mut again)) = subscriber.leave(rt) else {
             return Err(Failure::Wrong);
@@ -128,7 +125,7 @@ impl Plays for ComesBackLate {
         let is_out = !publisher.is_free();
         drop(again);
         publisher.update(rt);
-        holds(has_received && is_out && publisher.is_free() && publisher.seat().is_some())?;
+        check(has_received && is_out && publisher.is_free() && publisher.seat().is_some())?;
         Ok(None)
     }
 }

@@ -1,10 +1,11 @@
 //! A bus with places for two, and the steps of a row, each with what it has to come to.
 use crate::stage::{Failure, Plays, some};
-use crate::words::{Words, is_whole, writes};
+use crate::words::{Words, is_whole, write};
 use lock_free::mpmc::container::OwnerId;
 use std::alloc::Global;
 use std::mem::forget;
 use std::sync::Wait;
+use std::thread::Threads;
 use zero_copy_bus::bus::Sizes;
 use zero_copy_bus::error::LoanFailure;
 use zero_copy_bus::publisher::{Loan, Publisher};
@@ -54,6 +55,8 @@ pub enum Step {
     Forgets(Who),
     /// A loan is refused, since this slot is still read.
     IsStillRead(u32),
+    /// Of two tries to loan, the first finds this slot still read, and the second gets another. That loan is given up.
+    LoansPast(u32),
     /// The other subscriber still reads what the first one has given back. So its slot is not loaned, and can be reclaimed once it is
     /// read no more.
     ReadsOn,
@@ -89,13 +92,13 @@ impl<'a> Drop for Room<'a> {
 }
 
 /// Publishes a record of this number, and answers to how many.
-pub fn publishes(
+pub fn publish(
     rt: &impl Wait,
     publisher: &mut Publisher<'_, Words>,
     number: u64,
 ) -> Result<usize, Failure> {
     let mut loan = some(publisher.loan(rt).ok())?;
-    if !writes(&mut loan.value, number) {
+    if !write(&mut loan.value, number) {
         return Err(Failure::NoMemory);
     }
     if loan.number != number || !is_whole(&*loan, number, loan.all.len()) {
@@ -106,7 +109,7 @@ pub fn publishes(
 
 /// Whether the oldest record that waits is of this number, and has so many words: the number that it was published with, if the
 /// reading tells the same. It is given back.
-pub fn reads(
+pub fn read(
     rt: &impl Wait,
     subscriber: &mut Subscriber<'_, Words>,
     number: u64,
@@ -130,7 +133,7 @@ pub fn reads(
 }
 
 /// Whether a record waits, of which the reading is forgotten.
-fn forgets(rt: &impl Wait, subscriber: &mut Subscriber<'_, Words>) -> bool {
+fn forget_reading(rt: &impl Wait, subscriber: &mut Subscriber<'_, Words>) -> bool {
     let Some(sample) = subscriber.receive(rt) else {
         return false;
     };
@@ -149,8 +152,18 @@ fn is_still_read(rt: &impl Wait, publisher: &mut Publisher<'_, Words>, slot: u32
     }
 }
 
+/// Whether of two tries to loan one gets another slot than this.
+fn loan_past(rt: &impl Wait, publisher: &mut Publisher<'_, Words>, slot: u32) -> bool {
+    let Some(loan) = publisher.loan_within(rt, 2) else {
+        return false;
+    };
+    let is_other = loan.slot() != slot;
+    publisher.give_up(loan);
+    is_other
+}
+
 /// Whether there is a slot, of which a loan is kept where none was.
-fn loans<'a>(
+fn keep_loan<'a>(
     rt: &impl Wait,
     publisher: &mut Publisher<'a, Words>,
     kept: &mut Option<Loan<'a, Words>>,
@@ -167,7 +180,7 @@ fn loans<'a>(
 }
 
 /// Whether there is a seat, with which somebody joins as the owner of this number.
-fn joins<'a>(
+fn join<'a>(
     rt: &impl Wait,
     publisher: &mut Publisher<'a, Words>,
     kept: &mut Option<Subscriber<'a, Words>>,
@@ -188,7 +201,7 @@ fn joins<'a>(
 }
 
 /// Whether no slot is loaned as long as the other subscriber reads what the first one has given back, and it is reclaimed then.
-fn reads_on(rt: &impl Wait, publisher: &mut Publisher<'_, Words>, room: &mut Room<'_>) -> bool {
+fn read_on(rt: &impl Wait, publisher: &mut Publisher<'_, Words>, room: &mut Room<'_>) -> bool {
     let (Some(one), Some(other)) = (&mut room.one, &room.other) else {
         return false;
     };
@@ -218,10 +231,10 @@ impl<'a> Room<'a> {
     }
 
     /// Does a step of a subscriber, and answers whether it comes to what it has to.
-    fn does_of(&mut self, rt: &impl Wait, step: Step) -> bool {
+    fn take_step_of(&mut self, rt: &impl Wait, step: Step) -> bool {
         match step {
             Step::Reads(who, number) => match self.subscriber(who) {
-                Some(subscriber) => reads(rt, subscriber, number, WORDS).is_some(),
+                Some(subscriber) => read(rt, subscriber, number, WORDS).is_some(),
                 None => false,
             },
             Step::FindsNone(who) => match self.subscriber(who) {
@@ -233,7 +246,7 @@ impl<'a> Room<'a> {
                 None => false,
             },
             Step::Forgets(who) => match self.subscriber(who) {
-                Some(subscriber) => forgets(rt, subscriber),
+                Some(subscriber) => forget_reading(rt, subscriber),
                 None => false,
             },
             Step::Leaves(who) => match self.subscriber(who).take() {
@@ -246,17 +259,17 @@ impl<'a> Room<'a> {
     }
 
     /// Does a step, and answers whether it comes to what it has to.
-    fn does(
+    fn take_step(
         &mut self,
         rt: &impl Wait,
         publisher: &mut Publisher<'a, Words>,
         step: Step,
     ) -> Result<bool, Failure> {
         let is_right = match step {
-            Step::Joins(who, number) => joins(rt, publisher, self.subscriber(who), number),
+            Step::Joins(who, number) => join(rt, publisher, self.subscriber(who), number),
             Step::HasSeat(free) => publisher.seat().is_some() == free,
-            Step::Publishes(number, reached) => publishes(rt, publisher, number)? == reached,
-            Step::Loans(some) => loans(rt, publisher, &mut self.loan) == some,
+            Step::Publishes(number, reached) => publish(rt, publisher, number)? == reached,
+            Step::Loans(some) => keep_loan(rt, publisher, &mut self.loan) == some,
             Step::GivesUp => match self.loan.take() {
                 Some(loan) => {
                     publisher.give_up(loan);
@@ -267,7 +280,8 @@ impl<'a> Room<'a> {
             Step::DropsLoan => self.loan.take().is_some(),
             Step::Reclaims(slot, free) => publisher.reclaim(slot).is_ok() == free,
             Step::IsStillRead(slot) => is_still_read(rt, publisher, slot),
-            Step::ReadsOn => reads_on(rt, publisher, self),
+            Step::LoansPast(slot) => loan_past(rt, publisher, slot),
+            Step::ReadsOn => read_on(rt, publisher, self),
             Step::IsNext(number) => publisher.next_number() == number,
             Step::Recovers(number) => match OwnerId::new(number) {
                 Ok(dead) => {
@@ -285,7 +299,7 @@ impl<'a> Room<'a> {
                 true
             }
             Step::Out(number) => publisher.borrowed() == number,
-            _ => self.does_of(rt, step),
+            _ => self.take_step_of(rt, step),
         };
         Ok(is_right)
     }
@@ -300,7 +314,7 @@ impl<'a> Room<'a> {
     ) -> Result<Option<usize>, Failure> {
         for _ in 0..rounds {
             for at in 0..steps.len() {
-                if !self.does(rt, publisher, steps[at])? {
+                if !self.take_step(rt, publisher, steps[at])? {
                     return Ok(Some(at));
                 }
             }
@@ -319,9 +333,9 @@ pub struct Row<'s> {
 
 impl<'s> Plays for Row<'s> {
     /// It tells of a first step as of the last one that there can be.
-    fn plays(
+    fn play(
         &self,
-        rt: &impl Wait,
+        rt: &(impl Threads + Wait + Sync),
         _alloc: Global,
         publisher: &mut Publisher<'_, Words>,
     ) -> Result<Option<usize>, Failure> {

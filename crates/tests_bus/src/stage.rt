@@ -3,6 +3,7 @@ use crate::words::{Words, spares};
 use lock_free::mpmc::unique_index_set_enums::UniqueIndexCreationError;
 use std::alloc::{AllocError, Global};
 use std::sync::Wait;
+use std::thread::Threads;
 use zero_copy_bus::bus::{Bus, Sizes};
 use zero_copy_bus::error::BusError;
 use zero_copy_bus::publisher::Publisher;
@@ -39,16 +40,16 @@ pub fn some<T>(found: Option<T>) -> Result<T, Failure> {
 }
 
 /// That so it is.
-pub fn holds(is_so: bool) -> Result<(), Failure> {
+pub fn check(is_so: bool) -> Result<(), Failure> {
     if is_so { Ok(()) } else { Err(Failure::Wrong) }
 }
 
 /// What is done with the publisher of a new bus.
 pub trait Plays {
     /// Does it. The first of its steps that does not come to what it has to, if it tells of them.
-    fn plays(
+    fn play(
         &self,
-        rt: &impl Wait,
+        rt: &(impl Threads + Wait + Sync),
         alloc: Global,
         publisher: &mut Publisher<'_, Words>,
     ) -> Result<Option<usize>, Failure>;
@@ -57,7 +58,7 @@ pub trait Plays {
 /// Does it with a bus of these sizes, and so many records of so many words. It answers the first wrong step, and how many records are
 /// left in the end, besides those that lie in a slot.
 pub fn on_new_bus<P: Plays>(
-    rt: &impl Wait,
+    rt: &(impl Threads + Wait + Sync),
     alloc: Global,
     sizes: Sizes,
     records: usize,
@@ -67,7 +68,7 @@ pub fn on_new_bus<P: Plays>(
     let (mut bus, pass) = Bus::new(alloc, sizes)?;
     let records = spares(alloc, records, words)?;
     let mut publisher = bus.publisher(rt, alloc, pass, records)?;
-    let wrong = play.plays(rt, alloc, &mut publisher)?;
+    let wrong = play.play(rt, alloc, &mut publisher)?;
     let (_, left) = publisher.finish();
     Ok((wrong, left.len()))
 }

@@ -1,9 +1,11 @@
 //! A publisher and three subscribers side by side: one is slow, one dies with slots in hand, and one joins late.
 ghost use Rattle.std.specs.Prelude.{◌≡◌, IfSome};
 
-use crate::limit::{Enough, Limit};
+mod waits;
+
+use crate::limit::{Enough, Limit, wait_for};
 use crate::stage::Failure;
-use crate::words::{OwnNumber, Words, is_whole, spares, writes};
+use crate::words::{OwnNumber, Words, is_whole, spares, write};
 use lock_free::mpmc::container::OwnerId;
 use std::alloc::Global;
 use std::sync::Wait;
@@ -70,20 +72,6 @@ impl Drop for Shared {
     }
 }
 
-/// Waits until it is so many. False at the limit.
-fn waits_for(told: &AtomicU64, least: u64) -> bool {
-    let mut limit = Limit::new();
-    for _ in 0..u64::MAX {
-        if told.load(Ordering::SeqCst) >= least {
-            return true;
-        }
-        if !limit.waits() {
-            return false;
-        }
-    }
-    false
-}
-
 /// A free slot, as soon as there is one. None at the limit.
 fn next_loan<'a>(
     rt: &impl Wait,
@@ -95,7 +83,7 @@ fn next_loan<'a>(
             return Some(loan);
         }
         publisher.collect();
-        if !limit.waits() {
+        if !limit.wait() {
             return None;
         }
     }
@@ -114,7 +102,7 @@ fn publish(
     let Some(mut loan) = next_loan(rt, publisher) else {
         return false;
     };
-    let is_written = writes(&mut loan.value, number);
+    let is_written = write(&mut loan.value, number);
     let next = publisher.next_number();
     loan.value.number = next;
     publisher.publish(loan);
@@ -144,7 +132,7 @@ fn publish_least(
         shared
             .published
             .store(number.wrapping_add(1), Ordering::SeqCst);
-        if number % EVERY == 0 && !waits_for(came, before.wrapping_add(1)) {
+        if number % EVERY == 0 && !wait_for(came, before.wrapping_add(1)) {
             return false;
         }
     }
@@ -183,20 +171,20 @@ struct Published {
 }
 
 /// Publishes all records, takes out the one who has died, and waits until the others have left.
-fn publishes(
+fn publish_all(
     rt: &(impl Wait + Clock),
     publisher: &mut Publisher<'_, Words, OwnNumber>,
     notifier: &mut Notifier<'_>,
     dead: OwnerId,
     shared: &Shared,
 ) -> Option<Published> {
-    if !waits_for(&shared.joined, 2) {
+    if !wait_for(&shared.joined, 2) {
         return None;
     }
     if !publish_least(rt, publisher, notifier, 0, MIDDLE, &shared.slow, shared) {
         return None;
     }
-    if !waits_for(&shared.dead, 1) || !waits_for(&shared.joined, 3) {
+    if !wait_for(&shared.dead, 1) || !wait_for(&shared.joined, 3) {
         return None;
     }
     let out_at_death = publisher.borrowed();
@@ -206,7 +194,7 @@ fn publishes(
     }
     let number = publish_more(rt, publisher, notifier, shared);
     shared.is_over.store(1, Ordering::SeqCst);
-    if !waits_for(&shared.left, 2) {
+    if !wait_for(&shared.left, 2) {
         return None;
     }
     publisher.update(rt);
@@ -242,7 +230,7 @@ fn next(
         if let Some(sample) = subscriber.receive(rt) {
             return Some(sample);
         }
-        if is_over || !limit.waits() {
+        if is_over || !limit.wait() {
             return None;
         }
     }
@@ -267,7 +255,7 @@ fn number_still(
 
 /// Receives records until it is over, reads each so often more, and gives it back: how many came, which it also tells as they
 /// come. None where one was torn or did not come in order.
-fn receives(
+fn receive_all(
     rt: &impl Wait,
     subscriber: &mut Subscriber<'_, Words, OwnNumber>,
     looks: u64,
@@ -291,7 +279,7 @@ fn receives(
 }
 
 /// Joins once so many records have been published, receives, and leaves: how many records came.
-fn subscribes(
+fn subscribe(
     rt: &impl Wait,
     seat: Seat<'_, Words, OwnNumber>,
     owner: OwnerId,
@@ -300,19 +288,19 @@ fn subscribes(
     came: &AtomicU64,
     shared: &Shared,
 ) -> Option<u64> {
-    if !waits_for(&shared.published, joins_at) {
+    if !wait_for(&shared.published, joins_at) {
         return None;
     }
     let mut subscriber = seat.join(rt, owner).ok()?;
     shared.joined.fetch_add(1, Ordering::SeqCst);
-    let number = receives(rt, &mut subscriber, looks, came, shared)?;
+    let number = receive_all(rt, &mut subscriber, looks, came, shared)?;
     subscriber.leave(rt).ok()?;
     shared.left.fetch_add(1, Ordering::SeqCst);
     Some(number)
 }
 
 /// Joins, and dies with so many records in hand.
-fn dies(
+fn die(
     rt: &impl Wait,
     seat: Seat<'_, Words, OwnNumber>,
     owner: OwnerId,
@@ -355,13 +343,13 @@ fn run<R: Threads + Wait + Clock + Sync>(
         rt,
         move || thread::join(
             rt,
-            move || publishes(rt, publisher, notifier, second, shared),
-            move || subscribes(rt, slow, first, 0, LOOKS, &shared.slow, shared),
+            move || publish_all(rt, publisher, notifier, second, shared),
+            move || subscribe(rt, slow, first, 0, LOOKS, &shared.slow, shared),
         ),
         move || thread::join(
             rt,
-            move || dies(rt, dead, second, shared),
-            move || subscribes(rt, late, third, MIDDLE, 0, &shared.late, shared),
+            move || die(rt, dead, second, shared),
+            move || subscribe(rt, late, third, MIDDLE, 0, &shared.late, shared),
         ),
     );
     died?;

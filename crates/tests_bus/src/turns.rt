@@ -1,7 +1,7 @@
 //! Rows of steps on a bus, taken by one thread.
 use crate::rooms::Step::{
     Collects, Dies, DropsLoan, FindsNone, Forgets, GivesUp, HasSeat, IsNext, IsStillRead, Joins,
-    Keeps, Leaves, Loans, Out, Publishes, Reads, ReadsOn, Reclaims, Recovers, Updates,
+    Keeps, Leaves, Loans, LoansPast, Out, Publishes, Reads, ReadsOn, Reclaims, Recovers, Updates,
 };
 use crate::rooms::Who::{One, Other};
 use crate::rooms::{Row, SIZES, Step, WORDS};
@@ -143,6 +143,9 @@ const FORGOTTEN: [Step; 10] = [
     IsNext(2),
 ];
 
+/// A loan that is tried for again gets another slot than one whose reading is forgotten, which stays out.
+const FORGOTTEN_PAST: [Step; 4] = [Publishes(0, 1), Forgets(One), LoansPast(0), Out(1)];
+
 /// The slot of a loan that was dropped is free once it is reclaimed. That of a loan in hand is not.
 const DROPPED: [Step; 9] = [
     Loans(true),
@@ -212,7 +215,7 @@ const RECORDS: usize = 16;
 #[test]
 fn rows(rt: HostRuntime) -> Result<(), Fail> {
     // (and how many records are left at least)
-    let rows: [(&str, &[Step], &[Step], usize, usize); 14] = [
+    let rows: [(&str, &[Step], &[Step], usize, usize); 15] = [
         ("BOTH", &JOIN, &BOTH, 100, 0),
         ("SLOW", &JOIN_ONE, &SLOW, 3, 0),
         ("LOANS", &[], &LOANS, 1, 0),
@@ -221,6 +224,7 @@ fn rows(rt: HostRuntime) -> Result<(), Fail> {
         ("GIVEN", &JOIN, &GIVEN, 1, 0),
         ("SEATS", &[], &SEATS, 1, 0),
         ("FORGOTTEN", &JOIN_ONE, &FORGOTTEN, 1, 0),
+        ("FORGOTTEN_PAST", &JOIN_ONE, &FORGOTTEN_PAST, 1, 0),
         ("DROPPED", &[], &DROPPED, 1, 0),
         ("DROPPED_OTHER", &[], &DROPPED_OTHER, 1, 0),
         ("READ_ON", &JOIN, &READ_ON, 17, 0),

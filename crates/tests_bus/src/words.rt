@@ -47,7 +47,7 @@ pub fn word_of(number: u64, at: usize) -> u64 {
 }
 
 /// Writes a record of this number: whether there was memory.
-pub fn writes(words: &mut Words, number: u64) -> bool {
+pub fn write(words: &mut Words, number: u64) -> bool {
     words.number = number;
     for (at, word) in words.all.iter_mut().enumerate() {
         *word = word_of(number, at);

@@ -20,7 +20,7 @@ fn both(one: Right, other: Right) -> Right {
 }
 
 /// Whether a pass that is left looks, is split and joined.
-fn index_pass_goes_on(left: &mut index_queue::Pass) -> bool {
+fn use_index_pass(left: &mut index_queue::Pass) -> bool {
     left.look();
     match left.split() {
         Some(further) => {
@@ -44,13 +44,13 @@ fn index_queue(alloc: Global) -> Right {
     let pushed = producer.push(7);
     let pass = producer.release();
     let closed = queue.close(pass);
-    let goes_on = index_pass_goes_on(&mut left);
+    let goes_on = use_index_pass(&mut left);
     let mut list = closed?;
     Ok(pushed & goes_on & (list.pop() == Some(7)) & list.pop().is_none())
 }
 
 /// The same of a pass of a queue of values.
-fn value_pass_goes_on(left: &mut queue::Pass<Three>) -> bool {
+fn use_value_pass(left: &mut queue::Pass<Three>) -> bool {
     left.look();
     match left.split() {
         Some(further) => {
@@ -73,13 +73,13 @@ fn value_queue(alloc: Global) -> Right {
     let pushed = producer.push(&Three(7, 8, 9));
     let pass = producer.release();
     let closed = queue.close(pass);
-    let goes_on = value_pass_goes_on(&mut left);
+    let goes_on = use_value_pass(&mut left);
     let mut list = closed?;
     Ok(pushed & goes_on & (list.pop() == Some(Three(7, 8, 9))) & list.pop().is_none())
 }
 
 /// The same of a pass of an overflowing queue.
-fn overflowing_pass_goes_on(left: &mut overflowing::Pass) -> bool {
+fn use_overflowing_pass(left: &mut overflowing::Pass) -> bool {
     left.look();
     match left.split() {
         Some(further) => {
@@ -102,7 +102,7 @@ fn overflowing_queue(alloc: Global) -> Right {
     let pushed = producer.push(6).is_none() & (producer.push(7) == Some(6));
     let pass = producer.release();
     let closed = queue.close(pass);
-    let goes_on = overflowing_pass_goes_on(&mut left);
+    let goes_on = use_overflowing_pass(&mut left);
     let mut list = closed?;
     Ok(pushed & goes_on & (list.pop() == Some(7)) & list.pop().is_none())
 }

@@ -32,7 +32,7 @@ impl<'a> Drop for User<'a> {
 
 impl<'a> User<'a> {
     /// Whether each index goes to one of three owners, in turn.
-    fn fills(&mut self, rt: &impl Wait, owners: &[OwnerId; 3]) -> bool {
+    fn fill(&mut self, rt: &impl Wait, owners: &[OwnerId; 3]) -> bool {
         let mut right = true;
         for index in 0..100usize {
             let acquired = self.set.acquire(rt, owners[index % 3], &mut self.pass);
@@ -42,7 +42,7 @@ impl<'a> User<'a> {
     }
 
     /// Marks the indices of the owner: how many.
-    fn marks(&mut self, owner: OwnerId, marks: &mut [bool; 100]) -> usize {
+    fn mark(&mut self, owner: OwnerId, marks: &mut [bool; 100]) -> usize {
         self.set.find(
             owner,
             &mut |index| {
@@ -54,7 +54,7 @@ impl<'a> User<'a> {
     }
 
     /// Frees the indices of the owner that have no mark: how many.
-    fn frees(&mut self, rt: &impl Wait, dead: OwnerId, marks: &[bool; 100]) -> usize {
+    fn free(&mut self, rt: &impl Wait, dead: OwnerId, marks: &[bool; 100]) -> usize {
         let mut freed = 0usize;
         self.set.recover(
             rt,
@@ -67,7 +67,7 @@ impl<'a> User<'a> {
     }
 
     /// How many indices the owner has.
-    fn finds(&mut self, owner: OwnerId) -> usize {
+    fn find(&mut self, owner: OwnerId) -> usize {
         self.set.find(
             owner,
             &mut |_| CallbackProgression::Continue,
@@ -86,14 +86,14 @@ fn are_right(marks: &[bool; 100]) -> bool {
 }
 
 /// Whether the indices of one owner are marked, and those of another freed.
-fn marks_and_frees(rt: &impl Wait, user: &mut User<'_>, owners: &[OwnerId; 3]) -> bool {
+fn mark_and_free(rt: &impl Wait, user: &mut User<'_>, owners: &[OwnerId; 3]) -> bool {
     let mut table = [false; 100];
-    let mut right = user.fills(rt, owners);
-    right &= user.marks(owners[0], &mut table) == 34;
-    right &= user.frees(rt, owners[2], &table) == 33;
+    let mut right = user.fill(rt, owners);
+    right &= user.mark(owners[0], &mut table) == 34;
+    right &= user.free(rt, owners[2], &table) == 33;
     right &= are_right(&table);
-    right &= user.finds(owners[1]) == 33;
-    right & (user.finds(owners[2]) == 0)
+    right &= user.find(owners[1]) == 33;
+    right & (user.find(owners[2]) == 0)
 }
 
 #[test]
@@ -101,18 +101,18 @@ fn closures_that_index(rt: HostRuntime) -> Result<(), Fail> {
     let owners = [OwnerId::new(1)?, OwnerId::new(2)?, OwnerId::new(3)?];
     let (set, pass) = RobustUniqueIndexSet::new(rt.alloc(), 100)?;
     let mut user = User { set: &set, pass };
-    assert!(rt; marks_and_frees(&rt, &mut user, &owners));
+    assert!(rt; mark_and_free(&rt, &mut user, &owners));
     Ok(())
 }
 
 /// Sets a place of a bit set, where there is one.
-fn sets(rt: &impl Wait, handle: &mut bit_set::Handle<'_>, place: usize) -> bool {
+fn set_place(rt: &impl Wait, handle: &mut bit_set::Handle<'_>, place: usize) -> bool {
     place < handle.capacity() && handle.set(rt, place)
 }
 
 /// The places that a reset of all comes to, three digits each. At place 0 others are set: one of the same 64, which the
 /// call has passed, and one of the next.
-fn resets(
+fn reset_places(
     rt: &impl Wait,
     handle: &mut bit_set::Handle<'_>,
     other: &mut bit_set::Handle<'_>,
@@ -121,8 +121,8 @@ fn resets(
     handle.reset_all(&mut |place| {
         digits = digits.wrapping_mul(1000).wrapping_add(place as u64);
         if place == 0 {
-            sets(rt, other, 1);
-            sets(rt, other, 64);
+            set_place(rt, other, 1);
+            set_place(rt, other, 64);
         }
     });
     digits
@@ -135,15 +135,17 @@ fn a_closure_that_sets_places(rt: HostRuntime) -> Result<(), Fail> {
         let (set, pass) = BitSet::new(rt.alloc(), last.wrapping_add(1))?;
         let mut handle = set.handle(pass);
         let mut other = handle.split().ok_or("no further handle")?;
-        assert!(rt; sets(&rt, &mut handle, 0) && sets(&rt, &mut handle, last));
-        assert!(rt; resets(&rt, &mut handle, &mut other) == 64_000u64.wrapping_add(last as u64));
+        assert!(rt; set_place(&rt, &mut handle, 0) && set_place(&rt, &mut handle, last));
+        assert!(rt;
+            reset_places(&rt, &mut handle, &mut other) == 64_000u64.wrapping_add(last as u64)
+        );
         assert!(rt; handle.reset_next(&rt) == Some(1) && handle.reset_next(&rt).is_none());
     }
     Ok(())
 }
 
 /// Counts a place of a counting bit set, where there is one.
-fn counts(handle: &mut counting_bit_set::Handle<'_>, place: usize) {
+fn count_place(handle: &mut counting_bit_set::Handle<'_>, place: usize) {
     if place < handle.capacity() {
         handle.set(place);
     }
@@ -151,7 +153,7 @@ fn counts(handle: &mut counting_bit_set::Handle<'_>, place: usize) {
 
 /// The places and counts that a reset of all comes to, two digits each. At places 0 and 1 the next one is counted, and at
 /// place 1 place 0 too.
-fn takes_out(
+fn take_out(
     handle: &mut counting_bit_set::Handle<'_>,
     other: &mut counting_bit_set::Handle<'_>,
 ) -> u64 {
@@ -163,10 +165,10 @@ fn takes_out(
             .wrapping_mul(10)
             .wrapping_add(state.count());
         if state.bit() == 1 {
-            counts(other, 0);
+            count_place(other, 0);
         }
         if state.bit() < 2 {
-            counts(other, state.bit().wrapping_add(1));
+            count_place(other, state.bit().wrapping_add(1));
         }
     });
     digits
@@ -180,10 +182,10 @@ fn a_closure_that_counts_places(rt: HostRuntime) -> Result<(), Fail> {
         let mut handle = set.handle(pass);
         let mut other = handle.split().ok_or("no further handle")?;
         for place in 0..3usize {
-            counts(&mut handle, place);
+            count_place(&mut handle, place);
         }
-        assert!(rt; takes_out(&mut handle, &mut other) == 11_222);
-        assert!(rt; takes_out(&mut handle, &mut other) == 11_121);
+        assert!(rt; take_out(&mut handle, &mut other) == 11_222);
+        assert!(rt; take_out(&mut handle, &mut other) == 11_121);
     }
     Ok(())
 }

@@ -9,7 +9,7 @@ use tests_calls::long_values::Greatest;
 use tests_calls::numbered::Numbered;
 
 /// Whether this value goes to this index.
-fn adds<T: Numbered>(container: &mut Container<T>, value: u64, owner: OwnerId, index: u32) -> bool {
+fn add<T: Numbered>(container: &mut Container<T>, value: u64, owner: OwnerId, index: u32) -> bool {
     match container.add(T::of_number(value), owner) {
         Ok(handle) => handle.index == index && handle.owner == owner && handle.container == 9,
         Err(_) => false,
@@ -21,7 +21,7 @@ fn state_of(container: &mut Container<u64>) -> Option<ContainerState<u64>> {
 }
 
 /// Whether the state is as it was, and the container too: two values, and no lock.
-fn stands(container: &mut Container<u64>, state: &mut ContainerState<u64>) -> bool {
+fn is_unchanged(container: &mut Container<u64>, state: &mut ContainerState<u64>) -> bool {
     let same = container.is_state_of(state) && !container.update_state(state);
     let number = container.len();
     same && number == 2 && !container.is_empty() && !container.is_locked()
@@ -32,7 +32,7 @@ fn stands(container: &mut Container<u64>, state: &mut ContainerState<u64>) -> bo
 fn second_state(container: &mut Container<u64>) -> Option<bool> {
     let mut first = state_of(container)?;
     let second = state_of(container);
-    if !stands(container, &mut first) {
+    if !is_unchanged(container, &mut first) {
         return Some(false);
     }
     let second = second?;
@@ -42,7 +42,7 @@ fn second_state(container: &mut Container<u64>) -> Option<bool> {
 /// The same of a new container with these values.
 fn of_two(alloc: Global, owner: OwnerId) -> Result<Option<bool>, UniqueIndexCreationError> {
     let mut container = Container::<u64>::new(alloc, 3, 9)?;
-    let added = adds(&mut container, 5, owner, 0) & adds(&mut container, 6, owner, 1);
+    let added = add(&mut container, 5, owner, 0) & add(&mut container, 6, owner, 1);
     Ok(second_state(&mut container).map(|right| right && added))
 }
 
@@ -57,7 +57,7 @@ fn a_refused_state(rt: HostRuntime) -> Result<(), Fail> {
 }
 
 /// Whether a find of the owner comes to the values 1 and 4, at the first two indices.
-fn finds(container: &mut Container<Greatest>, owner: OwnerId) -> bool {
+fn find(container: &mut Container<Greatest>, owner: OwnerId) -> bool {
     let mut digits = 0u64;
     let found = container.find(
         owner,
@@ -76,7 +76,7 @@ fn finds(container: &mut Container<Greatest>, owner: OwnerId) -> bool {
 }
 
 /// Whether a recovery that frees both asks about them, and locks.
-fn recovers(container: &mut Container<Greatest>, owner: OwnerId) -> bool {
+fn recover(container: &mut Container<Greatest>, owner: OwnerId) -> bool {
     let mut digits = 0u64;
     let state = container.recover(
         owner,
@@ -93,9 +93,9 @@ fn recovers(container: &mut Container<Greatest>, owner: OwnerId) -> bool {
 fn values_of_128_words(rt: HostRuntime) -> Result<(), Fail> {
     let owner = OwnerId::new(1)?;
     let mut container = Container::<Greatest>::new(rt.alloc(), 2, 9)?;
-    let mut right = adds(&mut container, 1, owner, 0) & adds(&mut container, 4, owner, 1);
-    right &= finds(&mut container, owner);
-    right &= recovers(&mut container, owner);
+    let mut right = add(&mut container, 1, owner, 0) & add(&mut container, 4, owner, 1);
+    right &= find(&mut container, owner);
+    right &= recover(&mut container, owner);
     assert!(rt; right);
     Ok(())
 }

@@ -27,7 +27,7 @@ impl<'a> Drop for User<'a> {
 }
 
 impl<'a> User<'a> {
-    fn adds(&mut self, rt: &impl Wait, value: u32, owner: OwnerId) -> bool {
+    fn add(&mut self, rt: &impl Wait, value: u32, owner: OwnerId) -> bool {
         self.container.add(rt, value, owner, &mut self.pass).is_ok()
     }
 
@@ -36,7 +36,7 @@ impl<'a> User<'a> {
     }
 
     /// Whether the state is as it was, and the container too: two values, and no lock.
-    fn stands(&mut self, rt: &impl Wait, state: &mut ContainerState<u32>) -> bool {
+    fn is_unchanged(&mut self, rt: &impl Wait, state: &mut ContainerState<u32>) -> bool {
         let same = self.container.is_state_of(state)
             && !self.container.update_state(rt, state, &mut self.pass);
         let number = self.container.len(rt, &mut self.pass);
@@ -75,7 +75,7 @@ fn listed(state: &ContainerState<u32>) -> u64 {
 fn second_state(rt: &impl Wait, user: &mut User<'_>) -> Option<bool> {
     let mut first = user.state(rt)?;
     let second = user.state(rt);
-    if !user.stands(rt, &mut first) {
+    if !user.is_unchanged(rt, &mut first) {
         return Some(false);
     }
     Some(shown(&second?) == 516)
@@ -92,7 +92,7 @@ fn of_two(
         container: &container,
         pass,
     };
-    let added = user.adds(rt, 5, owner) & user.adds(rt, 6, owner);
+    let added = user.add(rt, 5, owner) & user.add(rt, 6, owner);
     Ok(second_state(rt, &mut user).map(|right| right && added))
 }
 
@@ -113,7 +113,7 @@ fn left_over(rt: &impl Wait, alloc: Global, owner: OwnerId) -> Option<ContainerS
         container: &container,
         pass,
     };
-    if user.adds(rt, 5, owner) & user.adds(rt, 6, owner) {
+    if user.add(rt, 5, owner) & user.add(rt, 6, owner) {
         user.state(rt)
     } else {
         None

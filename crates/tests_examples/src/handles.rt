@@ -79,7 +79,7 @@ fn one_stores_and_two_load(rt: HostRuntime) -> Result<(), Fail> {
 }
 
 /// Takes an index so many times, and gives it back: how often it got one.
-fn uses(rt: &impl Wait, pool: unique_index_set::Handle<'_>, times: u64) -> u64 {
+fn use_pool(rt: &impl Wait, pool: unique_index_set::Handle<'_>, times: u64) -> u64 {
     let (mut pool, mut got) = (pool, 0u64);
     for _ in rt.forever() {
         if got >= times {
@@ -99,7 +99,7 @@ fn uses(rt: &impl Wait, pool: unique_index_set::Handle<'_>, times: u64) -> u64 {
 #[test]
 fn one_uses_a_pool(rt: HostRuntime) -> Result<(), Fail> {
     let (set, pass) = UniqueIndexSet::new(rt.alloc(), 2)?;
-    assert_eq!(rt; uses(&rt, set.handle(pass), 100), 100);
+    assert_eq!(rt; use_pool(&rt, set.handle(pass), 100), 100);
     Ok(())
 }
 

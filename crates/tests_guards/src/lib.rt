@@ -4,6 +4,8 @@
 #[cfg(test)]
 mod robust;
 #[cfg(test)]
+mod shown;
+#[cfg(test)]
 mod threads;
 #[cfg(test)]
 pub mod twins;

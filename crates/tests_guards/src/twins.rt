@@ -1,6 +1,6 @@
 //! Calls of `lock_free_guards` once more, each with the clauses that the tests have no use for, so that none can go out of a call
 //! unnoticed. What a wrong body would leave, and a clause refuses, stands in its `proofs/WrongBodies.antt`.
-ghost use Rattle.std.specs.Prelude.{◌≡◌, ◌≢◌, ◌<◌, ◌+◌, ℕ, true, false, IfOk, IfErr, OnOk, IsErrAnd};
+ghost use Rattle.std.specs.Prelude.{◌≡◌, ◌≢◌, ◌<◌, ◌+◌, ℕ, true, false, IfOk, IfErr, IfSome, OnOk, IsErrAnd};
 ghost use Rattle.steps.specs.declared.indices.enums.UniqueIndexSetAcquireFailure.TheVariants.{IsLocked as Locked, OutOfIndices as Out};
 ghost use Rattle.model.specs.declared.event.Start.TheVariants.{Indices, Robust};
 ghost use Rattle.model.specs.declared.families.indices.IndexStart.TheVariants as indices;
@@ -9,27 +9,31 @@ ghost use Rattle.model.specs.declared.turn.Kind.TheVariants as kinds;
 ghost use Rattle.model.specs.Coding.{one_word};
 ghost use Rattle.model.specs.Families.Indices.Reading.{is_locked};
 ghost use Rattle.history.specs.History.{Knows};
+ghost use Rattle.history.specs.Passes.{HasSplit};
 ghost use Rattle.history.specs.Steps.{TakesAlone};
 ghost use Rattle.lock_free_owners.specs.Robust.Contracts.{FoundState, HasGiven, HasReleased, IsRightRelease, WasFreed};
 ghost use Rattle.lock_free_owners.specs.Robust.Steps.{RecoverTakes, ReleaseTakes};
 ghost use Rattle.lock_free_owners.specs.RobustUniqueIndexSet.{capacity_of, history, made, set_id, set_of, view, IsPassOf, SamePass};
 ghost use Rattle.lock_free_sets.specs.UniqueIndexSet as unique;
 ghost use Rattle.lock_free_sets.specs.Unique.Contracts as uniques;
+ghost use Rattle.lock_free_sets.specs.Unique.Handles.{set_in, knows};
 ghost use Rattle.lock_free_guards.specs.Acquired.{HasAcquired, HasFailed};
 ghost use Rattle.lock_free_guards.specs.Guards.{index_pass, index_set, index_view, owner_of, value_of};
 ghost use Rattle.lock_free_guards.specs.Held.{number_freed, HoldsFor};
+ghost use Rattle.lock_free_guards.specs.Cuts.{AreCut};
 ghost use Rattle.lock_free_guards.specs.Recovered.{HasRecoveredOwner, IsRightOwnerRecovery};
 ghost use Rattle.lock_free_guards.specs.Tries.{EndsSometime, EndsWithin, EndsAtLimit};
 ghost use Rattle.lock_free_guards.specs.Unique.{HoldsMore, HoldsTheSame};
 
 use lock_free_guards::owner_recovery::{OwnerRecovery, recover_owner};
 use lock_free_guards::robust_index::RobustIndex;
-use lock_free_guards::unique_index;
+use lock_free_guards::{splits, unique_index};
 use lock_free_owners::mpmc::robust_unique_index_set::{
     OwnerId, Pass, RobustUniqueIndexSet, RobustUniqueIndexSetReleaseError,
 };
 use lock_free_sets::mpmc::unique_index_set;
-use lock_free_sets::mpmc::unique_index_set::{UniqueIndex, UniqueIndexSet};
+use lock_free_sets::mpmc::unique_index_set::{Handle, UniqueIndex, UniqueIndexSet};
+use std::alloc::Global;
 use std::sync::Wait;
 use steps::indices::enums::{ReleaseMode, ReleaseState, UniqueIndexSetAcquireFailure};
 
@@ -200,4 +204,12 @@ pub fn acquire_unique_within<'a>(
     ensures kept { IfErr result (λ r. r.0 ≡ Out → HoldsTheSame (unique.made pass) (unique.made r.1)) }
 {
     unique_index::acquire_within(rt, tries, set, pass)
+}
+
+/// Each of three is of the same set, and was split off what the split before had left.
+pub fn split_many<'a>(alloc: Global, handle: &mut Handle<'a>) -> Option<[Handle<'a>; 3]>
+    ensures { IfSome result (λ halves. AreCut (λ old new half. (set_in new ≡ set_in old) × (set_in half ≡ set_in old)
+        × HasSplit (knows old) (knows new) (knows half)) halves handle.old handle.new) }
+{
+    splits::split_many::<3, Handle<'a>>(alloc, handle)
 }

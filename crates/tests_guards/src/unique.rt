@@ -1,8 +1,9 @@
 //! The tries of a unique index set in one thread: at a free index, at a full set and at a locked one.
 ghost use Rattle.lock_free_sets.specs.UniqueIndexSet.{IsPassOf};
 
+use lock_free_guards::splits::split_many;
 use lock_free_guards::unique_index;
-use lock_free_sets::mpmc::unique_index_set::{Pass, UniqueIndexSet};
+use lock_free_sets::mpmc::unique_index_set::{Handle, Pass, UniqueIndexSet};
 use std::alloc::Global;
 use std::sync::Wait;
 use std::test::Fail;
@@ -67,6 +68,24 @@ fn wait_locked(rt: &impl Wait, alloc: Global, capacity: usize) -> Option<bool> {
         Ok(_) => Some(false),
         Err(_) => Some(true),
     }
+}
+
+/// Splits a handle in four: whether three of them take the three indices, and the fourth finds none.
+fn split_in_four(rt: &impl Wait, alloc: Global) -> Option<bool> {
+    let (set, pass) = UniqueIndexSet::new(alloc, 3).ok()?;
+    let mut mine = set.handle(pass);
+    let halves = split_many::<3, Handle<'_>>(alloc, &mut mine)?;
+    let mut taken = Vec::new(alloc);
+    for half in halves {
+        taken.push(half.acquire(rt).ok()?).ok()?;
+    }
+    Some(taken.len() == 3 && mine.acquire(rt).is_err())
+}
+
+#[test]
+fn a_handle_is_split_in_four(rt: HostRuntime) -> Result<(), Fail> {
+    assert!(rt; split_in_four(&rt, rt.alloc()) == Some(true));
+    Ok(())
 }
 
 #[test]

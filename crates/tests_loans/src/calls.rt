@@ -54,7 +54,7 @@ fn read_shown<'b>(reading: &'b Reading<'_, Triple>) -> &'b Triple
 }
 
 /// Sends the value of the next number, by a loan for which it waits.
-fn sends_next(rt: &impl Wait, sender: &mut Sender<'_, Triple>) -> bool {
+fn send_next(rt: &impl Wait, sender: &mut Sender<'_, Triple>) -> bool {
     let number = sender.next_number();
     let mut loan = sender.loan_waiting(rt);
     loan.value.one = number;
@@ -65,7 +65,7 @@ fn sends_next(rt: &impl Wait, sender: &mut Sender<'_, Triple>) -> bool {
 }
 
 /// The number of the value that comes next, for which it waits. None where it is another value.
-fn reads_next(rt: &impl Wait, receiver: &mut Receiver<'_, Triple>) -> Option<u64> {
+fn read_next(rt: &impl Wait, receiver: &mut Receiver<'_, Triple>) -> Option<u64> {
     let sample = receiver.receive_waiting(rt);
     let number = sample.number();
     let is_right = match receiver.read(&sample) {
@@ -80,18 +80,18 @@ fn reads_next(rt: &impl Wait, receiver: &mut Receiver<'_, Triple>) -> Option<u64
 }
 
 /// Sends all values.
-fn sends_all(rt: &impl Wait, sender: &mut Sender<'_, Triple>) -> bool {
+fn send_all(rt: &impl Wait, sender: &mut Sender<'_, Triple>) -> bool {
     let mut right = true;
     for _ in 0..VALUES {
-        right &= sends_next(rt, sender);
+        right &= send_next(rt, sender);
     }
     right
 }
 
 /// Reads values until the last one comes. One that is slow misses the oldest.
-fn reads_last(rt: &impl Wait, receiver: &mut Receiver<'_, Triple>) -> Option<bool> {
+fn read_last(rt: &impl Wait, receiver: &mut Receiver<'_, Triple>) -> Option<bool> {
     for _ in 0..VALUES {
-        if reads_next(rt, receiver)? == VALUES - 1 {
+        if read_next(rt, receiver)? == VALUES - 1 {
             return Some(true);
         }
     }
@@ -105,8 +105,8 @@ fn side_by_side<R: Threads + Wait + Sync>(rt: &R, alloc: Global) -> Option<bool>
     // (`join` calls its first closure last where no thread can be made)
     let (read, sent) = thread::join(
         rt,
-        || reads_last(rt, &mut receiver),
-        || sends_all(rt, &mut sender),
+        || read_last(rt, &mut receiver),
+        || send_all(rt, &mut sender),
     );
     Some(read? && sent)
 }
@@ -118,16 +118,19 @@ fn the_last_value_is_waited_for(rt: HostRuntime) -> Result<(), Fail> {
 }
 
 /// A buffer as soon as there is one: a refusal is not for want of a place.
-fn waits<'a>(rt: &impl Wait, lender: &mut Lender<'a, u64>) -> Result<Buffer<'a, u64>, PoolFailure>
+fn wait_for_buffer<'a>(
+    rt: &impl Wait,
+    lender: &mut Lender<'a, u64>,
+) -> Result<Buffer<'a, u64>, PoolFailure>
     ensures { IfErr result HasPlaces }
 {
     lender.acquire_waiting(rt)
 }
 
 /// Adds one to the buffer that comes, so often.
-fn adds(rt: &impl Wait, lender: &mut Lender<'_, u64>) -> bool {
+fn add_to_each(rt: &impl Wait, lender: &mut Lender<'_, u64>) -> bool {
     for _ in 0..VALUES {
-        let Ok(mut buffer) = waits(rt, lender) else {
+        let Ok(mut buffer) = wait_for_buffer(rt, lender) else {
             return false;
         };
         buffer.value = match buffer.value {
@@ -146,7 +149,11 @@ fn share<R: Threads + Wait + Sync>(rt: &R, alloc: Global) -> Option<bool> {
     let mut pool: Pool<u64> = Pool::new(alloc, 1).ok()?;
     let mut one = pool.lender()?;
     let mut other = one.split()?;
-    let added = thread::join(rt, || adds(rt, &mut one), || adds(rt, &mut other));
+    let added = thread::join(
+        rt,
+        || add_to_each(rt, &mut one),
+        || add_to_each(rt, &mut other),
+    );
     let buffer = one.acquire_within(rt, 3).ok()?;
     let mut right = added == (true, true) && buffer.value == Some(2 * VALUES);
     right &= other.acquire_within(rt, 3).is_err();

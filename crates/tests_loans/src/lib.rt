@@ -19,3 +19,5 @@ mod slots;
 mod threads;
 #[cfg(test)]
 mod turns;
+#[cfg(test)]
+pub mod twins;

@@ -8,7 +8,7 @@ use zero_copy_loans::error::PoolFailure;
 use zero_copy_loans::pool::{Buffer, Lender, Pool};
 
 /// Takes a buffer, and lays a text of so many letters in it where it is empty.
-fn fills<'a>(
+fn fill<'a>(
     rt: &impl Wait,
     alloc: Global,
     lender: &mut Lender<'a, String>,
@@ -38,7 +38,7 @@ fn has(buffer: &Buffer<'_, String>, letters: u64) -> bool {
 }
 
 /// Whether this place comes with its three letters, or comes empty. With letters it is dropped, and else given back.
-fn comes(rt: &impl Wait, lender: &mut Lender<'_, String>, place: u32, is_empty: bool) -> bool {
+fn take_next(rt: &impl Wait, lender: &mut Lender<'_, String>, place: u32, is_empty: bool) -> bool {
     let Ok(buffer) = lender.acquire(rt) else {
         return false;
     };
@@ -55,14 +55,14 @@ fn comes(rt: &impl Wait, lender: &mut Lender<'_, String>, place: u32, is_empty: 
 /// Whether each of two buffers has a place of its own, and that of the first comes with its value, and then empty. None where they are
 /// not to be had.
 fn two_keep(rt: &impl Wait, alloc: Global, lender: &mut Lender<'_, String>) -> Option<bool> {
-    let one = fills(rt, alloc, lender, 3)?;
-    let other = fills(rt, alloc, lender, 4)?;
+    let one = fill(rt, alloc, lender, 3)?;
+    let other = fill(rt, alloc, lender, 4)?;
     let place = one.place();
     let mut right = place != other.place();
     right &= matches!(&lender.acquire(rt), Err(PoolFailure::NoPlace(_)));
     right &= one.give_back().is_ok();
-    right &= comes(rt, lender, place, false);
-    right &= comes(rt, lender, place, true);
+    right &= take_next(rt, lender, place, false);
+    right &= take_next(rt, lender, place, true);
     Some(right & other.give_back().is_ok())
 }
 
@@ -77,24 +77,24 @@ fn a_buffer_keeps_its_value(rt: HostRuntime) -> Result<(), Fail> {
 }
 
 /// Whether a buffer has so many letters, and can be given back.
-fn has_and_gives_back(buffer: Buffer<'_, String>, letters: u64) -> bool {
+fn check_and_give_back(buffer: Buffer<'_, String>, letters: u64) -> bool {
     let is_right = has(&buffer, letters);
     is_right & buffer.give_back().is_ok()
 }
 
 /// Gives back what another filled with so many letters, and fills a buffer: whether both could be. It is given back too.
-fn hands_on(
+fn hand_on(
     rt: &impl Wait,
     alloc: Global,
     lender: &mut Lender<'_, String>,
     others: Buffer<'_, String>,
     letters: u64,
 ) -> bool {
-    if !has_and_gives_back(others, letters) {
+    if !check_and_give_back(others, letters) {
         return false;
     }
-    match fills(rt, alloc, lender, 7) {
-        Some(buffer) => has_and_gives_back(buffer, 7),
+    match fill(rt, alloc, lender, 7) {
+        Some(buffer) => check_and_give_back(buffer, 7),
         None => false,
     }
 }
@@ -106,12 +106,12 @@ fn swap<'a, R: Threads + Wait + Sync>(
     one: &mut Lender<'a, String>,
     other: &mut Lender<'a, String>,
 ) -> Option<(bool, bool)> {
-    let first = fills(rt, alloc, one, 5)?;
-    let second = fills(rt, alloc, other, 6)?;
+    let first = fill(rt, alloc, one, 5)?;
+    let second = fill(rt, alloc, other, 6)?;
     Some(thread::join(
         rt,
-        move || hands_on(rt, alloc, one, second, 6),
-        move || hands_on(rt, alloc, other, first, 5),
+        move || hand_on(rt, alloc, one, second, 6),
+        move || hand_on(rt, alloc, other, first, 5),
     ))
 }
 
@@ -135,7 +135,7 @@ fn find_all(rt: &impl Wait, lender: &mut Lender<'_, String>) -> bool {
     for _ in 0..ROUNDS {
         match lender.acquire(rt) {
             Ok(buffer) => {
-                if !has_and_gives_back(buffer, 3) {
+                if !check_and_give_back(buffer, 3) {
                     return false;
                 }
             }
@@ -147,7 +147,7 @@ fn find_all(rt: &impl Wait, lender: &mut Lender<'_, String>) -> bool {
 }
 
 /// Fills all of so many places with three letters.
-fn fills_each(
+fn fill_each(
     rt: &impl Wait,
     alloc: Global,
     lender: &mut Lender<'_, String>,
@@ -155,7 +155,7 @@ fn fills_each(
 ) -> Option<bool> {
     let mut buffers = Vec::new(alloc);
     for _ in 0..places {
-        buffers.push(fills(rt, alloc, lender, 3)?).ok()?;
+        buffers.push(fill(rt, alloc, lender, 3)?).ok()?;
     }
     let mut right = true;
     for buffer in buffers {
@@ -169,7 +169,7 @@ fn share<R: Threads + Wait + Sync>(rt: &R, alloc: Global, places: usize) -> Opti
     let mut pool: Pool<String> = Pool::new(alloc, places).ok()?;
     let mut one = pool.lender()?;
     let mut other = one.split()?;
-    let are_filled = fills_each(rt, alloc, &mut one, places)?;
+    let are_filled = fill_each(rt, alloc, &mut one, places)?;
     let found = thread::join(rt, || find_all(rt, &mut one), || find_all(rt, &mut other));
     Some(are_filled && found == (true, true))
 }

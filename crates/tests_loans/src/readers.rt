@@ -7,7 +7,7 @@ use zero_copy_slots::Slots;
 const TIMES: u64 = 300_000;
 
 /// Whether each reading finds the value, though another reader comes and leaves between the steps of a read.
-fn reads_always(slots: &Slots<u64>) -> bool {
+fn read_always(slots: &Slots<u64>) -> bool {
     for _ in 0..TIMES {
         match slots.read(0) {
             Ok(reading) if *reading.get() == 7 => {}
@@ -24,7 +24,7 @@ fn readers_do_not_refuse_each_other(rt: HostRuntime) -> Result<(), Fail> {
         return Err(Fail::from("not to be had"));
     };
     writing.put(1, 7);
-    let both = thread::join(&rt, || reads_always(&slots), || reads_always(&slots));
+    let both = thread::join(&rt, || read_always(&slots), || read_always(&slots));
     assert!(rt; both == (true, true));
     Ok(())
 }

@@ -86,7 +86,7 @@ fn texts(alloc: Global, number: usize) -> Result<Vec<String>, AllocError> {
 }
 
 /// Sends a text: the answer of the channel. None where there is no place, or no memory.
-fn sends(rt: &impl Wait, sender: &mut Sender<'_, String>, text: &str) -> Option<Option<u64>> {
+fn send(rt: &impl Wait, sender: &mut Sender<'_, String>, text: &str) -> Option<Option<u64>> {
     let mut loan = sender.loan(rt).ok()?;
     loan.value.clear();
     loan.value.push_str(text).ok()?;
@@ -110,7 +110,7 @@ fn is_text(receiver: &Receiver<'_, String>, sample: &Sample, number: u64, text: 
 
 /// Whether the text that comes next is this one, with this number. A reading of it is forgotten before, if that is asked. It is given
 /// back.
-fn reads(
+fn read(
     rt: &impl Wait,
     receiver: &mut Receiver<'_, String>,
     number: u64,
@@ -147,7 +147,7 @@ pub fn is_refused(rt: &impl Wait, sender: &mut Sender<'_, String>, step: Step) -
 }
 
 /// Whether a place can be regained, and its own slot was left empty.
-fn regains(sender: &mut Sender<'_, String>, place: u32) -> bool {
+fn regain(sender: &mut Sender<'_, String>, place: u32) -> bool {
     match sender.regain(place) {
         Some(emptied) => emptied.slot() == place,
         None => false,
@@ -169,7 +169,7 @@ impl<'a> Room<'a> {
     }
 
     /// Does a step of loans that are kept: whether it comes to what it has to.
-    fn does_with_loans(&mut self, rt: &impl Wait, step: Step) -> bool {
+    fn take_step_with_loans(&mut self, rt: &impl Wait, step: Step) -> bool {
         match step {
             Step::LoansOne => {
                 self.one = self.sender.loan(rt).ok();
@@ -197,18 +197,18 @@ impl<'a> Room<'a> {
                 }
                 None => false,
             },
-            Step::RegainsOther(some) => regains(&mut self.sender, self.place) == some,
+            Step::RegainsOther(some) => regain(&mut self.sender, self.place) == some,
             _ => false,
         }
     }
 
     /// Does a step of a round: whether it comes to what it has to.
-    fn does(&mut self, rt: &impl Wait, step: Step, round: u64) -> bool {
+    fn take_step(&mut self, rt: &impl Wait, step: Step, round: u64) -> bool {
         match step {
-            Step::Sends(text, back) => sends(rt, &mut self.sender, text) == Some(back),
-            Step::Reads(number, text) => reads(rt, &mut self.receiver, number, text, false),
-            Step::ReadsOfRound(text) => reads(rt, &mut self.receiver, round, text, false),
-            Step::Forgets(number, text) => reads(rt, &mut self.receiver, number, text, true),
+            Step::Sends(text, back) => send(rt, &mut self.sender, text) == Some(back),
+            Step::Reads(number, text) => read(rt, &mut self.receiver, number, text, false),
+            Step::ReadsOfRound(text) => read(rt, &mut self.receiver, round, text, false),
+            Step::Forgets(number, text) => read(rt, &mut self.receiver, number, text, true),
             Step::FindsNone => self.receiver.receive(rt).is_none(),
             Step::TakesBack(place) => self.sender.take_back() == place,
             Step::IsNext(number) => self.sender.next_number() == number,
@@ -217,8 +217,8 @@ impl<'a> Room<'a> {
                 &mut self.sender,
                 step,
             ),
-            Step::Regains(place, some) => regains(&mut self.sender, place) == some,
-            _ => self.does_with_loans(rt, step),
+            Step::Regains(place, some) => regain(&mut self.sender, place) == some,
+            _ => self.take_step_with_loans(rt, step),
         }
     }
 
@@ -226,7 +226,7 @@ impl<'a> Room<'a> {
     pub fn first_wrong(&mut self, rt: &impl Wait, steps: &[Step], rounds: usize) -> Option<usize> {
         for round in 0..rounds {
             for at in 0..steps.len() {
-                if !self.does(rt, steps[at], round as u64) {
+                if !self.take_step(rt, steps[at], round as u64) {
                     return Some(at);
                 }
             }

@@ -21,7 +21,7 @@ fn of_slot(slot: u32) -> u64 {
 }
 
 /// Lays a value into a slot in which nothing lies, and then its own, by which the first one comes out.
-fn lays(slots: &Slots<u64>, slot: u32) -> bool {
+fn lay(slots: &Slots<u64>, slot: u32) -> bool {
     let mut right = matches!(&slots.read(slot), Err(ReadFailure::NotThere(_)));
     let Ok(writing) = slots.take(slot) else {
         return false;
@@ -45,7 +45,7 @@ fn has_own(slots: &Slots<u64>, slot: u32) -> bool {
 }
 
 /// Whether its own value comes out of a slot, in which nothing lies then.
-fn gives_own(slots: &Slots<u64>, slot: u32) -> bool {
+fn take_own(slots: &Slots<u64>, slot: u32) -> bool {
     let Ok(writing) = slots.take(slot) else {
         return false;
     };
@@ -60,16 +60,16 @@ fn is_past(slots: &Slots<u64>, slot: u32) -> bool {
 }
 
 /// Whether each slot of so many keeps its own value.
-fn all_keep(slots: &Slots<u64>, number: u32) -> bool {
+fn keep_all(slots: &Slots<u64>, number: u32) -> bool {
     let mut right = is_past(slots, number);
     for slot in 0..number {
-        right &= lays(slots, slot);
+        right &= lay(slots, slot);
     }
     for slot in 0..number {
         right &= has_own(slots, slot);
     }
     for slot in 0..number {
-        right &= gives_own(slots, slot);
+        right &= take_own(slots, slot);
     }
     right
 }
@@ -78,7 +78,7 @@ fn all_keep(slots: &Slots<u64>, number: u32) -> bool {
 fn each_slot_keeps_its_value(rt: HostRuntime) -> Result<(), Fail> {
     for number in [2, 64, 65, 300, 5_000] {
         let slots: Slots<u64> = Slots::new(rt.alloc(), number)?;
-        assert!(rt; all_keep(&slots, number));
+        assert!(rt; keep_all(&slots, number));
     }
     Ok(())
 }
@@ -86,7 +86,7 @@ fn each_slot_keeps_its_value(rt: HostRuntime) -> Result<(), Fail> {
 // ---- channels
 
 /// Sends a value of the next number. False where it comes back.
-fn sends(rt: &impl Wait, sender: &mut Sender<'_, u64>) -> bool
+fn send_next(rt: &impl Wait, sender: &mut Sender<'_, u64>) -> bool
     ensures { IsSame (sender_of sender.old) (sender_of sender.new) }
 {
     let number = sender.next_number();
@@ -98,7 +98,7 @@ fn sends(rt: &impl Wait, sender: &mut Sender<'_, u64>) -> bool
 }
 
 /// The next sample, if it has this number and can be read.
-fn comes(rt: &impl Wait, receiver: &mut Receiver<'_, u64>, number: u64) -> Option<Sample>
+fn receive_next(rt: &impl Wait, receiver: &mut Receiver<'_, u64>, number: u64) -> Option<Sample>
     ensures { IsSameReceiver receiver.old receiver.new }
 {
     let sample = receiver.receive(rt)?;
@@ -114,7 +114,7 @@ fn comes(rt: &impl Wait, receiver: &mut Receiver<'_, u64>, number: u64) -> Optio
 }
 
 /// Fills all places with values from this number on, receives them all while none is given back, and then gives them back.
-fn goes_round(
+fn go_round(
     rt: &impl Wait,
     alloc: Global,
     sender: &mut Sender<'_, u64>,
@@ -124,13 +124,13 @@ fn goes_round(
 ) -> Option<bool> {
     let mut right = true;
     for _ in 0..places {
-        right &= sends(rt, sender);
+        right &= send_next(rt, sender);
     }
-    right &= !sends(rt, sender);
+    right &= !send_next(rt, sender);
     let mut samples = Vec::new(alloc);
     for at in 0..places {
         samples
-            .push(comes(rt, receiver, first.wrapping_add(at))?)
+            .push(receive_next(rt, receiver, first.wrapping_add(at))?)
             .ok()?;
     }
     right &= receiver.receive(rt).is_none();
@@ -179,7 +179,7 @@ fn rise(numbers: &[u64], many: usize, first: u64, by: u64) -> bool {
 }
 
 /// Sends a value in the place that is free, and two more in places that come back between the tries, of so many that wait to come back.
-fn goes_on(rt: &impl Wait, alloc: Global, sender: &mut Sender<'_, u64>, back: u32) -> bool {
+fn send_on(rt: &impl Wait, alloc: Global, sender: &mut Sender<'_, u64>, back: u32) -> bool {
     let mut right = sender.send_each(rt, alloc, 1, 1, &mut Triples).is_some();
     right &= sender.send_each(rt, alloc, 2, 2, &mut Triples).is_some();
     for _ in 2..back {
@@ -190,7 +190,7 @@ fn goes_on(rt: &impl Wait, alloc: Global, sender: &mut Sender<'_, u64>, back: u3
 
 /// Fills the queue of a channel, which has room for all places but one, and sends three more, so that the three oldest come back.
 /// Then all the others are read.
-fn each_comes(
+fn receive_each(
     rt: &impl Wait,
     alloc: Global,
     sender: &mut Sender<'_, u64>,
@@ -204,7 +204,7 @@ fn each_comes(
     let told = receiver.read_each(rt, alloc, many, 1, &mut Plain)?;
     right &= rise(&told, many, 9, 3);
     right &= receiver.read_each(rt, alloc, 1, 1, &mut Plain).is_none();
-    Some(right & goes_on(rt, alloc, sender, room))
+    Some(right & send_on(rt, alloc, sender, room))
 }
 
 /// Two rounds through a channel of so many places, of which so many wait. Where they are fewer than there are places, each that is sent
@@ -214,11 +214,11 @@ fn through(rt: &impl Wait, alloc: Global, places: u32, room: u32) -> Option<bool
     let spares = vec![in alloc; 0u64; places as usize + 1].ok()?;
     let (mut sender, mut receiver) = channel.ends(alloc, spares)?;
     if room < places {
-        return each_comes(rt, alloc, &mut sender, &mut receiver, room);
+        return receive_each(rt, alloc, &mut sender, &mut receiver, room);
     }
     let many = places as u64;
-    let one = goes_round(rt, alloc, &mut sender, &mut receiver, many, 0)?;
-    let other = goes_round(rt, alloc, &mut sender, &mut receiver, many, many)?;
+    let one = go_round(rt, alloc, &mut sender, &mut receiver, many, 0)?;
+    let other = go_round(rt, alloc, &mut sender, &mut receiver, many, many)?;
     Some(one & other)
 }
 
@@ -240,21 +240,21 @@ fn each_is_sent_and_read(rt: HostRuntime) -> Result<(), Fail> {
 }
 
 /// Whether the value of this number comes, and is given back. None where none comes.
-fn goes_back(rt: &impl Wait, receiver: &mut Receiver<'_, u64>, number: u64) -> Option<bool>
+fn give_back_next(rt: &impl Wait, receiver: &mut Receiver<'_, u64>, number: u64) -> Option<bool>
     ensures { IsSameReceiver receiver.old receiver.new }
 {
-    let sample = comes(rt, receiver, number)?;
+    let sample = receive_next(rt, receiver, number)?;
     Some(receiver.give_back(sample))
 }
 
 /// The same of the second value of the ends before these, if there were any.
-fn earlier_goes_back(rt: &impl Wait, receiver: &mut Receiver<'_, u64>, first: u64) -> Option<bool>
+fn give_back_earlier(rt: &impl Wait, receiver: &mut Receiver<'_, u64>, first: u64) -> Option<bool>
     ensures { IsSameReceiver receiver.old receiver.new }
 {
     if first == 0 {
         return Some(true);
     }
-    goes_back(rt, receiver, first.wrapping_sub(1))
+    give_back_next(rt, receiver, first.wrapping_sub(1))
 }
 
 /// Sends two values by new ends of a channel, of which one is received behind the one that waits, and hands their parts in: whether
@@ -264,10 +264,10 @@ fn in_turn(rt: &impl Wait, alloc: Global, channel: &mut Channel<u64>, first: u64
     let spares = vec![in alloc; 0u64; 10].ok()?;
     let (mut sender, mut receiver) = channel.ends_with(alloc, spares, sends_of, receives_of)?;
     let mut right = sender.next_number() == first;
-    right &= sends(rt, &mut sender);
-    right &= sends(rt, &mut sender);
-    right &= earlier_goes_back(rt, &mut receiver, first)?;
-    right &= goes_back(rt, &mut receiver, first)?;
+    right &= send_next(rt, &mut sender);
+    right &= send_next(rt, &mut sender);
+    right &= give_back_earlier(rt, &mut receiver, first)?;
+    right &= give_back_next(rt, &mut receiver, first)?;
     let (left, _) = sender.finish_all();
     let other = receiver.finish();
     channel.relayed(left, other);
@@ -283,7 +283,7 @@ fn go_on(rt: &impl Wait, alloc: Global) -> Option<bool> {
     }
     let (sends_of, receives_of) = channel.open()?;
     let (_sender, mut receiver) = channel.ends_with(alloc, Vec::new(alloc), sends_of, receives_of)?;
-    right &= goes_back(rt, &mut receiver, 7)?;
+    right &= give_back_next(rt, &mut receiver, 7)?;
     Some(right & receiver.receive(rt).is_none())
 }
 
@@ -296,7 +296,7 @@ fn numbers_go_on(rt: HostRuntime) -> Result<(), Fail> {
 // ---- pools
 
 /// Takes all places, and lays in each what `of_slot` says of it.
-fn fills_all(
+fn fill_all(
     rt: &impl Wait,
     alloc: Global,
     lender: &mut Lender<'_, u64>,
@@ -329,7 +329,7 @@ fn is_own(buffer: Buffer<'_, u64>) -> bool {
 fn keep_own(rt: &impl Wait, alloc: Global, places: u32) -> Option<bool> {
     let mut pool: Pool<u64> = Pool::new(alloc, places as usize).ok()?;
     let mut lender = pool.lender()?;
-    let mut right = fills_all(rt, alloc, &mut lender, places)?;
+    let mut right = fill_all(rt, alloc, &mut lender, places)?;
     let mut buffers = Vec::new(alloc);
     for _ in 0..places {
         buffers.push(lender.acquire(rt).ok()?).ok()?;

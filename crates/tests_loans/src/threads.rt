@@ -54,7 +54,7 @@ fn notes(alloc: Global, number: usize) -> Result<Vec<Note>, AllocError> {
 }
 
 /// Writes the text of a number: whether there was memory.
-fn writes_text(text: &mut String, number: u64) -> bool {
+fn write_text(text: &mut String, number: u64) -> bool {
     text.clear();
     for _ in 0..number % 64 {
         if text.push('a').is_err() {
@@ -81,23 +81,23 @@ fn next_loan<'a>(
 }
 
 /// Sends the note of the next number on a loan. False where it is handed back, or where there is no memory.
-fn sends_next<'a>(
+fn send_next<'a>(
     sender: &mut Sender<'a, Note, OwnNumber>,
     mut loan: Loan<'a, Note, OwnNumber>,
 ) -> bool {
     let number = sender.next_number();
-    let is_written = writes_text(&mut loan.value.text, number);
+    let is_written = write_text(&mut loan.value.text, number);
     loan.value.number = number;
     is_written && sender.send(loan).is_none()
 }
 
 /// Sends all notes: whether none was handed back.
-fn sends_all(rt: &impl Wait, sender: &mut Sender<'_, Note, OwnNumber>) -> bool {
+fn send_all(rt: &impl Wait, sender: &mut Sender<'_, Note, OwnNumber>) -> bool {
     for _ in 0..VALUES {
         let Some(loan) = next_loan(rt, sender) else {
             return false;
         };
-        if !sends_next(sender, loan) {
+        if !send_next(sender, loan) {
             return false;
         }
     }
@@ -129,7 +129,7 @@ fn next(rt: &impl Wait, receiver: &mut Receiver<'_, Note, OwnNumber>) -> Option<
 }
 
 /// Receives all notes: whether each came whole and in its turn.
-fn receives_all(rt: &impl Wait, receiver: &mut Receiver<'_, Note, OwnNumber>) -> bool {
+fn receive_all(rt: &impl Wait, receiver: &mut Receiver<'_, Note, OwnNumber>) -> bool {
     for number in 0..VALUES {
         let Some(sample) = next(rt, receiver) else {
             return false;
@@ -153,8 +153,8 @@ fn run<R: Threads + Wait + Sync>(
 ) -> (bool, bool) {
     thread::join(
         rt,
-        move || sends_all(rt, sender),
-        move || receives_all(rt, receiver),
+        move || send_all(rt, sender),
+        move || receive_all(rt, receiver),
     )
 }
 

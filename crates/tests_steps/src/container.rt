@@ -1,5 +1,5 @@
 //! The container: handles, errors and states alone, and values of one word and of 128.
-use crate::drive::ends;
+use crate::drive::end_with;
 use std::test::Fail;
 use steps::ask::{After, Want};
 use steps::container::add::{Add, Owned};
@@ -41,7 +41,7 @@ fn replace<T: Words + Drop>(
 }
 
 /// Takes at most so many steps of a look of the state. Where it has ended, these are what it answers and its steps.
-fn looks<T: Words>(
+fn look<T: Words>(
     state: &mut ContainerState<T>,
     most: u64,
     words: &mut [u64],
@@ -119,7 +119,7 @@ fn whose_state_it_is(rt: HostRuntime) -> Result<(), Fail> {
 fn visits_of_a_state(rt: HostRuntime) -> Result<(), Fail> {
     let mut words = [3, 1, 2, 1, 3, 1, 2, 5, 10, 11, 20, 21, 30, 31];
     let mut state = ContainerState::new(rt.alloc(), 0, 3)?;
-    assert!(rt; looks(&mut state, 20, &mut words) == Some((true, 10)));
+    assert!(rt; look(&mut state, 20, &mut words) == Some((true, 10)));
     let mut seen = [(9, (0, 0)); 3];
     let mut number = 0usize;
     state.for_each(|index, value: &(u64, u64)| {
@@ -144,8 +144,8 @@ fn visits_of_a_state(rt: HostRuntime) -> Result<(), Fail> {
 fn values_of_one_word(rt: HostRuntime) -> Result<(), Fail> {
     let owner = OwnerId::new(7)?;
     let mut words = [0, EMPTY, 0, 0, 0];
-    assert!(rt; ends(add(1, 9u64, owner), &mut words, Ok(0), 8));
-    assert!(rt; ends(replace(1, 0, owner, 10u64), &mut words, Ok(()), 6));
+    assert!(rt; end_with(add(1, 9u64, owner), &mut words, Ok(0), 8));
+    assert!(rt; end_with(replace(1, 0, owner, 10u64), &mut words, Ok(()), 6));
     assert!(rt; words == [1, 7, 2, 3, 10]);
     Ok(())
 }
@@ -156,10 +156,10 @@ fn values_of_128_words(rt: HostRuntime) -> Result<(), Fail> {
     let mut words = [0; 132];
     words[1] = EMPTY;
     let wide = Greatest(3, 9, 4);
-    assert!(rt; ends(add(1, wide, owner), &mut words, Ok(0), 135));
+    assert!(rt; end_with(add(1, wide, owner), &mut words, Ok(0), 135));
     let mut state = ContainerState::new(rt.alloc(), 0, 1)?;
-    assert!(rt; looks(&mut state, 200, &mut words) == Some((true, 131)));
+    assert!(rt; look(&mut state, 200, &mut words) == Some((true, 131)));
     assert!(rt; state.get(0).copied() == Some(wide));
-    assert!(rt; ends(replace(1, 0, owner, wide), &mut words, Ok(()), 133));
+    assert!(rt; end_with(replace(1, 0, owner, wide), &mut words, Ok(()), 133));
     Ok(())
 }

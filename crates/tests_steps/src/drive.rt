@@ -134,7 +134,7 @@ where
 }
 
 /// Whether the call ends with this answer after so many steps.
-pub fn ends<C: Routine + Drop, const N: usize>(
+pub fn end_with<C: Routine + Drop, const N: usize>(
     call: Running<C, C::Given, C::Room>,
     words: &mut [u64; N],
     answer: C::Answer,

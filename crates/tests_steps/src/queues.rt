@@ -1,7 +1,7 @@
 //! Bounded queues of values of one word, of a pair, of three words and of 128.
-use crate::drive::{bare, ends, partly, with};
+use crate::drive::{bare, end_with, partly, with};
 use crate::driven::{overflow_pop, overflow_push, peek, peek_one, pop, pop_one, push};
-use crate::rows::{Row, fills_and_empties, play};
+use crate::rows::{Row, fill_and_empty, play};
 use std::process::Abort;
 use steps::ask::{Call, Want};
 use steps::queues::ring::{CONSUMER, PRODUCER};
@@ -34,8 +34,11 @@ fn a_pop_into_one_word_is_a_pop(rt: HostRuntime) {
     let mut words = [2, 0, 1, 1, 7, 8];
     for (value, steps) in [(Some(7), 4), (Some(8), 4), (None, 2)] {
         let mut same = words;
-        assert!(rt; ends(pop::<u64>(2), &mut words, value, steps), "{steps}");
-        assert!(rt; ends(pop_one(2), &mut same, value, steps), "{steps}");
+        assert!(rt;
+            end_with(pop::<u64>(2), &mut words, value, steps),
+            "{steps}"
+        );
+        assert!(rt; end_with(pop_one(2), &mut same, value, steps), "{steps}");
         assert!(rt; same == words, "{steps}");
     }
     assert!(rt; words == [2, 2, 1, 1, 7, 8]);
@@ -47,11 +50,11 @@ fn a_peek_leaves_the_words(rt: HostRuntime) {
     for (capacity, value, steps) in [(2, Some(8), 3), (0, None, 2)] {
         let mut same = words;
         assert!(rt;
-            ends(peek::<u64>(capacity), &mut same, value, steps),
+            end_with(peek::<u64>(capacity), &mut same, value, steps),
             "{capacity}"
         );
         assert!(rt;
-            ends(peek_one(capacity), &mut same, value, steps),
+            end_with(peek_one(capacity), &mut same, value, steps),
             "{capacity}"
         );
         assert!(rt; same == words, "{capacity}");
@@ -59,14 +62,14 @@ fn a_peek_leaves_the_words(rt: HostRuntime) {
     // At the last position, beside the last push.
     let words = [u64::MAX, u64::MAX - 1, 1, 1, 7, 8];
     let mut same = words;
-    assert!(rt; ends(peek_one(2), &mut same, Some(7), 3) && same == words);
+    assert!(rt; end_with(peek_one(2), &mut same, Some(7), 3) && same == words);
 }
 
 fn a_push_publishes_in_a_peek(rt: &impl Abort) -> Option<()> {
     let mut words = [0, 0, 1, 1, 0, 0];
     let call = partly(peek::<(u64, u64)>(1), 1, &mut words)?;
-    assert!(rt; ends(push(1, (5, 6)), &mut words, true, 5));
-    assert!(rt; ends(call, &mut words, Some((5, 6)), 3));
+    assert!(rt; end_with(push(1, (5, 6)), &mut words, true, 5));
+    assert!(rt; end_with(call, &mut words, Some((5, 6)), 3));
     assert!(rt; words == [1, 0, 1, 1, 5, 6]);
     Some(())
 }
@@ -82,7 +85,7 @@ fn looks_at_roles(rt: HostRuntime) {
     for (word, is_taken) in [(PRODUCER, true), (CONSUMER, false)] {
         let mut same = words;
         assert!(rt;
-            ends(bare(LookRole { word }), &mut same, is_taken, 1),
+            end_with(bare(LookRole { word }), &mut same, is_taken, 1),
             "{word}"
         );
         assert!(rt; same == words, "{word}");
@@ -94,11 +97,11 @@ fn values_of_three_words_and_of_128(rt: HostRuntime) {
     // From position 5, so that the first value stands in the last of the three cells.
     let mut words = with([0; 13], &[(0, 5), (1, 5)]);
     let values = [Three(1, 2, 3), Three(4, 5, 6), Three(7, 8, 9)];
-    assert!(rt; fills_and_empties(3, &values, &mut words));
+    assert!(rt; fill_and_empty(3, &values, &mut words));
     assert!(rt; words == [11, 11, 0, 0, 4, 5, 6, 7, 8, 9, 1, 2, 3]);
     let mut words = with([0; 388], &[(0, 5), (1, 5)]);
     let values = [Greatest(1, 9, 2), Greatest(3, 9, 4), Greatest(5, 9, 6)];
-    assert!(rt; fills_and_empties(3, &values, &mut words));
+    assert!(rt; fill_and_empty(3, &values, &mut words));
     let wanted = with(
         [9; 388],
         &[

@@ -1,5 +1,5 @@
 //! Rows of calls on one list of words, each with what it must answer and the steps that it must take.
-use crate::drive::{bare, ends};
+use crate::drive::{bare, end_with};
 use crate::driven::{load, peek, pop, push, store};
 use std::process::Abort;
 use steps::atomic::version::Version;
@@ -18,19 +18,19 @@ pub enum Row<T> {
     Len(u64, u64),
 }
 
-fn does<T: Words + PartialEq + Drop, const N: usize>(
+fn make_call<T: Words + PartialEq + Drop, const N: usize>(
     capacity: u32,
     words: &mut [u64; N],
     row: &Row<T>,
 ) -> bool {
     match *row {
-        Row::Push(value, taken, steps) => ends(push(capacity, value), words, taken, steps),
-        Row::Pop(value, steps) => ends(pop::<T>(capacity), words, value, steps),
-        Row::Peek(value, steps) => ends(peek::<T>(capacity), words, value, steps),
-        Row::Store(value, taken, steps) => ends(store(value), words, taken, steps),
-        Row::Load(value, steps) => ends(load::<T>(), words, value, steps),
-        Row::Version(number) => ends(bare(Version), words, number, 1),
-        Row::Len(number, steps) => ends(bare(Len::new(capacity)), words, number, steps),
+        Row::Push(value, taken, steps) => end_with(push(capacity, value), words, taken, steps),
+        Row::Pop(value, steps) => end_with(pop::<T>(capacity), words, value, steps),
+        Row::Peek(value, steps) => end_with(peek::<T>(capacity), words, value, steps),
+        Row::Store(value, taken, steps) => end_with(store(value), words, taken, steps),
+        Row::Load(value, steps) => end_with(load::<T>(), words, value, steps),
+        Row::Version(number) => end_with(bare(Version), words, number, 1),
+        Row::Len(number, steps) => end_with(bare(Len::new(capacity)), words, number, steps),
     }
 }
 
@@ -45,13 +45,13 @@ pub fn play<T: Words + PartialEq + Drop, const N: usize>(
 ) {
     let mut words = words;
     for (at, row) in rows.iter().enumerate() {
-        assert!(rt; does(capacity, &mut words, row), "{name}: row {at}");
+        assert!(rt; make_call(capacity, &mut words, row), "{name}: row {at}");
     }
     assert!(rt; words == after, "{name}: words");
 }
 
 /// Whether an empty queue can be filled with these values, as many as its capacity, and emptied, twice.
-pub fn fills_and_empties<T: Words + PartialEq + Drop, const N: usize>(
+pub fn fill_and_empty<T: Words + PartialEq + Drop, const N: usize>(
     capacity: u32,
     values: &[T],
     words: &mut [u64; N],
@@ -60,18 +60,18 @@ pub fn fills_and_empties<T: Words + PartialEq + Drop, const N: usize>(
     let mut right = true;
     for _ in 0..2 {
         for value in values {
-            right &= does(capacity, words, &Row::Push(*value, true, steps));
+            right &= make_call(capacity, words, &Row::Push(*value, true, steps));
         }
-        right &= does::<T, N>(capacity, words, &Row::Len(capacity as u64, 4));
+        right &= make_call::<T, N>(capacity, words, &Row::Len(capacity as u64, 4));
         for value in values {
-            right &= does(capacity, words, &Row::Push(*value, false, 2));
+            right &= make_call(capacity, words, &Row::Push(*value, false, 2));
         }
         for value in values {
-            right &= does(capacity, words, &Row::Peek(Some(*value), steps - 1));
-            right &= does(capacity, words, &Row::Pop(Some(*value), steps));
+            right &= make_call(capacity, words, &Row::Peek(Some(*value), steps - 1));
+            right &= make_call(capacity, words, &Row::Pop(Some(*value), steps));
         }
-        right &= does::<T, N>(capacity, words, &Row::Peek(None, 2));
-        right &= does::<T, N>(capacity, words, &Row::Pop(None, 2));
+        right &= make_call::<T, N>(capacity, words, &Row::Peek(None, 2));
+        right &= make_call::<T, N>(capacity, words, &Row::Pop(None, 2));
     }
     right
 }

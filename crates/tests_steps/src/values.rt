@@ -1,5 +1,5 @@
 //! The single value, step by step.
-use crate::drive::{ends, partly, with};
+use crate::drive::{end_with, partly, with};
 use crate::driven::{load, load_one, store};
 use crate::rows::{Row, play};
 use std::process::Abort;
@@ -66,7 +66,7 @@ fn values_of_many_words(rt: HostRuntime) {
 #[test]
 fn a_value_of_one_word(rt: HostRuntime) {
     let mut words = [2, 1, 7, 8];
-    assert!(rt; ends(load_one(), &mut words, 8, 3));
+    assert!(rt; end_with(load_one(), &mut words, 8, 3));
     play(&rt, "ONE_WORD", 0, words, &ONE_WORD, [3, 1, 9, 8]);
     let last = [u64::MAX, 1, 7, 8];
     play(&rt, "LAST_VERSION", 0, last, &LAST_VERSION, last);
@@ -78,7 +78,7 @@ fn a_load_goes_back_where_stores_moved_the_version(rt: &impl Abort) -> Option<()
     let mut words = [1, 1, 0, 0, 0, 0];
     let call = partly(load::<u128>(), 2, &mut words)?;
     for value in [FIRST, SECOND] {
-        assert!(rt; ends(store(value), &mut words, true, 4));
+        assert!(rt; end_with(store(value), &mut words, true, 4));
     }
     let call = partly(call, 1, &mut words)?;
     // The copy is half the opening value and half the second store's.
@@ -86,7 +86,7 @@ fn a_load_goes_back_where_stores_moved_the_version(rt: &impl Abort) -> Option<()
     assert!(rt; call.room.words[0] == 0 && call.room.words[1] == 4);
     assert!(rt; call.call.goes_back(3) && !call.call.goes_back(1));
     // With the three steps before, seven: it goes back once.
-    assert!(rt; ends(call, &mut words, SECOND, 4));
+    assert!(rt; end_with(call, &mut words, SECOND, 4));
     assert!(rt; words == [3, 1, 3, 4, 1, 2]);
     Some(())
 }
@@ -95,7 +95,7 @@ fn a_load_of_128_words_goes_back(rt: &impl Abort) -> Option<()> {
     let mut words = with([0; 258], &[(0, 1)]);
     let call = partly(load::<Greatest>(), 60, &mut words)?;
     for value in [Greatest(1, 9, 2), Greatest(3, 9, 4)] {
-        assert!(rt; ends(store(value), &mut words, true, 130));
+        assert!(rt; end_with(store(value), &mut words, true, 130));
     }
     let call = partly(call, 69, &mut words)?;
     assert!(rt; matches!(call.call.stage, LoadStage::ChecksVersion { version: 1 }));
@@ -106,7 +106,7 @@ fn a_load_of_128_words_goes_back(rt: &impl Abort) -> Option<()> {
     }
     mixed[127] = 4;
     assert!(rt; call.room.words == mixed);
-    assert!(rt; ends(call, &mut words, Greatest(3, 9, 4), 130));
+    assert!(rt; end_with(call, &mut words, Greatest(3, 9, 4), 130));
     Some(())
 }
 

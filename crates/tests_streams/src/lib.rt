@@ -4,6 +4,10 @@
 #[cfg(test)]
 mod queue_ends;
 #[cfg(test)]
+mod slots;
+#[cfg(test)]
 mod streams;
 #[cfg(test)]
 mod structs;
+#[cfg(test)]
+pub mod twins;

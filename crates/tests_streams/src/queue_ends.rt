@@ -1,13 +1,17 @@
 //! The same of calls of a plain queue's ends: that they succeed where there is room, of numbers at seven capacities, and of values.
 use lock_free_queues::spsc::index_queue::{Consumer, IndexQueue, Producer};
-use lock_free_queues::spsc::queue;
 use lock_free_queues::spsc::queue::Queue;
+use lock_free_queues::spsc::safely_overflowing_index_queue::SafelyOverflowingIndexQueue;
+use lock_free_queues::spsc::{queue, safely_overflowing_index_queue as overflow};
 use std::alloc::Global;
 use std::sync::Wait;
 use std::test::Fail;
 use std::thread;
 use std::thread::Threads;
-use uses_streams::queues::{pop_all, pop_waiting, pop_within, push_all, push_waiting, push_within};
+use uses_streams::queues::{
+    pop_all, pop_overflowing_waiting, pop_overflowing_within, pop_waiting, pop_within, push_all,
+    push_waiting, push_within,
+};
 
 /// Pushes seven numbers into a queue of five, as many as go in at a time, and pops them into slices: whether the first five went in
 /// and no more, three came, the others went in, these came, and nothing was left.
@@ -70,6 +74,62 @@ fn cross<R: Threads + Wait + Sync>(
     Some(in_order)
 }
 
+/// Pushes the numbers below five into an overflowing queue of two, and pops: whether the last two came, and then none.
+fn pop_what_is_left(
+    rt: &impl Wait,
+    producer: &mut overflow::Producer<'_>,
+    consumer: &mut overflow::Consumer<'_>,
+) -> [bool; 3] {
+    for value in 0..5u64 {
+        let _ = producer.push(value);
+    }
+    let untried = pop_overflowing_within(rt, consumer, 0).is_none();
+    let mut in_order = pop_overflowing_waiting(rt, consumer) == 3;
+    in_order &= pop_overflowing_within(rt, consumer, 1) == Some(4);
+    let none = pop_overflowing_within(rt, consumer, 3).is_none();
+    [untried, in_order, none]
+}
+
+/// Pushes the numbers below `count` into an overflowing queue.
+fn push_over(producer: &mut overflow::Producer<'_>, count: u64) {
+    for value in 0..count {
+        let _ = producer.push(value);
+    }
+}
+
+/// Pops until the number below `count` comes, each as soon as there is one: whether they rose up to it.
+fn pop_to_the_last(rt: &impl Wait, consumer: &mut overflow::Consumer<'_>, count: u64) -> bool {
+    let mut next = 0;
+    for _ in 0..count {
+        let value = pop_overflowing_waiting(rt, consumer);
+        if value < next || value >= count {
+            return false;
+        }
+        if value == count - 1 {
+            return true;
+        }
+        next = value + 1;
+    }
+    false
+}
+
+/// Passes the numbers below `count` by an overflowing queue from one thread to another: whether those that came rose to the last.
+fn cross_over<R: Threads + Wait + Sync>(
+    rt: &R,
+    alloc: Global,
+    capacity: usize,
+    count: u64,
+) -> Option<bool> {
+    let (queue, pass) = SafelyOverflowingIndexQueue::new(alloc, capacity).ok()?;
+    let (mut producer, mut consumer) = queue.ends(pass)?;
+    let (risen, _) = thread::join(
+        rt,
+        || pop_to_the_last(rt, &mut consumer, count),
+        || push_over(&mut producer, count),
+    );
+    Some(risen)
+}
+
 #[test]
 fn a_queue_takes_what_it_has_room_for(rt: HostRuntime) -> Result<(), Fail> {
     for (capacity, number) in [(0, 0), (1, 1), (7, 7), (1000, 7)] {
@@ -102,6 +162,28 @@ fn who_waits_gets_all(rt: HostRuntime) -> Result<(), Fail> {
     for (capacity, count) in [(1, 100), (2, 100), (64, 1000), (1000, 3000)] {
         assert!(rt;
             cross(&rt, rt.alloc(), capacity, count) == Some(true),
+            "at {capacity}"
+        );
+    }
+    Ok(())
+}
+
+#[test]
+fn the_oldest_that_is_left_comes(rt: HostRuntime) -> Result<(), Fail> {
+    let (queue, pass) = SafelyOverflowingIndexQueue::new(rt.alloc(), 2)?;
+    let (mut producer, mut consumer) = queue.ends(pass).ok_or("no ends")?;
+    assert!(rt; pop_what_is_left(&rt, &mut producer, &mut consumer) == [true; 3]);
+    let (none, pass) = SafelyOverflowingIndexQueue::new(rt.alloc(), 0)?;
+    let (_producer, mut consumer) = none.ends(pass).ok_or("no ends")?;
+    assert!(rt; pop_overflowing_within(&rt, &mut consumer, 3).is_none());
+    Ok(())
+}
+
+#[test]
+fn who_waits_gets_the_last(rt: HostRuntime) -> Result<(), Fail> {
+    for (capacity, count) in [(1, 1), (1, 100), (64, 3000)] {
+        assert!(rt;
+            cross_over(&rt, rt.alloc(), capacity, count) == Some(true),
             "at {capacity}"
         );
     }

@@ -18,7 +18,7 @@ enum Last {
 }
 
 /// Sends the numbers below `count`, and one more where the stream is full then: whether all went in, and that one did not.
-fn fills(sender: &mut Sender<'_, u64>, count: u64, is_full: bool) -> bool {
+fn fill(sender: &mut Sender<'_, u64>, count: u64, is_full: bool) -> bool {
     let mut right = true;
     for value in 0..count {
         right &= sender.send(value);
@@ -27,7 +27,7 @@ fn fills(sender: &mut Sender<'_, u64>, count: u64, is_full: bool) -> bool {
 }
 
 /// Finishes, where the stream is full once a number is received: whether the end was refused just where it is full.
-fn finishes(sender: Sender<'_, u64>, receiver: &mut Receiver<'_, u64>, is_full: bool) -> bool {
+fn finish_stream(sender: Sender<'_, u64>, receiver: &mut Receiver<'_, u64>, is_full: bool) -> bool {
     match sender.finish() {
         Ok(_sent) => !is_full,
         Err(sender) => {
@@ -39,7 +39,7 @@ fn finishes(sender: Sender<'_, u64>, receiver: &mut Receiver<'_, u64>, is_full: 
 }
 
 /// Receives the numbers from one up to another: whether they came in order.
-fn empties(receiver: &mut Receiver<'_, u64>, from: u64, to: u64) -> bool {
+fn empty(receiver: &mut Receiver<'_, u64>, from: u64, to: u64) -> bool {
     let mut right = true;
     for value in from..to {
         right &= receiver.receive() == Arrival::Value(value);
@@ -49,7 +49,7 @@ fn empties(receiver: &mut Receiver<'_, u64>, from: u64, to: u64) -> bool {
 
 /// Sends so many numbers, ends so, and receives all: whether each call answered as it should, and what comes then, twice. None where
 /// the ends are not to be had.
-fn plays<const CAPACITY: usize>(
+fn play<const CAPACITY: usize>(
     alloc: Global,
     count: u64,
     last: Last,
@@ -57,17 +57,17 @@ fn plays<const CAPACITY: usize>(
     let (queue, pass) = Queue::<Element<u64>, CAPACITY>::new(alloc).ok()?;
     let (mut sender, mut receiver) = both_ends(&queue, pass)?;
     let is_full = count == CAPACITY as u64;
-    let mut right = fills(&mut sender, count, is_full);
+    let mut right = fill(&mut sender, count, is_full);
     let mut from = 0;
     match last {
         Last::Finishes => {
-            right &= finishes(sender, &mut receiver, is_full);
+            right &= finish_stream(sender, &mut receiver, is_full);
             from = is_full as u64;
         }
         Last::Leaves => drop(sender.leave()),
         Last::IsDropped => drop(sender),
     }
-    right &= empties(&mut receiver, from, count);
+    right &= empty(&mut receiver, from, count);
     Some((right, [receiver.receive(), receiver.receive()]))
 }
 
@@ -103,7 +103,7 @@ fn begin_beside_another(alloc: Global) -> Option<[bool; 2]> {
 }
 
 /// Fills a stream of two places by calls with a limit of tries: whether each answered as it should.
-fn fills_by_tries(sender: &mut Sender<'_, u64>, receiver: &mut Receiver<'_, u64>) -> bool {
+fn fill_by_tries(sender: &mut Sender<'_, u64>, receiver: &mut Receiver<'_, u64>) -> bool {
     let mut right = receiver.receive_within(3) == Arrival::Nothing;
     right &= !sender.send_within(5, 0);
     right &= sender.send_within(6, 1) && sender.send_within(7, 3);
@@ -111,7 +111,7 @@ fn fills_by_tries(sender: &mut Sender<'_, u64>, receiver: &mut Receiver<'_, u64>
 }
 
 /// And empties it.
-fn empties_by_tries(sender: Sender<'_, u64>, receiver: &mut Receiver<'_, u64>) -> Option<bool> {
+fn empty_by_tries(sender: Sender<'_, u64>, receiver: &mut Receiver<'_, u64>) -> Option<bool> {
     let Err(sender) = sender.finish_within(3) else {
         return None;
     };
@@ -199,23 +199,23 @@ const NOT_ENDED: Option<(bool, [Arrival<u64>; 2])> = Some((true, [Arrival::Nothi
 #[test]
 fn a_full_stream_refuses_and_ends(rt: HostRuntime) -> Result<(), Fail> {
     let alloc = rt.alloc();
-    assert!(rt; plays::<1>(alloc, 1, Last::Finishes) == ENDED);
-    assert!(rt; plays::<2>(alloc, 2, Last::Finishes) == ENDED);
-    assert!(rt; plays::<5>(alloc, 5, Last::Finishes) == ENDED);
-    assert!(rt; plays::<64>(alloc, 64, Last::Finishes) == ENDED);
-    assert!(rt; plays::<1000>(alloc, 1000, Last::Finishes) == ENDED);
+    assert!(rt; play::<1>(alloc, 1, Last::Finishes) == ENDED);
+    assert!(rt; play::<2>(alloc, 2, Last::Finishes) == ENDED);
+    assert!(rt; play::<5>(alloc, 5, Last::Finishes) == ENDED);
+    assert!(rt; play::<64>(alloc, 64, Last::Finishes) == ENDED);
+    assert!(rt; play::<1000>(alloc, 1000, Last::Finishes) == ENDED);
     Ok(())
 }
 
 #[test]
 fn a_dropped_sender_ends_the_stream_where_there_is_room(rt: HostRuntime) -> Result<(), Fail> {
     let alloc = rt.alloc();
-    assert!(rt; plays::<1>(alloc, 0, Last::IsDropped) == ENDED);
-    assert!(rt; plays::<1>(alloc, 1, Last::IsDropped) == NOT_ENDED);
-    assert!(rt; plays::<5>(alloc, 4, Last::IsDropped) == ENDED);
-    assert!(rt; plays::<5>(alloc, 5, Last::IsDropped) == NOT_ENDED);
-    assert!(rt; plays::<1000>(alloc, 999, Last::IsDropped) == ENDED);
-    assert!(rt; plays::<2>(alloc, 1, Last::Leaves) == NOT_ENDED);
+    assert!(rt; play::<1>(alloc, 0, Last::IsDropped) == ENDED);
+    assert!(rt; play::<1>(alloc, 1, Last::IsDropped) == NOT_ENDED);
+    assert!(rt; play::<5>(alloc, 4, Last::IsDropped) == ENDED);
+    assert!(rt; play::<5>(alloc, 5, Last::IsDropped) == NOT_ENDED);
+    assert!(rt; play::<1000>(alloc, 999, Last::IsDropped) == ENDED);
+    assert!(rt; play::<2>(alloc, 1, Last::Leaves) == NOT_ENDED);
     Ok(())
 }
 
@@ -230,8 +230,8 @@ fn each_role_has_one_holder_and_comes_back(rt: HostRuntime) -> Result<(), Fail> 
 fn calls_give_up_after_their_tries(rt: HostRuntime) -> Result<(), Fail> {
     let (queue, pass) = Queue::<Element<u64>, 2>::new(rt.alloc())?;
     let (mut sender, mut receiver) = both_ends(&queue, pass).ok_or("no ends")?;
-    let filled = fills_by_tries(&mut sender, &mut receiver);
-    let emptied = empties_by_tries(sender, &mut receiver);
+    let filled = fill_by_tries(&mut sender, &mut receiver);
+    let emptied = empty_by_tries(sender, &mut receiver);
     assert!(rt; filled && emptied == Some(true));
     Ok(())
 }

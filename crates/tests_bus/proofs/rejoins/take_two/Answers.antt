@@ -1,5 +1,6 @@
+-- `take_two` (src/rejoins.rt): its return meets the clauses `place` and `queue`.
 use Rattle.std.proofs.Common.{◌∙◌}
-use Rattle.tests_bus.proofs.rejoins.takes_two.Goals as goal
+use Rattle.tests_bus.proofs.rejoins.take_two.Goals as goal
 
 pub returns-clause-place : goal.returns-clause-place
 returns-clause-place g c = c.receive-kept.ensures.same.2 ∙ (c.give_back-is_back.ensures.same.2 ∙ c.receive.ensures.same.2)

@@ -1,7 +1,8 @@
+-- `publish` (src/rejoins.rt): its loop keeps its invariant, and its return meets what it ensures (`HasPublished`).
 use Rattle.std.proofs.Common.{refl}
 use Rattle.zero_copy_bus.specs.Ends.{loaned}
 use Rattle.zero_copy_bus.proofs.Published.{can_send_to_all, published_none, published_one, published_then}
-use Rattle.tests_bus.proofs.rejoins.publishes.Goals as goal
+use Rattle.tests_bus.proofs.rejoins.publish.Goals as goal
 
 pub loop-init : goal.loop-init
 loop-init g c = published_none _ _ refl refl refl

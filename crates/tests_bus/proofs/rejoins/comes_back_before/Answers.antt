@@ -1,8 +1,0 @@
-use Rattle.zero_copy_bus.specs.Ends.{roll_of, table_of}
-use Rattle.zero_copy_bus.proofs.Heard.{left_settled}
-use Rattle.tests_bus.proofs.rejoins.comes_back_before.Goals as goal
-
-pub rejoin-requires : goal.rejoin-requires
-rejoin-requires g c =
-    left_settled (roll_of c.update.new.self) (table_of c.leaves.new.publisher) (table_of c.update.new.self)
-    c.leaves.new.publisher c.update.new.self c.in_ok-left.left c.in_ok-left.ensures c.update.ensures.settled
