@@ -22,6 +22,7 @@ zero_copy_slots: counted_slot
 zero_copy_loans: zero_copy_slots lock_free
 zero_copy_bus: zero_copy_slots lock_free thiserror
 uses_streams: model
+lock_free_guards: lock_free model
 tests_calls: steps
 """
 FILES = {
@@ -41,6 +42,7 @@ FILES = {
     "crates/zero_copy_loans/src/lib.rt": "use zero_copy_slots::SLOTS;\n",
     "crates/zero_copy_bus/src/lib.rt": "use zero_copy_slots::SLOTS;\n",
     "crates/uses_streams/src/lib.rt": "use model::most;\n",
+    "crates/lock_free_guards/src/lib.rt": "use lock_free::most;\n",
     "crates/tests_calls/src/lib.rt": "//! Tests.\n",
     "docs/FIELD.md": "# Field\n\n[PROVED](PROVED.md), [SPEED](keeping/SPEED.md), ![a run](run.svg) and [rust](https://rust-lang.org).\n",
     "docs/PROVED.md": "# Proved\n\n[CALLING](../crates/lock_free/CALLING.md) and [SCHEDULE](SCHEDULE.md).\n",
