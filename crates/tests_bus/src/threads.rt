@@ -1,8 +1,6 @@
 //! A publisher and three subscribers side by side: one is slow, one dies with slots in hand, and one joins late.
 ghost use Rattle.std.specs.Prelude.{◌≡◌, IfSome};
 
-mod waits;
-
 use crate::limit::{Enough, Limit, wait_for};
 use crate::stage::Failure;
 use crate::words::{OwnNumber, Words, is_whole, spares, write};
