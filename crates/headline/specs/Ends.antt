@@ -26,7 +26,7 @@ use Rattle.model.specs.World.{Trace, flight_in, progress_in}
 
 module _ {T : Type 0} where
   -- the turn ends this call of the party with this answer
-  abbrev pub EndsWith : ℕ → Start T → Answer T → Trace T → Trace T → Type 0
+  abbrev pub EndsWith : ℕ → Start T → Answer T → (old new : Trace T) → Type 0
   EndsWith p start answer old new =
       (wrote : List (Event T)) × (new.events ≡ old.events ++ (wrote ++ Finished p start answer ∷ []))
 

@@ -81,7 +81,7 @@ module _ {T : Type 0} where
   -- The call, which has done this to the set and that to the elements, may free the index: it is a release or a remove of it
   -- for this owner, a recovery of a robust set that heard yes of it, or a container's recovery of this owner that heard yes of
   -- it or saw no value there.
-  abbrev pub MayFree : ℕ → ℕ → Option (Start T) → List SetAct → List (Act T) → Type 0
+  abbrev pub MayFree : (index owner : ℕ) → Option (Start T) → List SetAct → List (Act T) → Type 0
   MayFree index owner (Some (Robust (robust.Release i o mode))) all acts = (i ≡ index) × (o ≡ owner)
   MayFree index owner (Some (Robust (robust.Recover mode))) all acts = IsOneOf (Yes index owner) all
   MayFree index owner (Some (Container (containers.Remove i o mode))) all acts = (i ≡ index) × (o ≡ owner)
@@ -90,6 +90,6 @@ module _ {T : Type 0} where
   MayFree index owner call all acts = ⊥
 
   -- the party's latest call may
-  abbrev pub GivesBack : ℕ → ℕ → ℕ → List (Event T) → Type 0
+  abbrev pub GivesBack : (p index owner : ℕ) → List (Event T) → Type 0
   GivesBack p index owner before =
       MayFree index owner (call_in (span_of p before)) (set_acts_of p before) (acts_of p before)

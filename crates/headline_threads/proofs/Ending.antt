@@ -130,6 +130,7 @@ module _ {T : Type 0} (kind : Kind) (Such : Start T → Type 0) (bound : Bound) 
       let all = all_load_of code capacity v knows n below such in
       omega arith
 
+  -- a party that takes a step in each of more rounds than the load rests in one of them
   rests_of : PassesRestOf T kind Such bound
   rests_of = rests_between kind Such bound R
 

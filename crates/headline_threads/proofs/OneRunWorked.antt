@@ -33,6 +33,7 @@ acquire = Indices Acquire
 abbrev after : List (Turn ℕ) → Trace ℕ
 after turns = run_of one_word kinds.Indices 1 turns
 
+-- what a pass knows with the whole share that has seen and made these events and knows these turns
 abbrev told : List (Turn ℕ) → List (Event ℕ) → View ℕ
 told turns events =
     record {

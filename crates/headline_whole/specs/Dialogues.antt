@@ -119,7 +119,7 @@ module _ {T : Type 0} where
             ++ flat_map (finished_in (told_after w turn story.told)) (events_of w turn);
       }
 
-  abbrev pub unless_refused : Story T → Story T → Option Refusal → Story T
+  abbrev pub unless_refused : (old new : Story T) → Option Refusal → Story T
   unless_refused old new None = new
   unless_refused old new (Some refusal) = old
 

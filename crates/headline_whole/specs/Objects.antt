@@ -42,7 +42,7 @@ use Rattle.plain.specs.Visited as visits
 use Rattle.headline_whole.specs.Dialogues.{Dialogue, showing}
 
 -- a handle of a container: all indices past the capacity are one, which has no owner
-abbrev pub handle_to : ℕ → ℕ → ℕ → ContainerHandle
+abbrev pub handle_to : (capacity index owner : ℕ) → ContainerHandle
 handle_to capacity index owner =
     record { index = place_of capacity index; owner = owner; container = 0 }
 

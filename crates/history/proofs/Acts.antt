@@ -1,3 +1,4 @@
+-- The calls of the bit sets as acts on single places.
 pub mod BitActs
 pub mod BitWays
 pub mod CountActs

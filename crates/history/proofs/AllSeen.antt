@@ -47,6 +47,8 @@ module _ {T : Type 0} where
           mine : owner q ≡ id → f e ≡ owned owner id f e
           mine = grind (arith, nat_tests)
 
+          -- an event whose party is of another seat counts as much as one of this seat's, since
+          -- there is no such event
           other : owner q ≢ id → f e ≡ owned owner id f e
           other ne =
               ⊎_elim (λ (past : n ≤ q).
@@ -85,6 +87,7 @@ module _ {T : Type 0} where
         spent = spent;
       }
     where
+      -- the only seat has a share, so of seats without one nothing has to be known
       spent : SpentIn (v ∷ [])
       spent zero u at part =
           (let is = ap (λ (z : View T). z.share.part) (some-injective v u at) in
@@ -167,6 +170,7 @@ module _ {T : Type 0} where
           spent_end (x ∷ xs) w h none idle zero u e part = h zero u e part
           spent_end (x ∷ xs) w h none idle (suc j) u e part = spent_end xs w (λ i z. h (suc i) z) none idle j u e part
 
+      -- after the seat that has seen all was split, its left half has seen all
       mine : k.by ≡ id → Known cut events
       mine e =
           let there : some k.last ≡ some v = sym k.at ∙ (ap (get_elem? views) e ∙ at) in
@@ -184,6 +188,7 @@ module _ {T : Type 0} where
             spent = spent;
           }
 
+      -- after another seat was split, the one that has seen all still has
       theirs : k.by ≢ id → Known cut events
       theirs ne =
           record {
@@ -228,6 +233,7 @@ module _ {T : Type 0} where
       early : events ≡ [] → v.seen ≡ events
       early e = none_left v.seen mine_seen.rest (sym e ∙ mine_seen.is) ∙ sym e
 
+      -- where the seat that takes over had seen all, its joined view has, with which all is known
       mine : k.by ≡ id → Known both events
       mine e =
           let same : k.last ≡ v = some-injective k.last v (sym k.at ∙ (ap (get_elem? views) e ∙ at)) in
@@ -246,6 +252,8 @@ module _ {T : Type 0} where
           seen (inl h) = inl h
           seen (inr h) = inl (early (sym h ∙ alone))
 
+      -- where the seat that was taken over had seen all, the joined view has, with which all is
+      -- known
       theirs : k.by ≡ other → Known both events
       theirs e =
           let same : k.last ≡ w = some-injective k.last w (sym k.at ∙ (ap (get_elem? views) e ∙ at')) in

@@ -297,6 +297,8 @@ module _ {T : Type 0} (machine : OneMachine T) where
       (settle_with code kind capacity 0 0 same_seat (nexts ts) 0 0 words (alone words) first es h.u refl (omega arith)
       (λ call is. (let no : ◌≡◌ {A = Option (Start T × Flight T)} None (Some call) = sym h.there ∙ is in absurd (cc))) h.between h.one (gains_so words ts es h))
     where
+      -- the view of the only pass with these turns and events, this call under way, this state and
+      -- so many changes by others
       so : List (Turn T) → List (Event T) → Option (Start T × Flight T) → Option (ContainerState T) → ℕ → View T
       so xs zs o z n =
           record {

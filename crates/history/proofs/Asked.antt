@@ -226,6 +226,7 @@ module _ {T : Type 0} where
       still : get_elem? (set views id (joined_view v w)) other ≡ some w
       still = set_else views id other (joined_view v w) apart ∙ theirs
 
+      -- the pass that has joined another has a share
       some_left : (joined_view v w).share.part ≡ 0 → ⊥
       some_left none =
           let its = (shares.fits other w theirs).0 in

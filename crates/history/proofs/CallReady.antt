@@ -111,6 +111,8 @@ module _ {T C M E : Type 0} (machines : Machines T) (call : Calling T C M E) whe
     pub known : v.capacity ≡ key
     pub y : Ready s v key id c m  -- the machine before the step
 
+  -- s is the table, key its capacity; the seat id knows v there, whose call stands at c with room
+  -- m; r: the table is a machine
   module _ (s : State (Unit {0}) (View T)) (v : View T) (key id : ℕ) (c : C) (m : M) (r : IsMachine code kind key s)
       (at : get_elem? s.views id ≡ some v) (known : v.capacity ≡ key) where
     here : Fits r.owner r.trace id v
@@ -148,6 +150,8 @@ module _ {T C M E : Type 0} (machines : Machines T) (call : Calling T C M E) whe
         → 0 < v.share.part → events_by p here.seen.rest ≡ here.late
     late_own = grind (arith, not_seen, by_party)
 
+    -- of a call under way: its party has written what the call tells and what another wrote for
+    -- it, and nothing else since it began
     later_prior : (p : ℕ) → r.owner p ≡ id → v.party ≡ Some p → (base : View T)
         → v.going ≡ Some (call.start, call.flight c m) → Stage base v c m
         → Told_by p c m base r.trace.events (v.made ++ here.late)

@@ -22,6 +22,7 @@ other_number p q ne = grind (arith, nat_tests)
 module _ {T : Type 0} where
   -- ---- the party of a call under way
 
+  -- the latest call of party p is this one, and it is under way at this flight
   pub record Stands (w : World T) (p : ℕ) (start : Start T) (flight : Flight T) : Type 0 where
     pub x : Party T
     pub since : ℕ

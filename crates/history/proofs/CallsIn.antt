@@ -53,6 +53,8 @@ AsksFor size want = (a : Ask) × (a.word < size) × (want ≡ wants.Ask a)
 module _ {T C M E : Type 0} (Asks : Type 0) (code : Coding T) (effects : ℕ → Flight T → ℕ → List (Event T)) (driven : Driven T C M E) where
   open driven use {want, after, kept, call}
 
+  -- the model's call wants and goes on as the driver's, and what its steps write is what the call
+  -- tells
   pub record StepsOf : Type 0 where
     pub same_want : (c : C) (m : M) → want_of code (call.flight c m) ≡ want c
     pub same_after : (capacity : ℕ) (c : C) (m : M) (n : ℕ) → call.stands capacity c → after_of code (call.flight c m) n ≡ goes call (after c n) (kept c m n)
@@ -124,6 +126,8 @@ module _ {T C M E : Type 0} (Asks Goes : Type 0) (code : Coding T) (kind : Kind)
     (driven : Driven T C M E) where
   open driven use {want, after, kept, call}
 
+  -- the model's call wants and goes on as the driver's, and what its steps write, with what
+  -- another wrote for it, is what the call tells
   pub record StepsAs : Type 0 where
     pub same_want : (c : C) (m : M) → want_of code (call.flight c m) ≡ want c
     pub same_after : Goes
@@ -138,6 +142,7 @@ module _ {T C M E : Type 0} (Asks Goes : Type 0) (code : Coding T) (kind : Kind)
         → IsLate kind (Some (call.start, call.flight c m)) late
         → Met code kind capacity call.start (call.flight c m) p from (es ++ late) n t → after c n ≡ GoOn d
         → call.wrote capacity p from d (kept c m n) ((es ++ late) ++ events_by p (effects t.world p (call.flight c m) n))
+    -- as it ends, the call has written what it tells, with what another wrote for it
     pub tells_all : (capacity p : ℕ) (from : Option (Start T × Flight T)) (c : C) (e : E) (m : M) (n : ℕ)
         (es late : List (Event T)) (t : Trace T)
         → call.stands capacity c → call.skips c n ≡ false → call.wrote capacity p from c m es

@@ -306,6 +306,7 @@ module _ {T R : Type 0} (code : Coding T) (law : IsCoding code) (words_in : R �
           → fold own_after (Open start []) under.wrote ≡ Open start under.wrote
       long = grind (arith, fold, start, copies_span)
 
+      -- two lists of copies that stand so in one view are one list
       go : Stands base v m → Stands other v k → m.1 ≡ k.1
       go (inl x) (inl y) = x.1 ∙ sym y.1
       go (inl x) (inr y) = grind (arith, start)

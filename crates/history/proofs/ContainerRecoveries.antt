@@ -251,6 +251,7 @@ module _ {T R : Type 0} (code : Coding T) (law : IsCoding code) (words_in : R �
           → fold own_after (Open start []) under.wrote ≡ Open start under.wrote
       long = grind (arith, fold, start, inside_both, inside_visits, inside_yet)
 
+      -- two lists of visits that stand so in one view are one list
       go : Stands base v c m → Stands other v d k → m.1 ≡ k.1
       go (inl x) (inl y) = x.1 ∙ sym y.1
       go (inl x) (inr y) = grind (arith, start)

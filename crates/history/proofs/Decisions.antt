@@ -36,6 +36,8 @@ AsksElse {T} {C} size_of driven =
 module _ {T C M E : Type 0} (code : Coding T) (kind : Kind) (effects : ℕ → Flight T → ℕ → List (Event T)) (size_of : ℕ → ℕ) (driven : Driven T C M E) where
   open driven use {want, after, kept, call}
 
+  -- it takes steps as a call does, the last position never leaves it out, and its flight in the
+  -- model says where it stands
   pub record IsAskingIn : Type 0 where
     pub steps : StepsOf (AsksElse size_of driven) code effects driven
     pub never : (c : C) (n : ℕ) → call.skips c n ≡ false
@@ -46,6 +48,8 @@ module _ {T C M E : Type 0} (code : Coding T) (kind : Kind) (effects : ℕ → F
     pub first : (n : ℕ) (c : C) (m : M) → first_of kind n call.start ((opening_of kind).kept n) ≡ Some (call.flight c m) → is_question (want c) ≡ false
     pub one : (c d : C) (n : ℕ) → is_question (want c) ≡ true → after c n ≡ GoOn d → is_question (want d) ≡ false
 
+-- own is what a step of the call writes; Finished is how a drive of the call leaves it once it is
+-- over
 module _ {T C M E : Type 0} (machines : Machines T) (decides : MayDecide machines.kind) (own : ℕ → Flight T → ℕ → List (Event T))
     (driven : Driven T C M E) (acts : ActsAlone machines.code machines.kind machines.effects own driven.call)
     (is_call : IsAskingIn machines.code machines.kind own machines.size_of driven) (Finished : View T → E → M → View T → Type 0)
@@ -99,6 +103,7 @@ module _ {T C M E : Type 0} (machines : Machines T) (decides : MayDecide machine
         decide_as kind decides y.u.world y.p h.said from (flight_is y.u.world y.p call.start from (stands y.u.world y.p call.start from y.there))
         (ap (λ z. is_question (want_of z from)) y.between.run.coded ∙ h.asks)
 
+    -- the turn at which the machine is handed the answer
     abbrev answering : Answering T
     answering =
         record {
@@ -212,6 +217,8 @@ module _ {T C M E : Type 0} (machines : Machines T) (decides : MayDecide machine
           (continues_further code kind key base v view_heard k.before.ran.first
           (continues_all code kind key s.views u_then id v view_heard between_heard.one at between_heard.run refl refl refl has_heard))
 
+      -- after the answer the call is under way at its next stage, whatever the view with which its
+      -- drive began
       lifted : IsUnderWay code kind call base view_heard c m
       lifted =
           record {
@@ -375,6 +382,7 @@ module _ {T C M E : Type 0} (machines : Machines T) (decides : MayDecide machine
           go (inl stage) = at_once key words slots id c m wide still asked base₀ v known stage
           go (inr h) = once_heard key words slots id c m wide still asked base₀ v known h
 
+  -- where the answer ends its call, the call finishes so, as `rested` says
   module _ (rested : (base v : View T) (c : C) (m : M) (said : Bool) (e : E) → is_question (want c) ≡ true → after c (number_of said) ≡ Done e
       → IsUnderWay code kind call base v c m → Finished base e (kept c m (number_of said)) v) where
     -- and where the answer ends its call, it has ended
@@ -403,6 +411,7 @@ module _ {T C M E : Type 0} (machines : Machines T) (decides : MayDecide machine
 
 -- ---- of a call that no answer ends
 
+-- a call that may put questions, none of whose answers ends it
 pub record IsAskingOf {T C M E : Type 0} (code : Coding T) (kind : Kind) (effects : ℕ → Flight T → ℕ → List (Event T)) (size_of : ℕ → ℕ)
     (driven : Driven T C M E) : Type 0 where
   pub asking : IsAskingIn code kind effects size_of driven

@@ -13,6 +13,7 @@ use Rattle.history.proofs.Names.{attempt_sound}
 abbrev pub IsHanded : {T : Type 0} → Trace T → Flight T → ℕ → Type 0
 IsHanded t flight n = (n ≡ old_of t.world.words (ask_of (want_of t.world.coding flight))) ⊎ (is_due t.world.coding (Some flight) ≡ true)
 
+-- F is the family, P what is to be so of each event by those before it
 module _ {T : Type 0} (F : Family T) (May : Trace T → Turn T → Type 0) (laws : LawsWhere F May)
     (P : List (Event T) → Event T → Type 0)
     (begun : (before : List (Event T)) (p : ℕ) (start : Start T) → P before (Begun p start))

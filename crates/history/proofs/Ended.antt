@@ -150,6 +150,8 @@ module _ {T : Type 0} where
       here : end ≡ es → UpTo t (turn ∷ turns) (t.events ++ end)
       here same = record { first = turn ∷ []; rest = turns; is = refl; told = ap (λ zs. t.events ++ zs) (sym same) }
 
+      -- whether the events of the first turn end within those up to the end of the call or go on
+      -- behind it, the first turns lead just to that end
       go : ((less : List (Event T)) → (after_turns (after_turn t turn) turns).events ≡ ((t.events ++ es) ++ (less ++ Finished p start answer ∷ [])) ++ later
           → UpTo (after_turn t turn) turns ((t.events ++ es) ++ (less ++ Finished p start answer ∷ [])))
           → ((rest : List (Event T)) × (end ≡ es ++ rest)) ⊎ ((rest : List (Event T)) × (es ≡ end ++ rest)) → UpTo t (turn ∷ turns) (t.events ++ end)
@@ -161,6 +163,8 @@ module _ {T : Type 0} where
           now : a.0 ≡ [] → UpTo t (turn ∷ turns) (t.events ++ end)
           now none = here (a.1 ∙ (ap (λ zs. es ++ zs) none ∙ append-nil es))
 
+          -- where the call ends only behind the events of the first turn, the first turns lead
+          -- just to that end
           later_on : (less : List (Event T)) × (a.0 ≡ less ++ Finished p start answer ∷ []) → UpTo t (turn ∷ turns) (t.events ++ end)
           later_on l =
               let same : t.events ++ end ≡ (t.events ++ es) ++ (l.0 ++ Finished p start answer ∷ []) =
@@ -220,6 +224,7 @@ module _ {T : Type 0} where
         ⊎_elim (λ (e : (more : List (Turn T)) × (y ≡ x ++ more)). record { rest = e.0; is = e.1 }) (λ e. absurd (no e))
         (prefixes x y of_x.rest of_y.rest (sym of_x.is ∙ of_y.is))
       where
+        -- the run in which less has happened does not go on from the other one
         no : (more : List (Turn T)) × (x ≡ y ++ more) → ⊥
         no e =
             let all : run_of code kind capacity x ≡ after_turns (run_of code kind capacity y) e.0 =

@@ -20,8 +20,11 @@ cell_tells = grind arith
 cell_denies : (o : Option ℕ) (owner k : ℕ) → k ≡ cell_of o → k ≢ owner → o ≢ Some owner
 cell_denies o owner k is ne e = ne (is ∙ ap cell_of e)
 
+-- k is what the cell of the index had as it was looked at; v and w are what the seat knew before
+-- that and after it
 module _ {T : Type 0} (code : Coding T) (capacity index k : ℕ) (low : index < capacity) (v w : View T)
     (looks : LooksAt code kinds.Robust capacity (cell_word index) v k w) where
+  -- the cell that was looked at has the owner of the index by the history that is seen then
   in_cell : k ≡ cell_of (filled_of index w.seen)
   in_cell =
       let sized = looks.run.sized in

@@ -8,6 +8,7 @@ use Rattle.history.specs.History.{IsOfParties}
 use Rattle.history.specs.Known.{owned}
 use Rattle.history.proofs.Ledger.{Moves, held_by_one, at_most}
 
+-- j is the seat, c the capacity, i the index
 module _ {T : Type 0} (owner : ℕ → ℕ) (j c i : ℕ) where
   abbrev MovesIt : List (Event T) → Event T → Type 0
   MovesIt = Moves (claims i) (frees i) (holder_after i) owner j

@@ -213,6 +213,8 @@ module _ {T : Type 0} (code : Coding T) (r : Ring) (capacity : ℕ) where
 -- ---- at any time what was taken out is a beginning of what was published, and no more than the capacity is left
 
 module _ {T : Type 0} (c : ℕ) where
+  -- what was published is what was taken out and then what waits, and no more waits than the
+  -- capacity
   pub record IsListed (events : List (Event T)) : Type 0 where
     pub book : published events ≡ handed_out events ++ waiting events
     pub few : length (waiting events) ≤ c

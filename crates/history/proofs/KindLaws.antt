@@ -57,12 +57,16 @@ module _ {T : Type 0} where
 
   -- what a kind owes whose parties write for themselves alone
   module _ (code : Coding T) (kind : Kind) (capacity words : ℕ) (effects : ℕ → Flight T → ℕ → List (Event T)) where
+    -- a step of the call may be taken, writes events of its own party alone, and goes on as the
+    -- call does
     pub record CallGoesOn (t : Trace T) (p : ℕ) (flight : Flight T) : Type 0 where
       pub may : first_row (going_rows t.world.coding t.world.kept (Some flight) None) ≡ None
       pub writes : (x : Party T) (n : ℕ) → party_of p t.world.latest ≡ Some x → (step_in t.world p x flight n).wrote ≡ effects p flight n
       pub own : (n : ℕ) → AreOf p (effects p flight n)
       pub goes : (x : Party T) (n : ℕ) → party_of p t.world.latest ≡ Some x → (step_in t.world p x flight n).after ≡ after_of t.world.coding flight n
 
+    -- its machines have so many words and keep no state of a party, each call under way goes on,
+    -- and nothing is late
     pub record KindLaws : Type 0 where
       pub size : (t : Trace T) → IsRun code kind capacity t → length t.world.words ≡ words
       pub goes_on : (t : Trace T) → IsRun code kind capacity t → (p : ℕ) (start : Start T) (flight : Flight T)

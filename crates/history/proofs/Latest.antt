@@ -63,6 +63,7 @@ module _ {T : Type 0} where
         ⊎_elim (λ (e : p ≡ q). absurd (never q _ w.latest (subst (λ n. party_of n (after_begin w q start (Some flight)).latest ≡ None) e none)))
         (λ (ne : p ≢ q). (sym (party_put_other p q _ w.latest ne) ∙ none, ne)) (cases_eq p q)
 
+    -- a party that has no call after a step of one had none before
     answers : (w : World T) (q : ℕ) (x : Party T) (ask : Option Ask) (n : ℕ) (doing : Doing T)
         → party_of p (after_answer w q x ask n doing).latest ≡ None → party_of p w.latest ≡ None
     answers w q x ask n (Over others) none = none
@@ -114,6 +115,7 @@ module _ {T : Type 0} where
     abbrev known : Trace T
     known = run_of code kind capacity new.turns
 
+    -- the party whose call has ended has begun a call
     one : 1 ≤ begun_by p known.events
     one =
         let is : known.events ≡ (old.seen ++ called.others) ++ Begun p start ∷ (called.during ++ Finished p start answer ∷ []) = sym knows.is ∙ called.is in
@@ -127,6 +129,8 @@ module _ {T : Type 0} where
     pub takes_in_run : TakesAlone alone retry old new → TakesInRun code kind capacity alone retry p old new
     takes_in_run takes = go (party_of p known.world.latest) refl
       where
+        -- the party has a latest call in the run, and the view counts the changes that the run
+        -- counts of that call
         go : (o : Option (Party T)) → party_of p known.world.latest ≡ o → TakesInRun code kind capacity alone retry p old new
         go None none =
             let zero = turns_keep p kind (opening code kind capacity 0) new.turns knows.allowed (λ none. refl) none in

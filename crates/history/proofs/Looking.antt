@@ -54,6 +54,7 @@ module _ {T : Type 0} (p : ℕ) where
 
 -- ---- two looks
 
+-- a is a look from u to v, b one from v to w
 module _ {T : Type 0} (code : Coding T) (kind : Kind) (size : ℕ) (u v w : View T) (a : Looks code kind size u v) (b : Looks code kind size v w) where
   -- a party that another seat had at the first look wrote nothing that the second one tells
   nothing_of : (p : ℕ) → b.parties.owner p ≡ b.parties.seat → a.parties.owner p ≢ a.parties.seat → events_by p a.mine.rest ≡ []

@@ -18,6 +18,8 @@ module _ {T : Type 0} where
   first_own p [] es e is = absurd (cc)
   first_own p (x ∷ xs) es e is = go (λ rest. first_own p xs es e rest) (is_party p (whose x)) refl
     where
+      -- whether the event in front is the party's or another's, the first event of the party
+      -- stands somewhere
       go : (events_by p xs ≡ e ∷ es
           → (ls : List (Event T)) × (rs : List (Event T)) × (xs ≡ ls ++ e ∷ rs) × (events_by p ls ≡ []) × (events_by p rs ≡ es))
           → (b : Bool) → is_party p (whose x) ≡ b
@@ -95,10 +97,13 @@ module _ {T M : Type 0} (role : RoleEvents T M) where
   abbrev pub IsPlain : ℕ → Event T → Type 0
   IsPlain p e = (role.marks e ≡ []) × (role.holder_after (Some p) e ≡ Some p)
 
+  -- events that each leave the role with the party and tell nothing of it
   abbrev pub ArePlain : ℕ → List (Event T) → Type 0
   ArePlain p [] = Unit {0}
   ArePlain p (e ∷ es) = IsPlain p e × ArePlain p es
 
+  -- an event of another neither gives a party the role nor takes it away, and the begin of a call
+  -- moves no role
   pub record HasOneHolder : Type 0 where
     -- before another's event that leaves the role to the party, the party held it, and the event tells nothing of it
     pub back : (p : ℕ) (before : List (Event T)) (e : Event T) → role.ByItsHolder before e → is_party p (whose e) ≡ false
@@ -120,6 +125,8 @@ module _ {T M : Type 0} (role : RoleEvents T M) (one : HasOneHolder role) where
       longer : (before ++ e ∷ []) ++ es ≡ before ++ e ∷ es
       longer = append_assoc before (e ∷ []) es
 
+      -- whether the event in front is the party's or another's, the party held the role before it,
+      -- and nobody wrote what its holder writes
       go : (events_by p es ≡ [] → (held role (before ++ e ∷ []) ≡ Some p) × (flat_map role.marks es ≡ [])) → (b : Bool)
           → is_party p (whose e) ≡ b → (held role before ≡ Some p) × (flat_map role.marks (e ∷ es) ≡ [])
       go later true t = (let mine : e ∷ events_by p es ≡ [] = rw t at none in absurd (cc))
@@ -143,6 +150,8 @@ module _ {T M : Type 0} (role : RoleEvents T M) (one : HasOneHolder role) where
       longer : (before ++ e ∷ []) ++ es ≡ before ++ e ∷ es
       longer = append_assoc before (e ∷ []) es
 
+      -- whether the event in front is the party's or another's, nobody writes what the role's
+      -- holder writes
       go : (ArePlain role p (events_by p es) → role.holder_after (Some p) e ≡ Some p → flat_map role.marks es ≡ []) → (b : Bool)
           → is_party p (whose e) ≡ b → flat_map role.marks (e ∷ es) ≡ []
       go later true t =
@@ -165,6 +174,8 @@ module _ {T M : Type 0} (role : RoleEvents T M) (one : HasOneHolder role) where
         back_over p ((seen ++ others) ++ Begun p start ∷ []) during
         (subst (Each role.ByItsHolder) (sym split) each) none_during (ap (held role) split ∙ holds)
 
+    -- the party held the role as its pass had seen the history last, and nobody wrote what its
+    -- holder writes before the call began
     earlier : (held role seen ≡ Some p) × (flat_map role.marks others ≡ [])
     earlier =
         let back : held role (seen ++ others) ≡ Some p =

@@ -152,6 +152,7 @@ module _ {T : Type 0} (c : ℕ) where
         room : length (waiting before) < c + 1
         room = (let is = good.write in let low = knows.2 in let fits = knows.3 in let same_length = long in omega arith)
 
+        -- whether the push acts as it publishes or not, it publishes where there is room
         go : (b : Bool) → FitsList before (cond b (PublishesAndActs (Index v)) (Publishes (Index v)))
         go true = room
         go false = room

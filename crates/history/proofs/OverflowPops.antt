@@ -91,9 +91,12 @@ module _ {T : Type 0} (code : Coding T) where
   takes p item answer None apart = grind (arith, by_mine, own_of_effect)
   takes p item answer (Some push) apart = room_by_own p push.0 item push.1 (Some answer) (apart push.0 push.1 refl)
 
+  -- the name of a pop is not that of a push
   pop_is_no_push : (v : ℕ) → ◌≡◌ {A = Start T} (Queues Pop) (Queues (PushIndex v)) → ⊥
   pop_is_no_push v e = absurd (cc)
 
+  -- what is so as a pop takes a step: the word in front is the one that it has read, and a push
+  -- that waits is another party's
   record TakesAt (capacity p : ℕ) (c : Popping) (m : OneWord) (n : ℕ) (t : Trace T) : Type 0 where
     -- the cell in front still holds that word where the exchange finds the position unmoved
     pub front : (read : ℕ) → c.stage ≡ pops.MovesRead read → n ≡ read → slice_index t.world.words (cell_word c.capacity read) ≡ m.0
@@ -112,6 +115,8 @@ module _ {T : Type 0} (code : Coding T) where
       knows : KnowsOverflowPop t.world.capacity s.state.core m c.stage
       knows = grind (arith, stands, stands_there, family, s)
 
+      -- where the pop moves the read position that it has read, the cell there still holds the
+      -- word that it has read
       front : (read : ℕ) → c.stage ≡ pops.MovesRead read → n ≡ read → slice_index t.world.words (cell_word c.capacity read) ≡ m.0
       front read stage e =
           let k = s.state.core in

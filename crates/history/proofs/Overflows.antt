@@ -92,6 +92,7 @@ module _ {T : Type 0} (code : Coding T) (capacity : ℕ) where
     pub writes : (step_of w.coding w.words (beside_of w.words w.kept w.latest p) p start flight n kept).wrote ≡ over_effects w p flight n
     pub goes : (step_of w.coding w.words (beside_of w.words w.kept w.latest p) p start flight n kept).after ≡ after_of w.coding flight n
 
+  -- p is the party, n what its step is handed, ro the roles, k the core of the queue
   module _ (w : World T) (en : Coding T) (c p n : ℕ) (ro : Roles) (k : Core ℕ) where
     -- what a step of a call under way writes and where it leads
     pub facts : (start : Start T) (flight : Flight T) (kept : Registry T) → kept ≡ registries.Queues ro
@@ -101,11 +102,13 @@ module _ {T : Type 0} (code : Coding T) (capacity : ℕ) where
 
   -- ---- for whom a pop writes
 
+  -- party q holds the producer's role, and its push of v is under way
   pub record Waits (t : Trace T) (q v : ℕ) : Type 0 where
     pub run : Pushing
     pub producer : producer_of t.events ≡ Some q
     pub there : call_in t.world q ≡ Some (Queues (PushIndex v), flights.Queues (Overflow (overflows.Push run)))
 
+  -- t is a trace, of which s says that it is sound
   module _ (t : Trace T) (en : Coding T) (c : ℕ) (s : frame.Sound (family en queues.Overflow c) t) where
     start_is : (ro : Roles) (k : Core ℕ) (q v : ℕ) (start : Start T) (run : Pushing)
         → (family en queues.Overflow c).At (record { roles = ro; core = k }) q start
@@ -145,6 +148,7 @@ module _ {T : Type 0} (code : Coding T) (capacity : ℕ) where
     own_late : (p r : ℕ) (es : List (Event T)) → r ≢ p → AreOf p es → IsLate kinds.Overflow (call_in t.world r) (events_by r es)
     own_late = grind (arith, by_other, none_late)
 
+    -- p is the party that pops, r another one
     module _ (p r n : ℕ) (ne : r ≢ p) (o : Option (Answer T)) where
       takes_late : (item : Item T) (waits : Option (ℕ × ℕ)) → ((q v : ℕ) → waits ≡ Some (q, v) → Waits t q v)
           → IsLate kinds.Overflow (call_in t.world r) (events_by r (effects_of p Pop (takes_effect item waits) o))
@@ -161,6 +165,8 @@ module _ {T : Type 0} (code : Coding T) (capacity : ℕ) where
       pop_late c waits known (pops.LoadsCell read) = own_late p r [] ne tt
       pop_late c waits known (pops.MovesRead read) = go (n == read)
         where
+          -- whether the pop moves the read position or not, what it writes for another party is an
+          -- act of that party's pending push
           go : (b : Bool) → IsLate kinds.Overflow (call_in t.world r)
               (events_by r (effects_of p Pop (cond b (takes_effect (Rattle.model.specs.declared.event.Item.TheVariants.Index
               (slice_index t.world.words (Rattle.steps.specs.Queues.Overflow.cell_word c read)))

@@ -43,6 +43,7 @@ paid fewer more each le = (let rest : more ≡ fewer + (more - fewer) = omega ar
 more_paid : (steps alone backs others retry : ℕ) → steps ≤ alone + backs * retry → backs ≤ others → steps ≤ alone + others * retry
 more_paid steps alone backs others retry most le = (let times = paid backs others retry le in omega arith)
 
+-- F is the family of the kind, t a trace, of which s says that it is sound
 module _ {T : Type 0} (F : Family T) (kind : Kind) (promised : promise_of {T = T} kind ≡ F.promise) (t : Trace T) (s : frame.Sound F t)
     (progress : (p : ℕ) → Progresses F.promise F.capacity F.coding.size (span_of p t.events) (progress_in t.world p)) where
   -- each latest call has taken no more steps than its promise grants
@@ -52,6 +53,8 @@ module _ {T : Type 0} (F : Family T) (kind : Kind) (promised : promise_of {T = T
       go x.doing (subst (λ o. frame.Fits F s.state p o (span_of p t.events)) found (s.inv.calls p))
       (subst (λ o. Progresses F.promise F.capacity F.coding.size (span_of p t.events) (progress_after t.world.changes o)) found (progress p))
     where
+      -- of a call under way, or one that is over: it has taken no more steps than its promise
+      -- grants
       go : (doing : Doing T) → frame.FitsDoing F s.state p x doing (span_of p t.events)
           → Progresses F.promise F.capacity F.coding.size (span_of p t.events) (Some (progress_of t.world.changes x))
           → IsBounded F.promise F.capacity F.coding.size x.start (progress_of t.world.changes x)
@@ -73,6 +76,7 @@ module _ {T : Type 0} (F : Family T) (kind : Kind) (promised : promise_of {T = T
           (let b = bounded p x found in let is = b.steps in let le = h x.backs in
           more_paid x.steps alone x.backs (others_of t.world.changes x.doing) retry (omega arith) b.backs)
 
+-- F is the family of the kind, t the trace of a run, of which s says that it is sound
 module _ {T : Type 0} (code : Coding T) (kind : Kind) (capacity : ℕ) (t : Trace T) (r : IsRun code kind capacity t) (F : Family T)
     (promised : promise_of {T = T} kind ≡ F.promise) (s : frame.Sound F t) where
   -- what is promised of the run says how far each call has come
@@ -107,6 +111,7 @@ abbrev pub TakesBy : {T : Type 0} → Coding T → Kind → ℕ → Guarantee �
 TakesBy code kind capacity (WaitFree most) old new = TakesAtMost most old new
 TakesBy code kind capacity (ObstructionFree alone retry) old new = TakesAlone alone retry old new
 
+-- base and w are what the pass knew before the call and after it, e is its end, m its room then
 module _ {T C M E : Type 0} (code : Coding T) (kind : Kind) (call : Calling T C M E) (base w : View T) (e : E) (m : M) where
   -- the run that the pass knows then
   abbrev known : Trace T

@@ -201,6 +201,7 @@ module _ {T : Type 0} (code : Coding T) (kind : Kind) (capacity : ℕ) where
       × WhenIdle kind v.going (Looks code kind capacity v w × (w.seen ≡ m.trace.events))
   looks_when slots id word v some_share s m long at small = ⊎_elim told untold (calm_or_not kind v.going)
     where
+      -- where nothing may be late for the seat, the load tells of a look
       told : ((late : List (Event T)) → IsLate kind v.going late → late ≡ [])
           → (w : View T) × (a : table.Act (Unit {0})) × table.Valid s.homes [] a
           × Holds (table.stepped s word (slice_index s.words word) id [] w a) × (table.carried_after [] a ≡ [])
@@ -209,6 +210,7 @@ module _ {T : Type 0} (code : Coding T) (kind : Kind) (capacity : ℕ) where
           (let x = looks_at slots id word v some_share calm s m long at small in
           (x.0, x.1, x.2, x.3, x.4.1, told_when kind v.going (Looks code kind capacity v x.0 × (x.0.seen ≡ m.trace.events)) (x.4.0, x.5)))
 
+      -- where something may be late for the seat, it stays as it is, and nothing is told
       untold : (kind ≡ kinds.Overflow) × (v.going ≢ None)
           → (w : View T) × (a : table.Act (Unit {0})) × table.Valid s.homes [] a
           × Holds (table.stepped s word (slice_index s.words word) id [] w a) × (table.carried_after [] a ≡ [])

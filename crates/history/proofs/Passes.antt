@@ -132,6 +132,7 @@ module _ {T : Type 0} (code : Coding T) (kind : Kind) (capacity : ℕ) where
       alone : (p j : ℕ) → j ≡ length s.views → m.owner p ≡ j → length s.views ≤ p
       alone = grind (arith, nat_cases)
 
+      -- the new seat fits the machine: it has no party that did anything
       new : (j : ℕ) → j ≡ length s.views → Fits m.owner m.trace j (right_view v)
       new j e =
           record {
@@ -152,6 +153,7 @@ module _ {T : Type 0} (code : Coding T) (kind : Kind) (capacity : ℕ) where
             made = λ f. sym (owned_none m.owner j f m.trace.events (λ p of_j. m.made_none p (alone p j e of_j)));
           }
 
+      -- the seat that was split fits the machine with half of its share
       left : Fits m.owner m.trace id (left_view v)
       left =
           (let f = m.seats id v at in
@@ -171,6 +173,7 @@ module _ {T : Type 0} (code : Coding T) (kind : Kind) (capacity : ℕ) where
             made = f.made;
           })
 
+      -- each seat that was there before fits the machine
       old : (j : ℕ) (x : View T) → get_elem? (set s.views id (left_view v)) j ≡ some x → Fits m.owner m.trace j x
       old j x found =
           ⊎_elim (λ (e : (j ≡ id) × (left_view v ≡ x)). subst (λ z. Fits m.owner m.trace j z) e.1
@@ -244,6 +247,7 @@ module _ {T : Type 0} (code : Coding T) (kind : Kind) (capacity : ℕ) where
       its_idle : (p : ℕ) → m.owner p ≡ other → call_in m.trace.world p ≡ None
       its_idle p of_other = idle_seat m.owner m.trace other w idle its p of_other
 
+      -- the seat that takes over fits the machine with the parties of both
       both : Fits (handed_on id other m.owner) m.trace id (joined_view v w)
       both =
           record {
@@ -287,6 +291,7 @@ module _ {T : Type 0} (code : Coding T) (kind : Kind) (capacity : ℕ) where
           go None h = tt
           go (Some q) h = stays q (λ e. apart (sym e ∙ h)) ∙ h
 
+          -- a seat that has taken in no other has seen itself all that is seen of its party
           only : {j : ℕ} (x : View T) (f : Fits m.owner m.trace j x) → x.other ≡ [] → (p : ℕ) → m.owner p ≡ j
               → HasSeenOf p x f.late m.trace → events_by p x.seen ++ events_by p f.late ≡ events_by p m.trace.events
           only x f none p of_j (inl h) = h
@@ -295,6 +300,7 @@ module _ {T : Type 0} (code : Coding T) (kind : Kind) (capacity : ℕ) where
               ap (λ es. es ++ events_by p f.late) (none_before p x.seen m.trace.events f.seen nothing_by)
               ∙ (quiet_late m.owner m.trace j x f p of_j h.0 ∙ sym nothing_by)
 
+      -- each seat but the one that is taken over fits the machine
       old : (j : ℕ) (x : View T) → j ≢ other → get_elem? (set s.views id (joined_view v w)) j ≡ some x → Fits (handed_on id other m.owner) m.trace j x
       old j x apart_too found =
           ⊎_elim (λ (e : (j ≡ id) × (joined_view v w ≡ x)). subst (λ z. Fits (handed_on id other m.owner) m.trace j z) e.1
@@ -302,6 +308,7 @@ module _ {T : Type 0} (code : Coding T) (kind : Kind) (capacity : ℕ) where
           (λ (e : (j ≢ id) × (get_elem? s.views j ≡ some x)). third j x e.0 apart_too (m.seats j x e.1))
           (at_set s.views id j (joined_view v w) x found)
         where
+          -- a seat that neither takes over nor is taken over fits the machine as before
           third : (j : ℕ) (x : View T) → j ≢ id → j ≢ other → Fits m.owner m.trace j x → Fits (handed_on id other m.owner) m.trace j x
           third j x ne apart_too f =
               record {

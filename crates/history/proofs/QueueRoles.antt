@@ -166,6 +166,7 @@ module _ {T : Type 0} (code : Coding T) (which : LengthOf) (size : ℕ) where
         wrote = λ p. refl;
       })
     where
+      -- the model begins each call on lengths as the one that counts what waits
       first_is : (kept : Registry T) (k : LengthOf)
           → ◌≡◌ {A = Option (Flight T)} (first_of kinds.IndexQueue x.capacity (Queues (length_start k)) kept)
           (Some ((counts_waiting k size).flight (first_len size) m))

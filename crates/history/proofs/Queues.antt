@@ -230,6 +230,8 @@ module _ {T : Type 0} (code : Coding T) (kd : QueueKind) (base : View T) where
         kept : (roles : Roles) × (t.world.kept ≡ registries.Queues roles)
         kept = kept_there t run
 
+        -- whether the pass was a party last or not, the call begins, as that party or as the one
+        -- of the pass's own number
         go : (o : Option ℕ) → base.party ≡ o → IfSome o (λ p. owner p ≡ j) → Starts code (machine_kind kd) call base c m t owner j
         go None e h =
             as_party call start c m named first_is t owner j j run self

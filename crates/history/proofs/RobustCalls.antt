@@ -98,6 +98,7 @@ release_words capacity releases.EmptiesCell given low h = (_, (let l : 1 + given
 release_words capacity (releases.Raises raise) given low h = raise_asks capacity raise
 release_words capacity (releases.Locks lock) given low h = lock_asks capacity lock h.1
 
+-- c is where the release stands, p its party
 module _ (T : Type 0) (capacity : ℕ) (c : Releasing) (same : c.capacity ≡ capacity) (p : ℕ) (given : GiveBack) (low : given.index < capacity) where
   abbrev pub ReleaseGoes : List (Event T) → After Releasing Released → Type 0
   ReleaseGoes es (GoOn d) = (gives_owned {T = T} given).stands capacity d × (es ≡ freed_at p given d.stage)

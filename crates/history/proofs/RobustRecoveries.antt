@@ -96,6 +96,8 @@ module _ {T : Type 0} (capacity : ℕ) (c : Recovering) (same : c.capacity ≡ c
       still : es ≡ wrote_by p visits ++ []
       still = between es (wrote_by p visits) is
 
+      -- after a raise the recovery goes on behind the index, raises on, or ends, and has written
+      -- what it did
       go : (m : ReleaseMode) → mode ≡ m → (r : After Raise ReleaseState) → RecoverGoes es visits (recover_raised c index m r)
       go LockIfLastIndex may (GoOn raise) = ((same, low), (owner, h), still)
       go Default may (GoOn raise) = ((same, low), (owner, h), still)
@@ -120,6 +122,8 @@ module _ {T : Type 0} (capacity : ℕ) (c : Recovering) (same : c.capacity ≡ c
       wrote : es ≡ wrote_by p visits
       wrote = all_of es (wrote_by p visits) is
 
+      -- at a cell it goes on to the next one where the cell has no owner, and else to the question
+      -- about him
       go : (b : Bool) → (k == empty) ≡ b → RecoverGoes (es ++ recover_effects p (recovers.LoadsCell index) k) visits
           (recover_takes c (recovers.LoadsCell index) mode k)
       go = grind (arith, next_to, wider, quiet, wrote)
@@ -149,6 +153,8 @@ module _ {T : Type 0} (capacity : ℕ) (c : Recovering) (same : c.capacity ≡ c
       left : es ≡ wrote_by p (came_to WasTold visits)
       left = is ∙ wrote_on p mode index owner HasAsked WasTold visits (wrote_by p visits) (told ∷ []) refl at refl
 
+      -- where it empties a cell, it has freed the index, or found another owner, and has written
+      -- which
       go : (b : Bool) → (k == owner) ≡ b → RecoverGoes (es ++ recover_effects p (recovers.EmptiesCell index owner) k)
           (visits_taken (recovers.EmptiesCell index owner) visits k) (recover_takes c (recovers.EmptiesCell index owner) mode k)
       go true e = rw e (
@@ -291,6 +297,7 @@ module _ {T : Type 0} (code : Coding T) (mode : ReleaseMode) where
       → v.made ≡ base.made ++ Begun under.party (Robust (Recover mode)) ∷ (wrote_by under.party m ++ wrote_now under.party c.stage)
   made_there = grind (arith, opened, append-nil)
 
+  -- a view has one list of visits of a recovery under way in it
   under_same : (base other v : View T) (c : Recovering) (m k : List Visit) → base.going ≡ None → other.going ≡ None
       → IsUnderWay code kinds.Robust (recovers_owned mode) base v c m → IsUnderWay code kinds.Robust (recovers_owned mode) other v c k → m ≡ k
   under_same base other v c m k idle too a b =
@@ -354,6 +361,7 @@ module _ {T : Type 0} (code : Coding T) (mode : ReleaseMode) where
       → Owes (λ (z : View T). z.asked) (IsMachine code kinds.Robust key) words slots id (Tells c) (recover_want c) (v, [])
   recover_tells base v c m key words slots id wide known idle at = go (recover_want c) (recover_keeps base v c m key words slots id wide known at)
     where
+      -- what a step tells of one list of visits it tells of each
       all : (n : ℕ) (w : View T) → ToldSo c m v n w → Tells c v n w
       all n w h = (
         h.0,

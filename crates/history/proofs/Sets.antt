@@ -43,6 +43,7 @@ module _ {T : Type 0} where
   effects_own p [] h = tt
   effects_own p (e ∷ es) h = (effect_own p e h.0, effects_own p es h.1)
 
+-- K is the outline of a set's family
 module _ {T : Type 0} (K : SetOutline T) (laws : (code : Coding T) (c : ℕ) → SetLaws K code c) (code : Coding T) (capacity words : ℕ)
     (sized : (c : ℕ) (ws : List ℕ) (es : List (Event T)) (turns : ℕ) → c ≡ capacity → K.Holds c ws es turns → length ws ≡ words)
     (on : (t : Trace T) → IsReachedAs K.kind t → IsReachedOn t) where
@@ -164,8 +165,11 @@ module _ {T : Type 0} (code : Coding T) (capacity : ℕ) where
   bits_pays = set_pays bit_set bits_laws code capacity (1 + elements capacity) (λ c ws es turns same holds. holds.sized ∙ ap (λ n. 1 + elements n) same)
       (λ t h. h)
 
+-- base is what the pass knows, c where the call begins, m its room
 module _ {T C M E : Type 0} (code : Coding T) (call : Calling T C M E) (base : View T) (c : C) (m : M)
     (by : (o : Option ℕ) (p : ℕ) → IfSome o (λ q. q ≡ p) → call.by o p) where
+  -- the call may begin as a party of the pass on any machine of this kind that fits what the pass
+  -- made
   abbrev StartsOn : Rattle.model.specs.declared.turn.Kind.Kind → Type 0
   StartsOn kind =
       (t : Trace T) (owner : ℕ → ℕ) (j : ℕ) → IsRun code kind base.capacity t → owner j ≡ j

@@ -70,6 +70,7 @@ module _ {T : Type 0} (hearing : Hearing T) where
     none : here.late ≡ []
     none = grind arith
 
+    -- the machine stands at the table's words, and the seat has gained nothing yet
     between : Between code kind key r.owner s id h.party [] r.trace
     between =
         at_first code kind key s id h.party r [] mine (here.self h.some)
@@ -90,6 +91,7 @@ module _ {T : Type 0} (hearing : Hearing T) where
     free : refusal_as kind r.trace.world (Decide h.party false) ≡ None
     free = grind (arith, decide_as, false, flight_is, stands, there)
 
+    -- the turn at which the machine is handed the answer no
     abbrev answering : Answering T
     answering =
         record {
@@ -225,6 +227,8 @@ module _ {T : Type 0} (hearing : Hearing T) where
 
   -- ---- a call begins after it
 
+  -- Stage and Over say where the call stands and how it has ended, Begins where it may begin; none
+  -- stands there already, as apart says
   module _ {C M E : Type 0} (want : C → Want (Unit {0})) (after : C → ℕ → After C E) (kept : C → M → ℕ → M)
       (Stage : View T → View T → C → M → Type 0) (Over : View T → E → M → View T → Type 0)
       (may : C → Type 0) (keeps : KeepsWhere code kind size_of may Stage Over want after kept)
@@ -329,6 +333,8 @@ module _ {T : Type 0} (hearing : Hearing T) where
     pub begins_rested : (v : View T) (c : C) (m : M) → Begins v c m → IsResting code v → Rested v v c m
     begins_rested v c m begins resting = grind (arith, inr)
 
+  -- of a call whose steps keep the rule at every stage, and which may begin in a view that has
+  -- settled where it might before
   module _ {C M E : Type 0} (want : C → Want (Unit {0})) (after : C → ℕ → After C E) (kept : C → M → ℕ → M)
       (Stage : View T → View T → C → M → Type 0) (Over : View T → E → M → View T → Type 0)
       (keeps : KeepsRule (λ (z : View T). z.asked) (λ (z : View T). z.capacity) Stage Over (λ key. size_of key + 1)
@@ -362,6 +368,8 @@ module _ {T : Type 0} (hearing : Hearing T) where
         keeps_waiting want after kept Stage Over keeps (λ v. Begins v.capacity) (λ v. asks v.capacity)
         (λ v w c m settled begins. subst (λ n. Begins n c m) (sym settled.capacity) begins) first apart
 
+  -- of a call whose steps keep the rule where they may, and whose begin hangs on the capacity
+  -- alone
   module _ {C M E : Type 0} (want : C → Want (Unit {0})) (after : C → ℕ → After C E) (kept : C → M → ℕ → M)
       (Stage : View T → View T → C → M → Type 0) (Over : View T → E → M → View T → Type 0)
       (may : C → Type 0) (keeps : KeepsWhere code kind size_of may Stage Over want after kept)

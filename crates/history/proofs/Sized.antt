@@ -40,6 +40,7 @@ module _ {T C M E : Type 0} (code : Coding T) (kind : Kind) (size_of : ℕ → �
       same : v.capacity ≡ base.capacity
       same = one_size base.capacity base v c m at₀
 
+      -- whatever the call wants, what it owes for the capacity it owes as one of the family
       go : (w : Want (Unit {0}))
           → Owes (λ (z : View T). z.asked) (IsMachine code kind key) words slots id
           (Told (λ (z : View T). z.capacity) (At code kind (call base.capacity)) (Ends code kind (call base.capacity)) after kept c m)

@@ -131,6 +131,7 @@ module _ {T : Type 0} (code : Coding T) (law : IsCoding code) (which : LookOf) (
     abbrev left : ContainerState T
     left = settled_if (after c n) (state_of_look cells seen now)
 
+    -- the party has the state that the look leaves
     state_then : view_now.state ≡ Some left
     state_then =
         let w = y.u.world in
@@ -165,6 +166,8 @@ module _ {T : Type 0} (code : Coding T) (law : IsCoding code) (which : LookOf) (
     steps_so : (base : View T) → At code kinds.Container call base v c m → StepsOnly base view_now
     steps_so = asked_then machines call step refl
 
+    -- after its step the look stands at its next stage, or has ended, with the state that it
+    -- leaves
     known_then : (base : View T) → Stage base v c m → (a : After (Looking T) Bool) → after c n ≡ a
         → NextKnown (λ (z : View T). z.capacity) Stage Over base a now view_now
     known_then base stage (GoOn d) e =
@@ -197,6 +200,7 @@ module _ {T : Type 0} (code : Coding T) (law : IsCoding code) (which : LookOf) (
 
   -- ---- each step keeps the rule
 
+  -- each step of a look of a state keeps the rule of the table, and tells what is known after it
   pub state_looks_keep : KeepsRule (λ (z : View T). z.asked) (λ (z : View T). z.capacity) Stage Over (λ key. container_words code key + 1) (λ key. key)
       (λ key. IsMachine code kinds.Container key) want after kept
   state_looks_keep base₀ v c m key words slots id wide known at₀ =
@@ -240,6 +244,7 @@ module _ {T : Type 0} (code : Coding T) (law : IsCoding code) (which : LookOf) (
       asks_so : call.stands base₀.capacity c → base₀.capacity ≡ key → AsksFor (container_words code key) (want c)
       asks_so = grind (arith, look_words)
 
+      -- on the machine at which the look stands, its party has the state with which it began
       has_so : (s : State (Unit {0}) (View T)) (y : ReadyAt s v key id c m) → Stage base₀ v c m → base₀.capacity ≡ key
           → HasState y.u.world.kept y.p (state_of_look cells seen m)
       has_so s y (size, inl h) same =

@@ -82,6 +82,8 @@ module _ {T : Type 0} (code : Coding T) (kind : Kind) (capacity id p : ℕ) wher
       mine : (j : ℕ) (x : View T) → j ≡ id → now ≡ x → Fits owner u j x
       mine = grind (arith, counts, itself, none_seen, state_in, none_late, inl, append-nil, sum_by-append)
 
+  -- with the view after a step, which counts the steps that the machine has of the call, the table
+  -- holds its machine again
   pub settle : (owner : ℕ → ℕ) (asked aside : ℕ) (words : List ℕ) (s : State (Unit {0}) (View T)) (v : View T) (gained : List (Event T)) (u : Trace T)
       → get_elem? s.views id ≡ some v → 0 < v.share.part
       → (b : Between code kind capacity owner (record { words = words; homes = s.homes; views = s.views }) id p gained u)

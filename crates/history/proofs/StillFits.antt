@@ -45,6 +45,7 @@ module _ {T : Type 0} where
     sums_on None is g = grind (arith, owned_none, quiet_else)
     sums_on (Some r) is g = grind (arith, owned_one, quiet_else)
 
+    -- the seat still fits the machine after the turn
     pub still_fits : Fits owner w j v
     still_fits =
         record {

@@ -110,6 +110,8 @@ module _ {T : Type 0} where
         → (f : Event T → ℕ) → sum_by f u.events ≡ sum_by f (v.made ++ gained)
     made_between = grind (arith, owned_whole, sum_by-append)
 
+    -- a turn that is not refused, and finds neither the last position nor the last version, leads
+    -- from a run to a run
     pub run_more : (t : Trace T) (turn : Turn T) → refusal_as kind t.world turn ≡ None → IsFreshTurn t turn → IsRun code kind capacity t
         → IsRun code kind capacity (after_turn t turn)
     run_more = grind (arith, turn_making, reached_as_more, fresh_as_more)
@@ -133,6 +135,7 @@ pub record Turning (T : Type 0) : Type 0 where
 module _ {T : Type 0} {code : Coding T} {kind : Kind} {capacity words : ℕ} {effects : World T → ℕ → Flight T → ℕ → List (Event T)}
     (laws : KeptLaws code kind capacity words effects) {owner : ℕ → ℕ} {s : State (Unit {0}) (View T)} {id p : ℕ}
     {gained : List (Event T)} {u : Trace T} (b : Between code kind capacity owner s id p gained u) where
+  -- the machine, the table and the seat of a party that takes a turn
   abbrev pub turning_at : Turning T
   turning_at =
       record {
@@ -200,6 +203,8 @@ module _ {T : Type 0} (turning : Turning T) where
         one = one_more code kind capacity s.views u turn free fresh_turn b.one;
       }
     where
+      -- an event that may be late for another party's call is none of a party with no call under
+      -- way
       none_of : (es : List (Event T)) → ((q : ℕ) → q ≢ p → IsLate kind (call_in u.world q) (events_by q es))
           → (q : ℕ) → q ≢ p → call_in u.world q ≡ None → events_by q es ≡ []
       none_of = grind (arith, late_none)
@@ -224,6 +229,8 @@ module _ {T : Type 0} (beginning : Beginning T) where
   pub begins_free : refusal_as kind u.world (Begin p start) ≡ None
   begins_free = grind arith
 
+  -- after the begin the machine stands at the table's words, and the seat has gained the events of
+  -- the begin
   begins : Between code kind capacity owner s id p (gained ++ events_by p (Begun p start ∷ [])) (after_turn u (Begin p start))
   begins = turned turning s.words (Begin p start) begins_free tt
       (b.words ∙ ap (λ ws. ws ++ 0 ∷ []) (sym (writes_one_word u.world (Begin p start)))) refl
@@ -240,6 +247,8 @@ module _ {T : Type 0} (beginning : Beginning T) where
   pub begun_others : others_in (after_turn u (Begin p start)).world p ≡ 0
   begun_others = others_begin_own u.world p start flight (first_of u.world.kind u.world.capacity start u.world.kept) first_here
 
+  -- after the begin the machine stands at the table's words, and the seat has gained just its
+  -- begin
   pub begun : Between code kind capacity owner s id p (gained ++ Begun p start ∷ []) (after_turn u (Begin p start))
   begun =
       let b' : Between code kind capacity owner s id p (gained ++ events_by p (Begun p start ∷ [])) (after_turn u (Begin p start)) = begins in
@@ -269,6 +278,7 @@ module _ {T : Type 0} (beginning : Beginning T) where
   pub begun_at : call_in (after_turn u (Begin p start)).world p ≡ Some (start, flight)
   begun_at = grind (arith, begin_own, first_of, first_here)
 
+  -- after the begin the machine keeps what its family keeps from a begin on
   pub begun_kept : (after_turn u (Begin p start)).world.kept ≡ kept_after_begin code capacity start p u.world.kept
   begun_kept = grind arith
 
@@ -341,6 +351,7 @@ module _ {T : Type 0} (going : Going T) where
   ends_own : AreOf p (ending_of p start (answer_in (goes_then found)))
   ends_own = ending_of_own p start (answer_in (goes_then found))
 
+  -- each event that a step writes is of some party
   someone : sum_by (λ e. of_none (whose e)) (events_of u.world (Next p)) ≡ 0
   someone =
       let all : sum_by (λ e. of_none (whose e)) (events_of u.world (Next p)) ≡ sum_by (λ e. of_none (whose e)) tells =

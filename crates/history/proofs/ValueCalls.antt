@@ -77,6 +77,7 @@ module _ {T : Type 0} (code : Coding T) where
   pub release_keeps : KeepsEnds code kinds.Atomic size_of release_driven
   release_keeps = keeps_to_end (value_machines code) release_driven release_is_call (λ c n. refl)
 
+  -- a release begins, on a pass that has the producer's role
   pub release_first : (x : View T) (m : Unit {0}) → x.going ≡ None → x.other ≡ [] → 0 < x.share.part
       → HasProducer x.made → At code kinds.Atomic releases_producer x x (record { word = producer_word }) m
   release_first x m idle alone any has =
@@ -149,6 +150,7 @@ module _ {T : Type 0} (code : Coding T) (law : IsCoding code) (value : T) where
   store_stays : (c d : Storing T) (n : ℕ) (stage : StoreStage) → StoreStands code.size stage → store_takes code.size c stage n ≡ GoOn d → StandsNext d
   store_stays = grind arith
 
+  -- a store at each of its stages asks for a word of the value
   store_finds_word : (stage : StoreStage) → StoreStands code.size stage
       → (a : Ask) × (a.word < 2 + code.size * 2) × (store_asks code.words_of stage value ≡ wants.Ask a)
   store_finds_word stores.LoadsVersion h = (record { word = 0; op = ops.Load }, omega arith, refl)
@@ -181,6 +183,7 @@ module _ {T : Type 0} (code : Coding T) (law : IsCoding code) (value : T) where
   pub store_keeps : KeepsOver code kinds.Atomic (size_of code) store_driven
   store_keeps = keeps (value_machines code) store_driven store_is_call
 
+  -- a store begins, on a pass that has the producer's role
   pub store_first : (x : View T) (m : Unit {0}) → x.going ≡ None → x.other ≡ [] → 0 < x.share.part
       → HasProducer x.made → At code kinds.Atomic storing x x first_store m
   store_first x m idle alone any has =
@@ -214,6 +217,7 @@ module _ {T R : Type 0} (code : Coding T) (law : IsCoding code) (words_in : R �
   put_there : (m : R) (at n : ℕ) → at < code.size → kept_at (room_of code.size (words_in m)) at n ≡ room_of code.size (words_in (with_word m at n))
   put_there m at n below = grind (arith, room_set, room_of)
 
+  -- the model's load goes on as that of the driver does, at each of its stages
   load_same_after : (c : Loading T R) (m : R) (n : ℕ) (stage : LoadStage) → LoadStands code.size stage
       → after_of code (flight_at stage (room_of code.size (words_in m))) n
       ≡ goes loading (load_takes code.size c stage n) (load_keeps with_word m stage n)
@@ -231,12 +235,14 @@ module _ {T R : Type 0} (code : Coding T) (law : IsCoding code) (words_in : R �
       → LoadStands code.size c.stage → value_effects code p (loading.flight c m) n ≡ []
   load_quiet = grind arith
 
+  -- the step with which a load ends writes that it acted, with the value that it has read
   load_acts : (p : ℕ) (c : Loading T R) (m : R) (n : ℕ) (stage : LoadStage) → load_takes code.size c stage n ≡ Done tt
       → value_effects code p (flight_at stage (room_of code.size (words_in m))) n
       ≡ Acted p (Atomic Load) (answers.Loaded (value_of_room code words_in (load_keeps with_word m stage n))) ∷ []
   load_acts p c m n loads.LoadsVersion e = absurd (cc)
   load_acts p c m n (loads.LoadsCell version cell at) e = go (nat_lt (at + 1) code.size) e
     where
+      -- a load that has read a word of the cell is not over
       go : {A : Type 0} → (t : Bool)
           → cond {A = After (Loading T R) (Unit {0})} t
           (GoOn (at_load c (loads.LoadsCell version cell (at + 1))))

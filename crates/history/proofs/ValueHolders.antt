@@ -21,12 +21,14 @@ module _ {T : Type 0} where
   abbrev Right : List (Event T) → List (Event T) → Type 0
   Right before es = AreRight ByProducer before es
 
+  -- t is a trace, of which s says that it is sound
   module _ (en : Coding T) (c : ℕ) (t : Trace T) (s : frame.Sound (family en c) t) where
     step_right : (p n : ℕ) (x : Party T) (flight : Flight T) (since : ℕ) → party_of p t.world.latest ≡ Some x
         → x.doing ≡ Going flight since → Right t.events (step_in t.world p x flight n).wrote
     step_right = grind arith
 
 module _ {T : Type 0} (code : Coding T) (capacity : ℕ) where
+  -- in each run only the holder of the producer's role stores
   by_producers : (t : Trace T) → IsRun code kinds.Atomic capacity t → Each ByProducer t.events
   by_producers t r =
       let w = t.world in
@@ -58,6 +60,7 @@ module _ {T : Type 0} where
   abbrev pub value_role : RoleEvents T T
   value_role = record { holder_after = holder_after; marks = stores; ByItsHolder = ByProducer; Grants = GrantsRight }
 
+  -- the producer's role is held by one party at a time
   pub one_holder : HasOneHolder value_role
   one_holder =
       record {

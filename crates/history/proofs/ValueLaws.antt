@@ -17,6 +17,7 @@ use Rattle.history.specs.Value.{last_or, IsLast}
 use Rattle.history.proofs.Values.{value_sound, value_goes_on}
 
 module _ {T : Type 0} (code : Coding T) (capacity : ℕ) (events : List (Event T)) (h : IsHistory code kinds.Atomic capacity events) where
+  -- a history of the single value is linearizable as one value
   pub value_linearizable : IsLinearizable (as_value code) events
   value_linearizable =
       let t = h.trace in
@@ -56,6 +57,7 @@ pub version_is_count : {T : Type 0} (code : Coding T) (capacity : ℕ) (t : Trac
 version_is_count code capacity t run = version_counts t.world.coding t.world.capacity t (value_sound code capacity t run)
 
 module _ {T : Type 0} (code : Coding T) (capacity : ℕ) (events : List (Event T)) (h : IsHistory code kinds.Queue capacity events) where
+  -- a history of a queue of values is linearizable as the bounded list
   pub values_linearizable : IsLinearizable (as_list Queue capacity) events
   values_linearizable =
       let t = h.trace in

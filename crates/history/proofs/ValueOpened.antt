@@ -54,6 +54,7 @@ mix_length (suc at) [] xs a b = absurd (omega arith)
 mix_length (suc at) (w ∷ ws) [] a b = absurd (omega arith)
 mix_length (suc at) (w ∷ ws) (x ∷ xs) a b = ap suc (mix_length at ws xs (omega arith) (omega arith))
 
+-- with all words of the one list put over the other, the list is the first
 pub mix_all : (n : ℕ) (ws xs : List ℕ) → length ws ≡ n → length xs ≡ n → mix n ws xs ≡ ws
 mix_all zero [] [] a b = refl
 mix_all zero (w ∷ ws) xs a b = absurd (omega arith)
@@ -74,6 +75,7 @@ two_same (suc p) xs = refl
 two_length : (p size : ℕ) (xs ys : List ℕ) → length xs ≡ size → length ys ≡ size → length (two p xs ys) ≡ size * 2
 two_length = grind (arith, length-append)
 
+-- a word that is set in the cell of this number is set in this cell, and the other stays
 two_set : (p size : ℕ) (xs ys : List ℕ) (at n : ℕ) → p < 2 → length xs ≡ size → length ys ≡ size → at < size
     → set (two p xs ys) (size * p + at) n ≡ two p (set xs at n) ys
 two_set zero size xs ys at n low a b below = grind (arith, set, set_left)
@@ -93,6 +95,7 @@ module _ {T : Type 0} (code : Coding T) (law : IsCoding code) (value : T) where
   abbrev effects : World T → ℕ → Flight T → ℕ → List (Event T)
   effects w = value_effects code
 
+  -- the machine of the single value that one party has to itself
   abbrev machine : alone.OneMachine T
   machine =
       record {
@@ -124,6 +127,8 @@ module _ {T : Type 0} (code : Coding T) (law : IsCoding code) (value : T) where
   abbrev name : Start T
   name = Atomic (Store value)
 
+  -- v is the version, x and y are the words of the two cells, where the next store goes into that
+  -- of x
   module _ (v : ℕ) (small : v < 2 ^ 64 - 1) (x y : List ℕ) (x_long : length x ≡ code.size) (y_long : length y ≡ code.size) where
     abbrev cells : ℕ → List ℕ
     cells at = two (v % 2) (mix at ws x) y
@@ -155,6 +160,7 @@ module _ {T : Type 0} (code : Coding T) (law : IsCoding code) (value : T) where
     word_low : (at : ℕ) → at < code.size → word_at cell at < 2 + code.size * 2
     word_low = grind arith
 
+    -- the store of a word that is not the last leads on to the next word
     next : (ts : List (Turn T)) (es : List (Event T)) (at : ℕ) → at + 1 < code.size → Here (now at) ts es (Some (name, storing at))
         → Here (now (suc at)) (ts ++ Next 0 ∷ []) es (Some (name, storing (at + 1)))
     next ts es at more h =
@@ -163,6 +169,7 @@ module _ {T : Type 0} (code : Coding T) (law : IsCoding code) (value : T) where
         (record { word = word_at cell at; op = ops.Store (get_or ws at 0) }) (word_low at (omega arith)) refl tt
         (now (suc at)) (storing (at + 1)) (put at (omega arith)) (rw t refl) (rw t refl)
 
+    -- the store of the last word leads on to the version
     last : (ts : List (Turn T)) (es : List (Event T)) (at : ℕ) → at + 1 ≡ code.size → Here (now at) ts es (Some (name, storing at))
         → Here (now (suc at)) (ts ++ Next 0 ∷ []) es (Some (name, flight_at stores.AddsVersion))
     last ts es at all h =
@@ -171,6 +178,8 @@ module _ {T : Type 0} (code : Coding T) (law : IsCoding code) (value : T) where
         (record { word = word_at cell at; op = ops.Store (get_or ws at 0) }) (word_low at (omega arith)) refl tt
         (now (suc at)) (flight_at stores.AddsVersion) (put at (omega arith)) (rw t refl) (rw t refl)
 
+    -- the store goes through the words of its cell, one turn for each, and then stands at the
+    -- version
     fills : (ts : List (Turn T)) (es : List (Event T)) (rest at : ℕ) → at + suc rest ≡ code.size
         → Here (now at) ts es (Some (name, storing at))
         → Here (now code.size) (ts ++ replicate (suc rest) (Next 0)) es (Some (name, flight_at stores.AddsVersion))
@@ -219,6 +228,7 @@ module _ {T : Type 0} (code : Coding T) (law : IsCoding code) (value : T) where
 
   -- ---- so many stores
 
+  -- the party has the role after any number of stores
   has_it : (n : ℕ) → HasProducer (stored_times value n)
   has_it zero = refl
   has_it (suc n) =
@@ -256,6 +266,7 @@ module _ {T : Type 0} (code : Coding T) (law : IsCoding code) (value : T) where
   once : Here (words_at 2 0 (opened_cells code value 1)) (stored_turns value code.size 1) (stored_times value 1) None
   once = stores_it 1 (omega arith) zeros zeros zeros_long zeros_long (stored_turns value code.size 0) (stored_times value 0) (has_it 0) taken
 
+  -- after n stores the version is n + 1, and the cells have the value
   stored : (n : ℕ) → n < 2 ^ 64 - 1 → Here (words_at (n + 1) 0 (opened_cells code value n)) (stored_turns value code.size n) (stored_times value n) None
   stored zero low = taken
   stored (suc zero) low = once

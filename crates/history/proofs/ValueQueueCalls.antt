@@ -69,6 +69,7 @@ module _ {T : Type 0} (code : Coding T) (law : IsCoding code) (v : T) where
         → PushPlace code.size capacity stage → push_takes code.size c stage n ≡ GoOn d → PushesNext d
     push_stays = grind arith
 
+  -- a push at each of its stages asks for a word of the queue
   push_finds_word : (capacity : ℕ) (stage : PushStage) → PushPlace code.size capacity stage
       → (a : Ask) × (a.word < 4 + code.size * capacity) × (push_asks code.words_of stage v ≡ wants.Ask a)
   push_finds_word capacity pushes.LoadsWrite h = (record { word = 0; op = Load }, omega arith, refl)
@@ -99,6 +100,7 @@ module _ {T : Type 0} (code : Coding T) (law : IsCoding code) (v : T) where
   pub value_push_keeps : KeepsOver code kinds.Queue (λ capacity. 4 + code.size * capacity) push_driven
   value_push_keeps = keeps (queue_machines code) push_driven push_is_call
 
+  -- a push begins, on a pass that has the producer's role
   pub value_push_first : (x : View T) (m : Unit {0}) → x.going ≡ None → x.other ≡ [] → 0 < x.share.part
       → x.capacity < 2 ^ 32 → HasRole Producer x.made → At code kinds.Queue pushing x x (first_push x.capacity) m
   value_push_first x m idle alone any small has =
@@ -138,6 +140,7 @@ module _ {T R : Type 0} (code : Coding T) (law : IsCoding code) (words_in : R �
   put_there : (m : R) (at n : ℕ) → at < code.size → kept_at (room_in m) at n ≡ room_in (with_word m at n)
   put_there m at n below = grind (arith, room_set, room_of)
 
+  -- the model's pop goes on as that of the driver does, at each of its stages
   pop_same_after : (capacity : ℕ) (c : Popping T R) (m : R) (n : ℕ) (stage : PopStage)
       → PopPlace code.size capacity stage
       → after_of code (flight_at c.capacity stage (room_in m)) n
@@ -157,6 +160,7 @@ module _ {T R : Type 0} (code : Coding T) (law : IsCoding code) (words_in : R �
       → queue_effects code p (flight_at c.capacity stage (room_in m)) n ≡ []
   pop_quiet = grind arith
 
+  -- the step with which a pop ends writes what it answers
   pop_loud : (p n : ℕ) (c : Popping T R) (m : R) (b : Bool) (stage : PopStage)
       → pop_takes code.size c stage n ≡ Done b
       → queue_effects code p (flight_at c.capacity stage (room_in m)) n
@@ -170,6 +174,7 @@ module _ {T R : Type 0} (code : Coding T) (law : IsCoding code) (words_in : R �
       (λ t. (let no : GoOn (at_pop c (pops.LoadsCell read (cell_word c.capacity code.size read) 0)) ≡ Done b = rw t at e in absurd (cc)))
   pop_loud p n c m b (pops.LoadsCell read cell at) e = go (nat_lt (at + 1) code.size) e
     where
+      -- a pop that has read a word of a cell is not over
       go : (t : Bool) → cond {A = After (Popping T R) Bool} t (GoOn (at_pop c (pops.LoadsCell read cell (at + 1))))
           (GoOn (at_pop c (pops.StoresRead read)))
           ≡ Done b
@@ -186,6 +191,7 @@ module _ {T R : Type 0} (code : Coding T) (law : IsCoding code) (words_in : R �
         → PopPlace code.size capacity stage → pop_takes code.size c stage n ≡ GoOn d → PopsNext d
     pop_stays = grind arith
 
+  -- a pop at each of its stages asks for a word of the queue
   pop_finds_word : (capacity : ℕ) (stage : PopStage) → PopPlace code.size capacity stage
       → (a : Ask) × (a.word < 4 + code.size * capacity) × (pop_asks stage ≡ wants.Ask a)
   pop_finds_word capacity pops.LoadsRead h = (record { word = 1; op = Load }, omega arith, refl)
@@ -202,6 +208,7 @@ module _ {T R : Type 0} (code : Coding T) (law : IsCoding code) (words_in : R �
   abbrev pub pop_driven : Driven T (Popping T R) R Bool
   pop_driven = record { want = λ (c : Popping T R). pop_want c; after = λ c n. pop_after code.size c n; kept = keeps_word; call = popping }
 
+  -- a pop of a queue of values is a call of the model
   pop_is_call : IsCallBy code (queue_effects code) (λ capacity. 4 + code.size * capacity) pop_driven
   pop_is_call =
       record {

@@ -75,6 +75,8 @@ module _ {T : Type 0} (code : Coding T) (capacity : ℕ) where
       let cells : length s.state.core.cells ≡ code.size * 2 = s.holds.good.cells ∙ ap (λ (z : Coding T). z.size * 2) r.coded in
       ap length s.fit.words ∙ omega arith
 
+  -- a step of a call under way may be taken, writes events of its own party alone, and goes on as
+  -- the call does
   goes_on : (t : Trace T) → IsOn t → (p : ℕ) (start : Start T) (flight : Flight T)
       → call_in t.world p ≡ Some (start, flight)
       → CallGoesOn code kinds.Atomic capacity (2 + code.size * 2) (value_effects code) t p flight
@@ -95,6 +97,7 @@ module _ {T : Type 0} (code : Coding T) (capacity : ℕ) where
         goes = λ x n found. (fact x n found).goes;
       }
 
+  -- the single value owes what its kind has to
   pub value_owes : KindLaws code kinds.Atomic capacity (2 + code.size * 2) (value_effects code)
   value_owes = record {
     size = size;
@@ -174,6 +177,8 @@ module _ {T C M E : Type 0} (code : Coding T) (base : View T) (call : Calling T 
       kept : (holder : Option ℕ) × (t.world.kept ≡ registries.Atomic holder)
       kept = kept_there t run
 
+      -- whether the pass was a party last or not, the call begins, as that party or as the one of
+      -- the pass's own number
       go : (o : Option ℕ) → base.party ≡ o → IfSome o (λ p. owner p ≡ j) → Starts code kinds.Atomic call base c m t owner j
       go None e h =
           as_party t owner j j run self

@@ -87,7 +87,7 @@ module _ {T : Type 0} where
   MayAct b start = ⊥
 
   -- The call acts now where this number stands, and leaves that one: a call acts on a place at most once.
-  abbrev pub Acts : Kind → ℕ → ℕ → ℕ → Way T → Type 0
+  abbrev pub Acts : Kind → (b n left : ℕ) → Way T → Type 0
   Acts kind b n left None = ⊥
   Acts kind b n left (Some (start, Some found)) = ⊥
   Acts kind b n left (Some (start, None)) = MayAct b start × (left ≡ left_by kind start n)

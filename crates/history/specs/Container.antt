@@ -41,11 +41,11 @@ module _ {T : Type 0} where
   when did e = if did then e ∷ [] else []
 
   -- it has hidden what stood there, or found nothing to hide
-  abbrev pub HasCleared : ℕ → ℕ → List (Event T) → List (Event T) → Type 0
+  abbrev pub HasCleared : (p index : ℕ) → List (Event T) → List (Event T) → Type 0
   HasCleared p index before es = (hid : Bool) × (es ≡ before ++ when hid (Hidden p index))
 
   -- and has placed its value, unless something stood there by then
-  abbrev pub HasPut : ℕ → ℕ → T → List (Event T) → List (Event T) → Type 0
+  abbrev pub HasPut : (p index : ℕ) → T → List (Event T) → List (Event T) → Type 0
   HasPut p index value before es =
       (hid : Bool) × (put : Bool)
       × (es ≡ before ++ (when hid (Hidden p index) ++ when put (Placed p index value)))
@@ -53,7 +53,7 @@ module _ {T : Type 0} where
 -- ---- add
 
 -- where it stands on a container of this capacity, whose values have so many words
-abbrev pub AddIn : ℕ → ℕ → AddStage → Type 0
+abbrev pub AddIn : (size capacity : ℕ) → AddStage → Type 0
 AddIn size capacity (adds.Acquires stage) = AcquireIn capacity stage
 AddIn size capacity (adds.LoadsCount index) = index < capacity
 AddIn size capacity (adds.Hides index count) = index < capacity
@@ -62,7 +62,7 @@ AddIn size capacity (adds.AddsCount index) = index < capacity
 AddIn size capacity (adds.AddsChange index) = index < capacity
 
 module _ {T : Type 0} where
-  abbrev pub taken : ℕ → ℕ → ℕ → List (Event T)
+  abbrev pub taken : (p index owner : ℕ) → List (Event T)
   taken p index owner = Filled p index owner ∷ Granted p index owner ∷ []
 
   -- what it has written at this stage
@@ -78,7 +78,7 @@ module _ {T : Type 0} where
       HasPut p index given.value (taken p index given.owner) es
 
   -- and in all: one that met the lock may have filled an index, which keeps its owner
-  abbrev pub HasAdded : ℕ → ℕ → Owned T → Added → List (Event T) → Type 0
+  abbrev pub HasAdded : (capacity p : ℕ) → Owned T → Added → List (Event T) → Type 0
   HasAdded capacity p given (Ok index) es =
       (index < capacity) × HasPut p index given.value (taken p index given.owner) es
   HasAdded capacity p given (Err failures.IsLocked) es =

@@ -17,7 +17,7 @@ use Rattle.history.specs.Stages.{Calling}
 use Rattle.history.specs.Value.{value_of_room}
 
 -- where it stands on a container of this capacity, whose values have so many words
-abbrev pub FindIn : ℕ → ℕ → FindStage → Type 0
+abbrev pub FindIn : (size capacity : ℕ) → FindStage → Type 0
 FindIn size capacity (finds.LoadsCell index found) = index < capacity
 FindIn size capacity (finds.LoadsCount index found) = index < capacity
 FindIn size capacity (finds.LoadsWord index found count at) = (index < capacity) × (at < size)

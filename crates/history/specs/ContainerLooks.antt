@@ -27,7 +27,7 @@ use Rattle.history.specs.Settled.{AtWaiting, EndsSettled}
 use Rattle.history.specs.Stages.{Calling, IsFirst, IsUnderWay, Ends}
 
 -- on a container of this capacity, whose values have so many words
-abbrev pub LookIn : ℕ → ℕ → LookStage → Type 0
+abbrev pub LookIn : (size capacity : ℕ) → LookStage → Type 0
 LookIn size capacity looks.LoadsChange = Unit {0}
 LookIn size capacity (looks.LoadsCount index) = index < capacity
 LookIn size capacity (looks.LoadsWord index count at) = (index < capacity) × (at < size)
@@ -55,7 +55,7 @@ module _ {T : Type 0} where
   LookedAt p (looks.ChecksCount index count) es = HasCopied p 0 index es
 
   -- and in all: nothing where nothing had changed
-  abbrev pub HasLookedAll : ℕ → ℕ → Bool → List (Event T) → Type 0
+  abbrev pub HasLookedAll : (capacity p : ℕ) → Bool → List (Event T) → Type 0
   HasLookedAll capacity p true es = HasCopied p 0 capacity es
   HasLookedAll capacity p false es = es ≡ []
 
@@ -74,7 +74,7 @@ module _ {T : Type 0} where
       }
 
   -- the party has the state that it had
-  abbrev pub KeepsState : View T → View T → Type 0
+  abbrev pub KeepsState : (old new : View T) → Type 0
   KeepsState old new = (p : ℕ) → old.party ≡ Some p → (new.party ≡ Some p) × (new.state ≡ old.state)
 
   -- each value that is shown was copied by the party of the view, from its index
@@ -96,7 +96,7 @@ module _ {T : Type 0} (code : Coding T) (which : LookOf) (cells : ℕ) (seen : N
       (p : ℕ) × (base.party ≡ Some p) × (base.state ≡ Some (state_of_look cells seen m))
 
   -- it is about to begin, or under way, from the state that its party has
-  abbrev pub StateLooks : View T → View T → Looking T → Showing T → Type 0
+  abbrev pub StateLooks : (base v : View T) → Looking T → Showing T → Type 0
   StateLooks base v c m =
       (base.capacity ≡ cells)
       × ((IsFirst code kinds.Container looking base v c m × BeginsWith which base m)

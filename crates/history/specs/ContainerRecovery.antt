@@ -27,7 +27,7 @@ use Rattle.history.specs.ValueQueue.{value_there}
 
 -- where it stands on a container of this capacity, whose values have so many words: it copies an
 -- element under an odd number
-abbrev pub RecoverIn : ℕ → ℕ → ReleaseMode → RecoverStage → Type 0
+abbrev pub RecoverIn : (size capacity : ℕ) → ReleaseMode → RecoverStage → Type 0
 RecoverIn size capacity mode recovers.LoadsCounter = Unit {0}
 RecoverIn size capacity mode (recovers.LoadsCell index) = index < capacity
 RecoverIn size capacity mode (recovers.LoadsCount index) = index < capacity
@@ -60,13 +60,13 @@ module _ {T : Type 0} where
   MayCome mode (HasFound found) = Unit {0}
   MayCome mode (HasFreed found hid locked) = (found ≡ None → hid ≡ false) × (locked ≡ true → mode ≡ LockIfLastIndex)
 
-  abbrev pub wrote_found : ℕ → ℕ → ℕ → Option T → List (Event T)
+  abbrev pub wrote_found : (p owner index : ℕ) → Option T → List (Event T)
   wrote_found p owner index None = Shown p index ∷ []
   wrote_found p owner index (Some value) =
       Copied p index value ∷ Asked p index owner ∷ Told p index owner ∷ []
 
   -- what it wrote of such an index
-  abbrev pub wrote_of : ℕ → ℕ → ℕ → Came T → List (Event T)
+  abbrev pub wrote_of : (p owner index : ℕ) → Came T → List (Event T)
   wrote_of p owner index (HasAsked value) = Copied p index value ∷ Asked p index owner ∷ []
   wrote_of p owner index (HasFound found) = wrote_found p owner index found
   wrote_of p owner index (HasFreed found hid locked) =
@@ -74,7 +74,7 @@ module _ {T : Type 0} where
       ++ FreedOf p index owner ∷ (when hid (Hidden p index) ++ when locked (Locked p))
 
   -- what it wrote of these indices, of which the last comes first
-  abbrev pub wrote_visits : ℕ → ℕ → List (ℕ × Came T) → List (Event T)
+  abbrev pub wrote_visits : (p owner : ℕ) → List (ℕ × Came T) → List (Event T)
   wrote_visits p owner [] = []
   wrote_visits p owner (visit ∷ before) = wrote_visits p owner before ++ wrote_of p owner visit.0 visit.1
 
@@ -105,7 +105,7 @@ module _ {T : Type 0} where
   came_locked (HasFreed found hid locked) = HasFreed found hid true
 
   -- under an even number nothing stands
-  abbrev pub seen_under : ℕ → ℕ → List (ℕ × Came T) → List (ℕ × Came T)
+  abbrev pub seen_under : (index count : ℕ) → List (ℕ × Came T) → List (ℕ × Came T)
   seen_under index count visits = if is_even count then (index, HasFound None) ∷ visits else visits
 
   abbrev pub locked_with : Lock → ℕ → List (ℕ × Came T) → List (ℕ × Came T)
@@ -162,7 +162,7 @@ module _ {T : Type 0} where
   VisitsAt (recovers.AddsChange state) value visits = Unit {0}
 
   -- a yes that it has heard
-  abbrev pub told_yet : ℕ → ℕ → RecoverStage → List (Event T)
+  abbrev pub told_yet : (p owner : ℕ) → RecoverStage → List (Event T)
   told_yet p owner recovers.LoadsCounter = []
   told_yet p owner (recovers.LoadsCell index) = []
   told_yet p owner (recovers.LoadsCount index) = []

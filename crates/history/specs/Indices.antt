@@ -54,7 +54,7 @@ module _ {T : Type 0} where
       }
 
   -- what a release has written at its stages since this one
-  abbrev pub freed_at : ℕ → ℕ → ReleaseStage → List (Event T)
+  abbrev pub freed_at : (p index : ℕ) → ReleaseStage → List (Event T)
   freed_at p index releases.ClearsFlag = []
   freed_at p index stage = Freed p index ∷ []
 
@@ -76,7 +76,7 @@ module _ {T : Type 0} where
       }
 
   -- what a release has written that may lock, by its answer
-  abbrev pub given_by : ℕ → ℕ → ReleaseState → List (Event T)
+  abbrev pub given_by : (p index : ℕ) → ReleaseState → List (Event T)
   given_by p index states.Unlocked = Freed p index ∷ []
   given_by p index states.Locked = Freed p index ∷ Locked p ∷ []
 

@@ -50,7 +50,7 @@ module _ {T : Type 0} where
   IsWithin e = (span : Span T) → own_after span e ≡ longer span e
 
   -- what a push of this value has written once it has ended, where this was the oldest
-  abbrev pub over_push_wrote : ℕ → ℕ → ℕ → PushEnd → List (Event T)
+  abbrev pub over_push_wrote : (p v oldest : ℕ) → PushEnd → List (Event T)
   over_push_wrote p v oldest Added =
       Published p (Index v) ∷ Acted p (Queues (PushIndex v)) PoppedNone ∷ []
   over_push_wrote p v oldest Own = []

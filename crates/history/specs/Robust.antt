@@ -66,12 +66,12 @@ RecoverIn capacity mode stage = Unit {0}
 
 module _ {T : Type 0} where
   -- what an acquire has written at this stage
-  abbrev pub filled_at : ℕ → ℕ → AcquireStage → List (Event T)
+  abbrev pub filled_at : (p owner : ℕ) → AcquireStage → List (Event T)
   filled_at p owner (acquires.Raises index raise) = Filled p index owner ∷ []
   filled_at p owner stage = []
 
   -- and in all: one that met the lock may have filled an index, which keeps its owner
-  abbrev pub AcquireWrote : ℕ → ℕ → ℕ → Acquired → List (Event T) → Type 0
+  abbrev pub AcquireWrote : (capacity p owner : ℕ) → Acquired → List (Event T) → Type 0
   AcquireWrote capacity p owner (Ok index) es =
       (index < capacity) × (es ≡ Filled p index owner ∷ Granted p index owner ∷ [])
   AcquireWrote capacity p owner (Err failures.IsLocked) es =
@@ -153,7 +153,7 @@ AreVisits mode bound visits =
     AllPairs (λ (x y : Visit). x.index < y.index) visits
     × All (λ (v : Visit). (v.index < bound) × MayCome mode v.came) visits
 
-abbrev pub visit : ℕ → ℕ → Came → Visit
+abbrev pub visit : (index owner : ℕ) → Came → Visit
 visit index owner came = record { index = index; owner = owner; came = came }
 
 -- it came so far with the last one
@@ -202,7 +202,7 @@ visits_after call visits old = visits_taken call.stage visits old
 
 module _ {T : Type 0} where
   -- what it writes of such an index
-  abbrev pub wrote_to : ℕ → ℕ → ℕ → Came → List (Event T)
+  abbrev pub wrote_to : (p index owner : ℕ) → Came → List (Event T)
   wrote_to p index owner HasAsked = Asked p index owner ∷ []
   wrote_to p index owner WasTold = Asked p index owner ∷ Told p index owner ∷ []
   wrote_to p index owner HasFreed =

@@ -57,7 +57,7 @@ module _ {T : Type 0} (code : Coding T) where
     pub parties : IsOfParties new
 
   -- the view with which a call of the pass began, once the one before it had ended
-  abbrev pub SettledFrom : Kind → View T → View T → Type 0
+  abbrev pub SettledFrom : Kind → (old new : View T) → Type 0
   SettledFrom kind old new = ((new ≡ old) × (old.going ≡ None)) ⊎ Settles kind old new
 
 -- of a call that stands so at each stage, and ends so, and that a pass may begin whose last one rests

@@ -64,7 +64,7 @@ taken_by (Some call) taken = taken
 
 module _ {T : Type 0} where
   -- no operation was asked for between the two views but as a step of the call, which may have been under way in the first
-  abbrev pub StepsOnly : View T → View T → Type 0
+  abbrev pub StepsOnly : (base v : View T) → Type 0
   StepsOnly base v = v.asked + taken_by base.going base.taken ≤ base.asked + v.taken
 
   -- a call that was not under way began
@@ -140,7 +140,7 @@ module _ {T C M E : Type 0} (code : Coding T) (kind : Kind) (call : Calling T C 
     pub all : IsAll base.share → (f : Event T → ℕ) → sum_by f v.seen ≡ sum_by f v.made
     pub parties : IsOfParties v
 
-  abbrev pub At : View T → View T → C → M → Type 0
+  abbrev pub At : (base v : View T) → C → M → Type 0
   At base v c m = IsFirst base v c m ⊎ IsUnderWay base v c m
 
   -- it was a look, at a word where it is no call
@@ -204,5 +204,5 @@ module _ {T C M E : Type 0} (code : Coding T) (kind : Kind) (after : C → ℕ �
     pub goes : after asking (number_of said) ≡ GoOn c
     pub keeps : m ≡ kept asking room (number_of said)
 
-  abbrev pub AtAsked : View T → View T → C → M → Type 0
+  abbrev pub AtAsked : (base v : View T) → C → M → Type 0
   AtAsked base v c m = At code kind call base v c m ⊎ HasHeard base v c m

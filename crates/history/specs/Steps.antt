@@ -9,15 +9,15 @@ use Rattle.history.specs.History.{run_of}
 
 module _ {T : Type 0} where
   -- at most so many
-  abbrev pub TakesAtMost : ℕ → View T → View T → Type 0
+  abbrev pub TakesAtMost : ℕ → (old new : View T) → Type 0
   TakesAtMost most old new = new.asked ≤ old.asked + most
 
   -- at most so many beside those that both have counted
-  abbrev pub JoinsWithin : ℕ → View T → View T → View T → Type 0
+  abbrev pub JoinsWithin : ℕ → (mine other new : View T) → Type 0
   JoinsWithin most mine other new = new.asked ≤ mine.asked + other.asked + most
 
   -- at most so many alone, and so many more for each change of a word that other parties made while the call was under way
-  abbrev pub TakesAlone : ℕ → ℕ → View T → View T → Type 0
+  abbrev pub TakesAlone : (alone retry : ℕ) → (old new : View T) → Type 0
   TakesAlone alone retry old new = new.asked ≤ old.asked + (alone + new.others * retry)
 
   -- What this says of the run that the pass knows: its party's latest call there is this one, and the changes are those

@@ -42,11 +42,11 @@ module _ {T : Type 0} (value : T) where
   stored_turns size zero = Begin 0 (Atomic AcquireProducer) ∷ Next 0 ∷ []
   stored_turns size (suc n) = stored_turns size n ++ store_turns size
 
-  abbrev pub opened_turns : ℕ → ℕ → List (Turn T)
+  abbrev pub opened_turns : (size stores : ℕ) → List (Turn T)
   opened_turns size stores = stored_turns size stores ++ Begin 0 (Atomic ReleaseProducer) ∷ Next 0 ∷ []
 
   -- what the first pass knows, where a value has so many words: it is the party, and has the whole share
-  abbrev pub opened_view : ℕ → ℕ → View T
+  abbrev pub opened_view : (size version : ℕ) → View T
   opened_view size version =
       record {
         capacity = 1;

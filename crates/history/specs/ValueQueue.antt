@@ -27,21 +27,21 @@ use Rattle.history.specs.Rooms.{room_of}
 use Rattle.history.specs.Stages.{Calling}
 
 -- a word of the cell of a position
-abbrev pub IsWordOf : ℕ → ℕ → ℕ → ℕ → ℕ → Type 0
+abbrev pub IsWordOf : (size capacity position cell at : ℕ) → Type 0
 IsWordOf size capacity position cell at =
     (0 < capacity) × (cell ≡ cell_word capacity size position) × (at < size)
 
-abbrev pub PushPlace : ℕ → ℕ → PushStage → Type 0
+abbrev pub PushPlace : (size capacity : ℕ) → PushStage → Type 0
 PushPlace size capacity (pushes.StoresCell write cell at) =
     IsWordOf size capacity write cell at
 PushPlace size capacity stage = Unit {0}
 
-abbrev pub PopPlace : ℕ → ℕ → PopStage → Type 0
+abbrev pub PopPlace : (size capacity : ℕ) → PopStage → Type 0
 PopPlace size capacity (pops.LoadsCell read cell at) =
     IsWordOf size capacity read cell at
 PopPlace size capacity stage = Unit {0}
 
-abbrev pub PeekPlace : ℕ → ℕ → PeekStage → Type 0
+abbrev pub PeekPlace : (size capacity : ℕ) → PeekStage → Type 0
 PeekPlace size capacity (peeks.LoadsCell cell at) = (position : ℕ) × IsWordOf size capacity position cell at
 PeekPlace size capacity stage = Unit {0}
 

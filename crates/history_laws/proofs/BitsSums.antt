@@ -27,6 +27,7 @@ module _ {T : Type 0} (code : Coding T) (capacity : ℕ) (events : List (Event T
   machine : IsBitSet h.trace
   machine = bits_go_on h.trace h.run.of_kind h.run.reached
 
+  -- a place was set as often as it was cleared, and once more where it stands now
   as_often : (bit : ℕ) → sets bit events ≡ clears bit events + one_if (stands h.trace.world.words bit)
   as_often bit =
       let all = machine.conserved bit in

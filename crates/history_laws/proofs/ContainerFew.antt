@@ -61,6 +61,7 @@ module _ {T : Type 0} where
   abbrev with_turns : ℕ → Trace T → Trace T
   with_turns n t = record { world = record t.world { turns = n }; events = t.events }
 
+  -- what refuses a turn does not depend on how many turns were taken
   same_refusal : (n : ℕ) (t : Trace T) (turn : Turn T) → open_refusal (with_turns n t).world turn ≡ open_refusal t.world turn
   same_refusal n t (Begin p (Container (Recover owner mode))) = refl
   same_refusal n t (Begin p start) = refl
@@ -68,6 +69,7 @@ module _ {T : Type 0} where
   same_refusal n t (Decide p said) = refl
   same_refusal n t (Die owner) = refl
 
+  -- whether a turn is a step for an owner who is gone does not depend on how many turns were taken
   same_steps : (n : ℕ) (t : Trace T) (turn : Turn T) → steps_for_gone (with_turns n t) turn ≡ steps_for_gone t turn
   same_steps n t (Begin p start) = refl
   same_steps n t (Next p) = refl
@@ -112,6 +114,7 @@ module _ {T : Type 0} where
 abbrev keeping : Terms
 keeping = record { by = Word; kept = true }
 
+-- c is the capacity of the container
 module _ {T : Type 0} (code : Coding T) (c : ℕ) where
   abbrev KeptSound : Trace T → Type 0
   KeptSound t = frame.Sound (family_by keeping code c) t
@@ -123,6 +126,7 @@ module _ {T : Type 0} (code : Coding T) (c : ℕ) where
     pub counts : (i : ℕ) → i < c → count_at c t.world.words i ≤ m
     pub change : change_at c t.world.words ≤ m
 
+  -- two traces that differ at most in how many turns were taken have the same bounds
   bounds_as : (m : ℕ) (t u : Trace T) → with_turns m t ≡ with_turns m u → Bounds u m → Bounds t m
   bounds_as m t u is b =
       let words : t.world.words ≡ u.world.words = ap (λ (x : Trace T). x.world.words) is in
@@ -134,6 +138,8 @@ module _ {T : Type 0} (code : Coding T) (c : ℕ) where
         change = subst (λ ws. change_at c ws ≤ m) (sym words) b.change;
       }
 
+  -- a trace that is sound in a run that keeps to all its terms stays sound with another number of
+  -- turns, if this bounds what it has to bound
   reset : (t : Trace T) → KeptSound t → (m : ℕ) → Bounds t m → KeptSound (with_turns m t)
   reset t s m b =
       let words : t.world.words ≡ s.state.words = s.fit.words in
@@ -193,11 +199,15 @@ module _ {T : Type 0} (code : Coding T) (c : ℕ) where
   abbrev top : List (Event T) → ℕ
   top events = 1 + (3 * changes events + rises events)
 
+  -- nobody acts for an owner who is gone, no two calls that may lock overlap, and no number has
+  -- come round
   record Goes (events : List (Event T)) : Type 0 where
     pub faithful : IsFaithful events
     pub apart : LocksApart events
     pub young : IsYoung events
 
+  -- where nobody acts for an owner who is gone, no two calls that may lock overlap and no number
+  -- has come round, this is so of each beginning of the events
   goes_less : (events es : List (Event T)) → Goes (events ++ es) → Goes events
   goes_less events es g =
       record {
@@ -210,6 +220,8 @@ module _ {T : Type 0} (code : Coding T) (c : ℕ) where
             omega arith);
       }
 
+  -- what is so of every open run: bounds on the counter, the numbers of elements and of changes,
+  -- and, where its history is in order, that its trace is sound with so many turns
   record HoldsAll (t : Trace T) : Type 0 where
     pub bounded : Sound code c t × (LocksApart t.events → Bounded t)
     pub raised : (n : ℕ) → 1 + c ≤ n → n < 2 + (c + c) → Raised n t
@@ -217,6 +229,8 @@ module _ {T : Type 0} (code : Coding T) (c : ℕ) where
     pub honest : IsFaithful t.events → IsHonest t.events
     pub kept : Goes t.events → KeptSound (with_turns (top t.events) t)
 
+  -- the changes and rises of a history bound the counter, the numbers of the elements and the
+  -- number of changes
   bounds_by : (t : Trace T) → Sound code c t → (LocksApart t.events → Bounded t) → ((n : ℕ) → 1 + c ≤ n → n < 2 + (c + c) → Raised n t)
       → LocksApart t.events → Bounds t (top t.events)
   bounds_by t s bounded raised apart =
@@ -231,6 +245,7 @@ module _ {T : Type 0} (code : Coding T) (c : ℕ) where
         change = (let few = word_raised (1 + c) t (raised (1 + c) (omega arith) (omega arith)) in omega arith);
       }
 
+  -- t is the trace before the turn, of which e says that it is not refused
   module _ (t : Trace T) (turn : Turn T) (e : open_refusal t.world turn ≡ None) (h : HoldsAll t) where
     abbrev new : Trace T
     new = after_turn t turn
@@ -252,6 +267,8 @@ module _ {T : Type 0} (code : Coding T) (c : ℕ) where
         let was = Each-less BeginsRight t.events (events_of t.world turn) faithful in
         turn_honest (terms code c) code c t s (h.honest was) turn e (steps was) bounded_then.0
 
+    -- where the history is in order after the turn, the trace after the turn is sound with the
+    -- number of turns that its history bounds
     kept_then : Goes new.events → KeptSound (with_turns (top new.events) new)
     kept_then goes =
         let was = goes_less t.events (events_of t.world turn) goes in
@@ -266,6 +283,7 @@ module _ {T : Type 0} (code : Coding T) (c : ℕ) where
         (reset (after_turn (with_turns n t) turn) sound (top new.events)
         (bounds_as (top new.events) (after_turn (with_turns n t) turn) new same (bounds_by new bounded_then.0 bounded_then.1 raised_then goes.apart)))
 
+    -- what is so of every open run is so after a turn that is not refused
     holds_then : HoldsAll new
     holds_then =
         record {
@@ -278,6 +296,8 @@ module _ {T : Type 0} (code : Coding T) (c : ℕ) where
 
 -- ---- a run
 
+-- t is the trace of an open run of a container, c its capacity, start the trace with which it
+-- opens
 module _ {T : Type 0} (t : Trace T) (is : t.world.kind ≡ kinds.Container) (r : IsReachedOpen t) where
   abbrev code : Coding T
   code = t.world.coding
@@ -288,6 +308,7 @@ module _ {T : Type 0} (t : Trace T) (is : t.world.kind ≡ kinds.Container) (r :
   abbrev start : Trace T
   start = opening code t.world.kind c t.world.parties
 
+  -- the trace with which a container opens is sound in a run that keeps to all its terms
   kept_first : KeptSound code c start
   kept_first =
       let w = t.world in
@@ -308,6 +329,8 @@ module _ {T : Type 0} (t : Trace T) (is : t.world.kind ≡ kinds.Container) (r :
   raised_first : (n : ℕ) → 1 + c ≤ n → n < 2 + (c + c) → Raised n start
   raised_first n past before = record { seats = 0; beyond = λ q far. refl; fits = few (n == 1 + c) refl }
     where
+      -- a word of those that are counted is 0 at the start, the number of changes or that of an
+      -- element
       few : (b : Bool) → (n == 1 + c) ≡ b → get_or start.world.words n 0 + 0 ≤ 0
       few true e = let none = change_first in let same = tested n (1 + c) e in subst (λ k. get_or start.world.words k 0 + 0 ≤ 0) (sym same) (omega arith)
       few false e =
@@ -319,6 +342,7 @@ module _ {T : Type 0} (t : Trace T) (is : t.world.kind ≡ kinds.Container) (r :
   low_first : is_locked start.events ≡ false → counter_of start.world.words ≤ 0
   low_first open_now = subst (λ ws. counter_of ws ≤ 0) (sym words_first) (let low = kept_first.holds.good.low open_now in omega arith)
 
+  -- what is so of every open run is so at the opening
   holds_first : HoldsAll code c start
   holds_first =
       record {

@@ -91,6 +91,7 @@ replace_lifts replaces.AddsChange = 1
 replace_lifts stage = 2
 
 module _ {T : Type 0} where
+  -- by how much a call of a container may still raise such a number
   abbrev pub container_lifts : ContainerFlight T → ℕ
   container_lifts (Add run) = add_lifts run.call.stage
   container_lifts (Replace run) = replace_lifts run.call.stage
@@ -129,6 +130,7 @@ recover_adds (recovers.Hides index count) old = hides count old
 recover_adds (recovers.AddsChange state) old = 1
 recover_adds stage old = 0
 
+-- by how much the step of a call of a container raises such a number, where it finds this word
 abbrev pub container_adds : {T : Type 0} → ContainerFlight T → ℕ → ℕ
 container_adds (Add run) old = add_adds run.call.stage old
 container_adds (Replace run) old = replace_adds run.call.stage old
@@ -154,6 +156,7 @@ abbrev RecoverWithin : ℕ → RecoverStage → Type 0
 RecoverWithin c (recovers.EmptiesCell index count) = index < c
 RecoverWithin c stage = Unit {0}
 
+-- the call is of a container of this capacity, and the cell that its stage writes lies below that
 abbrev pub IsWithin : {T : Type 0} → ℕ → ContainerFlight T → Type 0
 IsWithin c (Add run) = (run.call.capacity ≡ c) × AddWithin c run.call.stage
 IsWithin c (Remove run) = (run.call.capacity ≡ c) × RemoveWithin c run.given run.call.stage
@@ -207,6 +210,7 @@ module _ (words : List ℕ) (n : ℕ) (inside : n < length words) where
   most : (word : ℕ) (op : Op) (k : ℕ) → written op (get_or words word 0) ≤ get_or words word 0 + k → Lifts (Some (record { word = word; op = op })) k
   most word op k low = ⊎_elim here (λ ne. other word op k ne) (cases_eq word n)
     where
+      -- where the step writes this very word, it rises by at most k
       here : word ≡ n → Lifts (Some (record { word = word; op = op })) k
       here e =
           let is : get_or (words_after words (Some (record { word = word; op = op }))) word 0 ≡ written op (get_or words word 0) =
@@ -267,6 +271,7 @@ module _ (words : List ℕ) (n : ℕ) (inside : n < length words) where
     abbrev LiftsBy : Option Ask → (ℕ → ℕ) → Type 0
     LiftsBy ask adds = Lifts ask (adds (old_of words ask))
 
+    -- a step of a remove raises the word by no more than it adds
     remove_lift : (stage : RemoveStage) (given : GiveBack) → RemoveWithin c given stage
         → LiftsBy (ask_of (remove_asks c stage given)) (remove_adds stage)
     remove_lift removes.Refuses given within = omega arith
@@ -275,6 +280,7 @@ module _ (words : List ℕ) (n : ℕ) (inside : n < length words) where
     remove_lift (removes.Hides count state) given within = hidden (count_word c given.index) count
     remove_lift (removes.AddsChange state) given within = counted_on (change_word c)
 
+    -- a step of a recovery raises the word by no more than it adds
     recover_lift : (size : ℕ) (stage : RecoverStage) (owner : ℕ) → RecoverWithin c stage
         → LiftsBy (ask_of (recover_asks size c stage owner)) (recover_adds stage)
     recover_lift size recovers.LoadsCounter owner within = counter_op Load
@@ -290,6 +296,7 @@ module _ (words : List ℕ) (n : ℕ) (inside : n < length words) where
     recover_lift size recovers.LoadsCounterAgain owner within = counter_op Load
     recover_lift size (recovers.AddsChange state) owner within = counted_on (change_word c)
 
+    -- a step of a find does not raise the word
     find_keeps : (size : ℕ) (stage : FindStage) → Lifts (ask_of (find_asks size c stage)) 0
     find_keeps size (finds.LoadsCell index found) = loaded (cell_word index)
     find_keeps size (finds.LoadsCount index found) = loaded (count_word c index)
@@ -304,6 +311,7 @@ module _ (words : List ℕ) (n : ℕ) (inside : n < length words) where
     look_keeps size (looks.ChecksCount index count) = checked (count_word c index) count
 
     module _ {T : Type 0} (code : Coding T) where
+      -- a step of an add raises the word by no more than it adds
       add_lift : (stage : AddStage) (given : Owned T) → AddWithin c stage
           → LiftsBy (ask_of (add_asks code.words_of code.size c stage given)) (add_adds stage)
       add_lift (adds.Acquires stage) given within = acquire_keeps stage given.owner within
@@ -313,6 +321,7 @@ module _ (words : List ℕ) (n : ℕ) (inside : n < length words) where
       add_lift (adds.AddsCount index) given within = counted_on (count_word c index)
       add_lift (adds.AddsChange index) given within = counted_on (change_word c)
 
+      -- a step of a replace raises the word by no more than it adds
       replace_lift : (stage : ReplaceStage) (given : Replacement T)
           → LiftsBy (ask_of (replace_asks code.words_of code.size c stage given)) (replace_adds stage)
       replace_lift replaces.Refuses given = omega arith
@@ -323,6 +332,7 @@ module _ (words : List ℕ) (n : ℕ) (inside : n < length words) where
       replace_lift replaces.AddsCount given = counted_on (count_word c given.index)
       replace_lift replaces.AddsChange given = counted_on (change_word c)
 
+  -- a step of any call of a container raises the word by no more than it adds
   pub container_lift : {T : Type 0} (code : Coding T) (c : ℕ) → 1 + c ≤ n → n < 2 + (c + c) → (flight : ContainerFlight T) → IsWithin c flight
       → Lifts (ask_of (want code flight)) (container_adds flight (old_of words (ask_of (want code flight))))
   container_lift code c past before (Add run) within =
@@ -411,6 +421,8 @@ module _ {T : Type 0} where
     Keeps flight old =
         container_adds flight old + lifts_left (after code state flight old) ≤ container_lifts flight + rises (effects code p state flight old)
 
+    -- what a step of an add adds, and what is left to add, is no more than was left before, with the
+    -- rises that the step writes
     add_keeps : (run : _) (stage : AddStage) (old : ℕ) → Keeps (Add (record run { call = record run.call { stage = stage } })) old
     add_keeps run (adds.Hides index count) old =
         let wrote = hidden_writes T p index (old == count) in omega arith
@@ -421,6 +433,8 @@ module _ {T : Type 0} where
         let leads = add_leads r.given r.room (add_after code.size r.call old) in
         omega arith
 
+    -- what a step of a replace adds, and what is left to add, is no more than was left before, with the
+    -- rises that the step writes
     replace_keeps : (run : _) (stage : ReplaceStage) (old : ℕ) → Keeps (Replace (record run { call = record run.call { stage = stage } })) old
     replace_keeps run (replaces.Hides count) old =
         let wrote = hidden_writes T p run.given.index (old == count) in omega arith
@@ -431,6 +445,8 @@ module _ {T : Type 0} where
         let leads = replace_leads r.given r.room (replace_after code.size r.call r.given old) in
         omega arith
 
+    -- what a step of a remove adds, and what is left to add, is no more than was left before, with the
+    -- rises that the step writes
     remove_keeps : (run : _) (stage : RemoveStage) (old : ℕ) → Keeps (Remove (record run { call = record run.call { stage = stage } })) old
     remove_keeps run (removes.Hides count state) old =
         let wrote = hidden_writes T p run.given.index (old == count) in omega arith
@@ -443,6 +459,8 @@ module _ {T : Type 0} where
     recover_keeps : (run : _) (stage : RecoverStage) (old : ℕ) → Keeps (Recover (record run { call = record run.call { stage = stage } })) old
     recover_keeps run stage old = grind arith
 
+    -- what a step of a call adds, and what is left to add, is no more than was left before, with the
+    -- rises that the step writes
     pub keeps : (flight : ContainerFlight T) (old : ℕ) → Keeps flight old
     keeps (Add run) old = add_keeps run run.call.stage old
     keeps (Replace run) old = replace_keeps run run.call.stage old

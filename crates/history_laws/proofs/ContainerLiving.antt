@@ -99,6 +99,8 @@ module _ {T : Type 0} where
       dies o events = grind (arith, fold-append, eq-eqb)
   acts_alive q owner events e acts lives right asks all = refl
 
+  -- where nobody acts for an owner who is gone, nobody does after one more event either, if it
+  -- begins calls and asks rightly, and no owner has died
   one : (events : List (Event T)) (e : Event T) → BeginsRight events e → AsksBy Word events e → AllLive (events ++ e ∷ []) → Living events
       → Living (events ++ e ∷ [])
   one events e right asks all living q owner acts =
@@ -114,6 +116,8 @@ module _ {T : Type 0} where
   all_less : (events es : List (Event T)) → AllLive (events ++ es) → AllLive events
   all_less events es all owner = gone_less Death owner events es (all owner)
 
+  -- where nobody acts for an owner who is gone, nobody does after more events either, if all begin
+  -- calls and ask rightly, and no owner has died
   living_on : (events es : List (Event T)) → Each BeginsRight (events ++ es) → Each (AsksBy Word) (events ++ es) → AllLive (events ++ es)
       → Living events → Living (events ++ es)
   living_on events [] right asks all living = subst Living (sym (append-nil events)) living
@@ -130,6 +134,7 @@ module _ {T : Type 0} where
   -- ---- for whom a call under way is
 
   module _ (code : Coding T) (c z : ℕ) (all : List SetAct) (done : List (Act T)) (events wrote : List (Event T)) where
+    -- a call that is for an owner who is not gone is none for one who is gone
     for_living : (start : ContainerStart T) (flight : ContainerFlight T) → At c z all done start flight
         → ((owner : ℕ) → is_acting owner (Open (Container start) wrote) ≡ true → is_gone Word owner events ≡ false)
         → acts_for_gone Word events flight ≡ false
@@ -141,6 +146,7 @@ module _ {T : Type 0} where
         ap (λ given. is_gone Word given.owner events) at.1 ∙ lives owner (eq-eqb owner owner refl)
     for_living start flight at lives = grind arith
 
+-- t is a sound trace of a container of capacity c
 module _ {T : Type 0} (code : Coding T) (c : ℕ) (t : Trace T) (s : Sound code c t) (living : Living t.events) where
   by_name : (p : ℕ) (all : List SetAct) (done : List (Act T)) (wrote : List (Event T)) (start : Start T) (flight : Flight T)
       → FlightAt c code.size all done start flight → span_of p t.events ≡ Open start wrote → is_for_gone t.events (Some flight) ≡ false

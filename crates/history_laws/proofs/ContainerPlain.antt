@@ -90,6 +90,7 @@ module _ {T : Type 0} where
   by_test true span e one none = own_replaces span e one none
   by_test false span e one none = none
 
+  -- where nothing is freed or replaced, no party is in a replace
   none_replaces : (p : ℕ) (span : Span T) (events : List (Event T)) → removals events ≡ 0 → replaces span ≡ false
       → replaces (fold (span_after p) span events) ≡ false
   none_replaces p span [] none start = start
@@ -105,6 +106,7 @@ module _ {T : Type 0} where
   replaced_right before (Finished p (Container (Replace index value owner)) answer) one = absurd (omega arith)
   replaced_right before e one = tt
 
+  -- a history in which nothing is freed or replaced is well-formed
   pub none_frees : (events : List (Event T)) → removals events ≡ 0 → IsWellFormed events
   none_frees events none =
       record {

@@ -63,6 +63,7 @@ module _ {T : Type 0} where
   abbrev pub word_at : ℕ → Trace T → ℕ
   word_at n t = get_or t.world.words n 0
 
+  -- what two lists of events let the numbers rise is what each of them does
   rises_more : (xs ys : List (Event T)) → rises (xs ++ ys) ≡ rises xs + rises ys
   rises_more xs ys = sum_by-append rise xs ys
 
@@ -83,6 +84,8 @@ module _ {T : Type 0} where
     pub others : (q : ℕ) → q ≢ p → flight_in new.world q ≡ flight_in old.world q
     pub pays : word_at n new + lifts_at new p ≤ word_at n old + lifts_at old p + rises es
 
+  -- the turn of party p leads from old to new and writes es, n is the word; seats counts the
+  -- parties after it
   module _ (n : ℕ) (old new : Trace T) (p : ℕ) (es : List (Event T)) (owes : Owes n old new p es) (r : Raised n old) where
     abbrev seats : ℕ
     seats = r.seats + (p + 1)
@@ -99,6 +102,8 @@ module _ {T : Type 0} where
     beyond : (q : ℕ) → seats ≤ q → flight_in new.world q ≡ None
     beyond q far = owes.others q (λ e. absurd (omega arith)) ∙ r.beyond q (omega arith)
 
+    -- a turn that pays for what it raises leaves the word, with all that calls may still add,
+    -- within what the history lets it rise
     raised_on : Raised n new
     raised_on =
         record {
@@ -121,16 +126,20 @@ module _ {T : Type 0} where
   flight_after (GoOn flight) = Some flight
   flight_after (Done answer) = None
 
+  -- the call that is under way after a step is the one that the step goes on with, if it goes on
   doing_is : (changes since : ℕ) (a : After (Flight T) (Answer T)) → flight_of (Some (doing_after changes since a)) ≡ flight_after a
   doing_is changes since (GoOn flight) = refl
   doing_is changes since (Done answer) = refl
 
+  -- what the step raises, with what its call may still add, is no more than what the call could
+  -- add before and what the step writes of it
   record PaysBy (n : ℕ) (words : List ℕ) (flight : Flight T) (ask : Option Ask) (s : Step (Flight T) (Registry T) T) : Type 0 where
     pub pays : get_or (words_after words ask) n 0 + lifts_of (flight_after s.after) ≤ get_or words n 0 + lifts flight + rises s.wrote
 
   abbrev stepped : Trace T → ℕ → Party T → ℕ → Option Ask → Step (Flight T) (Registry T) T → Trace T
   stepped t p x since ask s = record { world = after_step t.world p x since ask s; events = t.events ++ events_of_step p x.start s }
 
+  -- n is the word, t the trace before a step of party p, whose call x it is
   module _ (n : ℕ) (t : Trace T) (p : ℕ) (x : Party T) (flight : Flight T) (since : ℕ) (ask : Option Ask) (answer : ℕ)
       (found : party_of p t.world.latest ≡ Some x) (doing : x.doing ≡ Going flight since)
       (pays : PaysBy n t.world.words flight ask (step_in t.world p x flight answer)) where
@@ -149,6 +158,7 @@ module _ {T : Type 0} where
     wrote_more : rises s.wrote ≤ rises (events_of_step p x.start s)
     wrote_more = let more = rises_more s.wrote (ending_of p x.start (answer_in s.after)) in omega arith
 
+    -- a step that pays makes a turn that pays
     step_owes : Owes n t new p (events_of_step p x.start s)
     step_owes =
         record {
@@ -167,10 +177,12 @@ module _ {T : Type 0} where
   abbrev begun : Trace T → ℕ → Start T → Option (Flight T) → Trace T
   begun t p start o = record { world = after_begin t.world p start o; events = t.events ++ Begun p start ∷ [] }
 
+  -- n is the word, t the trace before a begin of party p
   module _ (n : ℕ) (t : Trace T) (p : ℕ) (start : Start T) (flight : Flight T) (pays : lifts flight ≤ rise (Begun p start)) where
     begun_is : flight_in (begun t p start (Some flight)).world p ≡ Some flight
     begun_is = ap (λ o. flight_of (doing_of o)) (party_put_same p (party_at_begin start flight t.world.changes) t.world.latest)
 
+    -- a begin pays for all that its call may add
     begin_owes : Owes n t (begun t p start (Some flight)) p (Begun p start ∷ [])
     begin_owes =
         record {
@@ -196,6 +208,7 @@ module _ {T : Type 0} (code : Coding T) (c : ℕ) where
     writes old =
         let more = rises_more (calls.effects code p (state_of p states) flight old) (calls.questions p flight old) in omega arith
 
+    -- a question that a call hears the answer of raises nothing that is not paid for
     decided : (old : ℕ) → PaysBy n words (flights.Container flight) None (any_step p flight old dead states)
     decided old =
         record {
@@ -210,6 +223,7 @@ module _ {T : Type 0} (code : Coding T) (c : ℕ) where
       abbrev wanted : Option Ask
       wanted = ask_of (want code flight)
 
+      -- a step of a container's call pays for what it raises
       stepped_so : PaysBy n words (flights.Container flight) wanted (any_step p flight (old_of words wanted) dead states)
       stepped_so =
           record {
@@ -237,6 +251,8 @@ module _ {T : Type 0} where
 
 -- ---- a turn
 
+-- n is one of the words of changes and of elements' numbers of a sound trace t of a container of
+-- capacity c
 module _ {T : Type 0} (code : Coding T) (c : ℕ) (t : Trace T) (s : Sound code c t) (n : ℕ) (past : 1 + c ≤ n) (before : n < 2 + (c + c)) where
   abbrev ws : List ℕ
   ws = t.world.words
@@ -253,6 +269,7 @@ module _ {T : Type 0} (code : Coding T) (c : ℕ) (t : Trace T) (s : Sound code 
       let same = ap length s.fit.words in
       omega arith
 
+  -- the step of a call of the container that stands where it may pays for what it raises
   pays_in : (p : ℕ) (all : List SetAct) (done : List (Act T)) (start : Start T) (flight : Flight T)
       → FlightAt c code.size all done start flight
       → PaysIn code p (ask_of (want_of code flight)) (old_of ws (ask_of (want_of code flight))) Kept start flight
@@ -273,6 +290,7 @@ module _ {T : Type 0} (code : Coding T) (c : ℕ) (t : Trace T) (s : Sound code 
     at : FlightAt c code.size (set_acts_of p s.state.events) (acts_of p s.state.events) x.start flight
     at = (stands_there (family_by (terms code c) code c) t s p x since flight found doing).at
 
+    -- the step of a party's call under way pays for what it raises
     step_pays : PaysBy n ws flight (ask_of (want_of t.world.coding flight)) (step_in t.world p x flight (old_of ws (ask_of (want_of t.world.coding flight))))
     step_pays =
         subst (λ z. PaysBy n ws flight (ask_of (want_of z flight))
@@ -287,6 +305,8 @@ module _ {T : Type 0} (code : Coding T) (c : ℕ) (t : Trace T) (s : Sound code 
         (decides_in p (number_of said) (set_acts_of p s.state.events) (acts_of p s.state.events) x.start flight at))
 
   module _ (r : Raised n t) where
+    -- with a step that pays, or an answer to a party whose call is over, the word stays within
+    -- what the history lets it rise
     answered : (p : ℕ) (x : Party T) (ask : Option Ask) (answer : ℕ) (doing : Doing T) → party_of p t.world.latest ≡ Some x → x.doing ≡ doing
         → ((flight : Flight T) (since : ℕ) → doing ≡ Going flight since → PaysBy n ws flight ask (step_in t.world p x flight answer))
         → Raised n record { world = after_answer t.world p x ask answer doing; events = t.events ++ events_of_answer t.world p x answer doing }
@@ -294,6 +314,8 @@ module _ {T : Type 0} (code : Coding T) (c : ℕ) (t : Trace T) (s : Sound code 
     answered p x ask answer (Going flight since) found d pays =
         raised_on n t _ p _ (step_owes n t p x flight since ask answer found d (pays flight since refl)) r
 
+    -- with a turn that goes on with a call, or does nothing, the word stays within what the
+    -- history lets it rise
     nexts : (p : ℕ) (o : Option (Party T)) → party_of p t.world.latest ≡ o
         → Raised n record { world = after_next t.world p o; events = t.events ++ events_of_next t.world p o }
     nexts p None found = raised_same n t r
@@ -308,6 +330,7 @@ module _ {T : Type 0} (code : Coding T) (c : ℕ) (t : Trace T) (s : Sound code 
     decides p said (Some x) found =
         answered p x None (number_of said) x.doing found refl (λ flight since d. decision_pays p x flight since found d said)
 
+    -- with a begin the word stays within what the history lets it rise
     begins : (p : ℕ) (start : Start T) (o : Option (Flight T)) → first_of t.world.kind t.world.capacity start t.world.kept ≡ o → Raised n (begun t p start o)
     begins p start None e =
         let more = rises_more t.events (Begun p start ∷ []) in

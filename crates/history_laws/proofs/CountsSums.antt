@@ -21,6 +21,7 @@ module _ {T : Type 0} (code : Coding T) (capacity : ℕ) (events : List (Event T
   machine : IsCountingOn h.trace
   machine = counts_go_on h.trace h.run.of_kind h.run.reached
 
+  -- a place was counted as often as was taken out of it and as it counts now
   pub conserved : (place : ℕ) → counts place events ≡ takes place events + count_at place events
   conserved place =
       let all = machine.conserved place in

@@ -17,6 +17,7 @@ pub data Claim : Type 0 where
   Held : (owner : ℕ) → Claim
   Giving : (owner : ℕ) → Claim
 
+-- i is the index
 module _ (i : ℕ) where
   abbrev pub fill_claim : ℕ → List SetAct → Claim
   fill_claim o (Fills j p ∷ []) = if j == i then Filling o else Apart
@@ -27,6 +28,8 @@ module _ (i : ℕ) where
   give_claim j o [] = if j == i then Giving o else Apart
   give_claim j o all = Apart
 
+  -- what a call claims of the index, by what it has done to the set: an acquire or an add what it
+  -- has filled, a release or a remove what it is to give back
   abbrev pub claim_by : {T : Type 0} → Start T → List SetAct → Claim
   claim_by (Robust (Acquire o)) all = fill_claim o all
   claim_by (Container (containers.Add value o)) all = fill_claim o all
@@ -34,6 +37,7 @@ module _ (i : ℕ) where
   claim_by (Container (containers.Remove j o mode)) all = give_claim j o all
   claim_by start all = Apart
 
+  -- what a party claims of the index by its span: something only while a call is under way
   abbrev pub claim : {T : Type 0} → Span T → Claim
   claim (Open start wrote) = claim_by start (set_acts wrote)
   claim span = Apart
@@ -41,6 +45,8 @@ module _ (i : ℕ) where
 -- ---- what it is for all parties to claim rightly, where these are the index's owner, its holder, for whom it may be given
 -- ---- back, and who may
 
+-- the holder, or for whom the index may be given back, is its owner; a party that claims the index
+-- claims it for its owner, and is who may
 pub record Good (filled holder settled : Option ℕ) (right : Right) (claims : ℕ → Claim) (Began : ℕ → ℕ → Type 0) : Type 0 where
   pub held : (o : ℕ) → holder ≡ Some o → filled ≡ Some o
   pub settles : (o : ℕ) → settled ≡ Some o → (filled ≡ Some o) × (right ≡ Settled o)
@@ -57,6 +63,7 @@ module _ (filled holder settled : Option ℕ) (right : Right) (claims next : ℕ
   pub quiet : ((q : ℕ) → Stays q) → Good filled holder settled right next After
   quiet stays = grind arith
 
+  -- p is the party of the event, o the owner
   module _ (p o : ℕ) (others : (q : ℕ) → q ≢ p → Stays q) where
     stays_or : (q : ℕ) → (q ≡ p) ⊎ Stays q
     stays_or q = ⊎_elim inl (λ ne. inr (others q ne)) (cases_eq q p)

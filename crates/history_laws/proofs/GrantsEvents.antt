@@ -38,6 +38,7 @@ here i j mine = if j == i then mine else Apart
 abbrev Same : Claim → Claim → Type 0
 Same old new = (new ≡ Apart) ⊎ (new ≡ old)
 
+-- an acquire that does to the set what is neither a fill nor a grant claims nothing after that
 fill_more : (i o : ℕ) (all : List SetAct) (one : SetAct) → ((j n : ℕ) → one ≡ Fills j n → ⊥) → ((j n : ℕ) → one ≡ Grants j n → ⊥)
     → fill_claim i o (all ++ one ∷ []) ≡ Apart
 fill_more i o [] one x y = grind arith
@@ -59,6 +60,8 @@ module _ {T : Type 0} (i : ℕ) where
   GaveBack p j o before =
       (claim i (span_of p before) ≡ here i j (Giving o)) × SinceBegin p (λ part since. settled_of j part ≡ Some o) before
 
+  -- what each event says of the claims on the index: a fill, a grant and a free of whose they are,
+  -- and the end of an acquire that its party held the index
   abbrev pub Says : List (Event T) → Event T → Type 0
   Says before (Filled p j o) = claim i (longer (span_of p before) (Filled p j o)) ≡ here i j (Filling o)
   Says before (Granted p j o) =
@@ -101,6 +104,8 @@ module _ {T : Type 0} (i : ℕ) where
         ((claim i span ≡ here i j (Giving o)) × SinceBegin p (λ part since. settled_of j part ≡ Some o) before)
         ⊎ ((q : ℕ) → is_at j (span_of q before) ≡ false)
 
+    -- of a container: who frees an index and may is a remove that was to give it back, begun where
+    -- its owner might, or nobody is at the index
     container_one : (p j o : ℕ) (before : List (Event T)) (span : Span T) → Stands container.promise c (FreedOf p j o) span
         → MayFree p j before span → OneOf p j o before span
     container_one p j o before (Open (Container (containers.Remove k owner mode)) wrote) h may =
@@ -108,6 +113,8 @@ module _ {T : Type 0} (i : ℕ) where
     container_one p j o before (Open (Container (containers.Recover owner mode)) wrote) h may = inr may
     container_one p j o before span h may = absurd h
 
+    -- of a robust set: who frees an index and may is a release that was to give it back, begun
+    -- where its owner might, or nobody is at the index
     robust_one : (p j o : ℕ) (before : List (Event T)) (span : Span T) → Stands robust.promise c (FreedOf p j o) span
         → MayFree p j before span → OneOf p j o before span
     robust_one p j o before (Open (Robust (robusts.Release k owner mode)) wrote) h may =
@@ -131,6 +138,7 @@ module _ {T : Type 0} (i : ℕ) where
         → Stands robust.promise c (Finished p (Container (containers.Add value o)) (Index j)) span → ⊥
     robust_ends_none p j o value span h = grind arith
 
+    -- a container's promise of how calls stand says so of each event
     pub container_says : (before : List (Event T)) (e : Event T) → StandsRight container.promise c before e → Says before e
     container_says before (Filled p j o) h = container_fills p j o (span_of p before) h
     container_says before (Granted p j o) h = container_grants p j o (span_of p before) h
@@ -140,6 +148,7 @@ module _ {T : Type 0} (i : ℕ) where
     container_says before (Finished p (Container (containers.Add value o)) (Index j)) h = container_ends p j o value (span_of p before) h
     container_says before e h = tt
 
+    -- a robust set's promise of how calls stand says so of each event
     pub robust_says : (before : List (Event T)) (e : Event T) → StandsRight robust.promise c before e → Says before e
     robust_says before (Filled p j o) h = robust_fills p j o (span_of p before) h
     robust_says before (Granted p j o) h = robust_grants p j o (span_of p before) h
@@ -270,6 +279,7 @@ module _ {T : Type 0} (i : ℕ) where
     at_here : (j : ℕ) (to c : Claim) → (j == i) ≡ true → c ≡ here i j to → c ≡ to
     at_here j to c same h = h ∙ ap (λ b. if b then to else Apart) same
 
+    -- after a fill, all still claim rightly
     step_fill : (c p j o : ℕ) → SetDoes c events (Filled p j o) → Says events (Filled p j o) → Then (Filled p j o)
     step_fill c p j o does says =
         on_bool (λ b. Good (if b then Some o else filled) holder settled (if b then By p else right)
@@ -284,6 +294,7 @@ module _ {T : Type 0} (i : ℕ) where
         e : Event T
         e = Filled p j o
 
+    -- after a grant, all still claim rightly
     step_grant : (p j o : ℕ) → Says events (Granted p j o) → Then (Granted p j o)
     step_grant p j o says =
         on_bool (λ b. Good filled (if b then Some o else holder) settled right (claims_then (Granted p j o)) (Began (events ++ Granted p j o ∷ []))) (j == i)
@@ -302,6 +313,7 @@ module _ {T : Type 0} (i : ℕ) where
     not_at : (span : Span T) → is_at i span ≡ false → claim i span ≡ Apart
     not_at span none = grind arith
 
+    -- after a free of an index that its party may free, all still claim rightly
     step_free : (p j o : ℕ) → Says events (FreedOf p j o) → FreesRightAt i events (FreedOf p j o) → Then (FreedOf p j o)
     step_free p j o says may =
         on_bool (λ b. Good (if b then None else filled) (if b then None else holder) (if b then None else settled)
@@ -343,6 +355,7 @@ module _ {T : Type 0} (i : ℕ) where
     stays_calm : (e : Event T) → Calm e → (q : ℕ) → StaysBy e q
     stays_calm e calm q = by e (whose e) refl calm
       where
+        -- the party of a calm event claims nothing after it, or what it claimed before
         own : (p : ℕ) (e : Event T) → whose e ≡ Some p → Calm e → StaysBy e p
         own p (Begun r start) is calm = inl (mine_then p (Begun r start) Apart is (begun_apart r start calm))
         own p (Finished r start answer) is calm = inl (mine_then p (Finished r start answer) Apart is (ended_apart (span_of p events) answer))
@@ -355,6 +368,7 @@ module _ {T : Type 0} (i : ℕ) where
         by (Died o) None is calm = inr (refl, went_on (Died o) q tt)
         by e None is calm = absurd (cc)
 
+    -- after any event that is as it is promised, all still claim rightly
     step : (c : ℕ) (e : Event T) → SetDoes c events e → Says events e → FreesRightAt i events e → Then e
     step c (Filled p j o) does says may = step_fill c p j o does says
     step c (Granted p j o) does says may = step_grant p j o says
@@ -374,6 +388,7 @@ module _ {T : Type 0} (i : ℕ) where
     right_now (Granted p j o) says = grant_right p j o says
     right_now e says = tt
 
+    -- after any event that is as it is promised, all claim rightly by the history with it
     good_then : (c : ℕ) (e : Event T) → SetDoes c events e → Says events e → FreesRightAt i events e → GoodAt (events ++ e ∷ [])
     good_then c e does says may =
         let new = step c e does says may in
@@ -400,6 +415,7 @@ module _ {T : Type 0} (i : ℕ) where
 
   -- ---- all events
 
+  -- before the first event all claim rightly, since nobody claims anything
   none_yet : GoodAt []
   none_yet =
       record {
@@ -410,6 +426,7 @@ module _ {T : Type 0} (i : ℕ) where
         giving = λ q o e began. absurd (cc);
       }
 
+  -- where all claim rightly, each grant in the events that follow is of an index that nobody holds
   all_right : (c : ℕ) (events es : List (Event T)) → Each (SetDoes c) (events ++ es) → Each Says (events ++ es) → Each (FreesRightAt i) (events ++ es)
       → GoodAt events → AreRight (GrantsRightAt i) events es
   all_right c events [] does says may g = tt

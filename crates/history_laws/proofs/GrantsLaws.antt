@@ -12,6 +12,8 @@ use Rattle.laws_robust.proofs.OpenRuns as robust
 use Rattle.history_laws.specs.Grants.{IsFreedRight, IsHeldByOne, freeing, times_freed}
 use Rattle.history_laws.proofs.GrantsEvents.{container_held, set_held}
 
+-- in a history of a robust set in which each that freed an index might, it was granted only where
+-- nobody held it
 pub set_grants : (index capacity : ℕ) (events : List (Event ℕ)) → IsHistory one_word kinds.Robust capacity events → IsFreedRight index events
     → IsHeldByOne index events
 set_grants index capacity events h freed =
@@ -19,6 +21,8 @@ set_grants index capacity events h freed =
     subst (IsHeldByOne index) (sym h.is)
     (set_held index h.trace.world.capacity h.trace.events s.holds.good.does s.inv.spans (subst (IsFreedRight index) h.is freed))
 
+-- in a history of a container in which each that freed an index might, it was granted only where
+-- nobody held it
 pub container_grants : {T : Type 0} (index : ℕ) (code : Coding T) (capacity : ℕ) (events : List (Event T)) → IsHistory code kinds.Container capacity events
     → IsFreedRight index events → IsHeldByOne index events
 container_grants index code capacity events h freed =

@@ -55,6 +55,8 @@ module _ {T : Type 0} where
     behind i past (Freed p index) right none = by_bool (index == i) (λ t. rw t refl) (λ t. rw t none)
     behind i past e right none = none
 
+    -- with one event more, the number that is counted from event to event is still that of the
+    -- indices that somebody holds
     counts_on : ((i : ℕ) → c ≤ i → holder_of i before ≡ None) → (tally_of before).held ≡ sum_below (is_held before) c
         → (e : Event T) → HoldsRight c before e → (tally_after (tally_of before) e).held ≡ sum_below (held_then e) c
     counts_on past so (Claimed p index) right =
@@ -85,6 +87,8 @@ module _ {T : Type 0} where
         (λ h rest e at none. fold-append (holder_after i) None h (e ∷ []) ∙ behind c h i past e (each h rest e at) none)
         refl before after is
 
+    -- at each moment the number that is counted from event to event is that of the indices that
+    -- somebody holds
     counted : (before after : List (Event T)) → events ≡ before ++ after → (tally_of before).held ≡ sum_below (is_held before) c
     counted =
         along events (λ h. (tally_of h).held ≡ sum_below (is_held h) c)

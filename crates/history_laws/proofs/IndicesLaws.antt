@@ -82,6 +82,7 @@ module _ {T : Type 0} where
   -- ---- all events
 
   module _ (c : ℕ) (events : List (Event T)) (each : Each (HoldsRight c) events) where
+    -- at each moment at which the set is locked, nobody holds the index
     unheld_there : (i : ℕ) (before after : List (Event T)) → events ≡ before ++ after → is_locked before ≡ true → holder_of i before ≡ None
     unheld_there i before after is =
         along events (λ h. is_locked h ≡ true → holder_of i h ≡ None)
@@ -90,6 +91,7 @@ module _ {T : Type 0} where
         ∙ unheld c i h none e (each h rest e at) (sym (fold-append locked_after false h (e ∷ [])) ∙ shut))
         (λ shut. refl) before after is
 
+    -- since the set was locked, the index was never claimed
     unclaimed_since : (i : ℕ) (before es : List (Event T)) → events ≡ before ++ es → is_locked before ≡ true → sum_by (claims i) es ≡ 0
     unclaimed_since i before [] is shut = refl
     unclaimed_since i before (e ∷ es) is shut =
@@ -99,6 +101,7 @@ module _ {T : Type 0} where
         let sum = sum_by-cons (claims i) e es in
         omega arith
 
+    -- an index was claimed as often as freed, and once more where it has a holder
     adds_up : (i : ℕ) → sum_by (claims i) events ≡ sum_by (frees i) events + held_once i events
     adds_up i =
         along events (λ h. sum_by (claims i) h ≡ sum_by (frees i) h + held_once i h)
@@ -111,6 +114,7 @@ module _ {T : Type 0} where
         omega arith))
         refl events [] (sym (append-nil events))
 
+    -- an index behind the last was never claimed
     none_behind : (i : ℕ) → c ≤ i → sum_by (claims i) events ≡ 0
     none_behind i past =
         along events (λ h. sum_by (claims i) h ≡ 0)
@@ -157,6 +161,7 @@ module _ {T : Type 0} (code : Coding T) (capacity : ℕ) (events : List (Event T
       subst (λ P. IsKeptBy P h.trace) (ap (promise_of {T = T}) h.run.of_kind) (kept_on h.trace h.run.of_kind h.run.reached) in
       subst (Each (StandsRight promise h.trace.world.capacity)) (sym h.is) kept.spans
 
+  -- a call that ends did to the set what it answers
   did_so : (before : List (Event T)) (e : Event T) → StandsRight promise h.trace.world.capacity before e → DidAsAnswered before e
   did_so before (Finished p (Indices start) answer) right =
       let under = open_for (Indices start) (λ wrote. done_by start answer ≡ Some (set_acts wrote)) (span_of p before) right in
@@ -170,6 +175,7 @@ module _ {T : Type 0} (code : Coding T) (capacity : ℕ) (events : List (Event T
       }
   did_so before e right = tt
 
+  -- a history of a unique index set says of itself what each one does
   pub sound : IsSound capacity events
   sound =
       record {

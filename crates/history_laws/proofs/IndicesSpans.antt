@@ -32,6 +32,8 @@ module _ {T : Type 0} (p : ℕ) where
   -- ---- one event more
 
   module _ (events : List (Event T)) (e : Event T) (none : BeginsNone p (e ∷ [])) where
+    -- with an event more that begins no call of the party, its latest call still stands in the
+    -- events
     further : (start : Start T) (wrote : List (Event T)) → IsSince start wrote events → IsSince start (wrote ++ own_of p e) (events ++ e ∷ [])
     further start wrote s =
         record {
@@ -56,6 +58,8 @@ module _ {T : Type 0} (p : ℕ) where
         subst (λ xs. IsSince start xs (events ++ e ∷ [])) (ap (λ xs. wrote ++ xs) mine) (further start wrote s)
     more mine (Ended start answer wrote) s = tt
 
+    -- an event that goes on with a span leaves the call of the party in the events, whether the
+    -- event is its own or not
     writes : ((z : Span T) → own_after z e ≡ longer z e) → (span : Span T) → Tells events span
         → (b : Bool) → is_party p (whose e) ≡ b → Tells (events ++ e ∷ []) (span_after p span e)
     writes longer_so span s true t =
@@ -72,6 +76,7 @@ module _ {T : Type 0} (p : ℕ) where
   over events (Open start wrote) answer = tt
   over events (Ended start first wrote) answer = tt
 
+  -- with any event more, where the party's span is open then, its latest call stands in the events
   one_more : (events : List (Event T)) (e : Event T) (span : Span T) → Tells events span → Tells (events ++ e ∷ []) (span_after p span e)
   one_more events (Begun q start) span s =
       by_bool (q == p)

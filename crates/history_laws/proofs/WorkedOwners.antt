@@ -35,6 +35,7 @@ ran_on capacity turns = run_open turns (opening two_words kinds.Container capaci
 abbrev twice : Trace ℕ
 twice = ran_on 2 (begins 0 (add 5 1) 9 ++ begins 0 (add 6 1) 10)
 
+-- what two adds for owner 1 write, one after the other
 pub twice_events : twice.events
     ≡ Begun 0 (add 5 1)
     ∷ Filled 0 0 1
@@ -72,6 +73,8 @@ taken = begins 0 (add 5 1) 2 ++ (begins 1 (recover 1) 8 ++ begins 2 (add 7 2) 2)
 abbrev both : Trace ℕ
 both = ran_on 1 (taken ++ (nexts 0 2 ++ nexts 2 2))
 
+-- what was written before owner 2 is granted the index: owner 1 was granted it after the recovery
+-- had freed it
 abbrev before_both : List (Event ℕ)
 before_both =
     Begun 0 (add 5 1)
@@ -107,6 +110,7 @@ one_is_at = refl
 abbrev again : Trace ℕ
 again = ran_on 2 (begins 0 (add 5 1) 9 ++ (begins 1 (recover 1) 6 ++ (Decide 1 false ∷ nexts 1 3) ++ begins 0 (add 6 1) 10))
 
+-- what an add for owner 1, a recovery of him that is told no, and another add for him write
 pub again_events : again.events
     ≡ Begun 0 (add 5 1)
     ∷ Filled 0 0 1

@@ -30,7 +30,7 @@ module _ {T : Type 0} where
 
   -- A recovery may free the index where no call is at it. A release or a remove may that was begun where the index
   -- might be given back for its owner.
-  abbrev pub MayFree : ℕ → ℕ → List (Event T) → Span T → Type 0
+  abbrev pub MayFree : (p index : ℕ) → List (Event T) → Span T → Type 0
   MayFree p index before (Open (Robust (Recover mode)) wrote) = (q : ℕ) → is_at index (span_of q before) ≡ false
   MayFree p index before (Open (Container (containers.Recover owner mode)) wrote) =
       (q : ℕ) → is_at index (span_of q before) ≡ false

@@ -88,16 +88,16 @@ module _ {T : Type 0} (K : SetOutline T) where
 
     paid : (p : ℕ) (events : List (Event T)) (words : List ℕ) (since changes backs : ℕ) (flight : Flight T)
         → KnowsFlight (K.Knows p events words since changes backs) flight → backs ≤ changes - since
-    paid p events words since changes backs (flights.Bits flight) h = L.paid p events words since changes backs flight h
-    paid p events words since changes backs flight h = absurd h
+    paid p events words since changes backs (flights.Bits flight) knows_flight = L.paid p events words since changes backs flight knows_flight
+    paid p events words since changes backs flight knows_flight = absurd knows_flight
 
     -- what a call knows it knows after a turn of another party
     still : (q : ℕ) (words : List ℕ) (events : List (Event T)) (turns changes : ℕ) (words' : List ℕ) (es : List (Event T)) (changes' : ℕ)
         → K.Preserves c words events turns changes words' es changes' → BeginsNone q es → (since backs : ℕ) (flight : Flight T)
         → KnowsFlight (K.Knows q events words since changes backs) flight → KnowsFlight (K.Knows q (events ++ es) words' since changes' backs) flight
-    still q words events turns changes words' es changes' preserves none since backs (flights.Bits flight) h =
-        L.still q words events turns changes words' es changes' preserves none since backs flight h
-    still q words events turns changes words' es changes' preserves none since backs flight h = absurd h
+    still q words events turns changes words' es changes' preserves none since backs (flights.Bits flight) knows_flight =
+        L.still q words events turns changes words' es changes' preserves none since backs flight knows_flight
+    still q words events turns changes words' es changes' preserves none since backs flight knows_flight = absurd knows_flight
 
     -- party `p` takes a turn of the run `t`
     module _ (t : Trace T) (s : Sound (family K code c) t) (p : ℕ) where

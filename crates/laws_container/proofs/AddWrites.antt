@@ -355,9 +355,9 @@ module _ {T : Type 0} (adding : Adding T) where
       → AddAt scene.capacity scene.coding.size (all scene) (done scene) owner stage
       → AddKnows scene.coding scene.capacity value owner stage (sees_now scene)
       → scene.steps ≤ add_number scene.capacity scene.coding.size stage scene.backs → StepOf scene (Add value owner) (add_at scene.capacity value owner stage)
-  add_step (adds.Acquires stage) here at k s = acquire_step adding stage here at.1 at.0 k s
-  add_step (adds.LoadsCount i) here at k s = loads_step adding i at.0 k here at.1 s
-  add_step (adds.Hides i count) here at k s = hides_step adding i at.0 k.0 count here at.1 at.2 k.1 s
-  add_step (adds.Stores i word) here at k s = stores_step adding i at.0 k.0 word here at.1 at.2 k.1 s
-  add_step (adds.AddsCount i) here at k s = places_step adding i at.0 k.0 here at.1 k.1 s
-  add_step (adds.AddsChange i) here at k s = ends_step adding i at k.0 here k.1 k.2 s
+  add_step (adds.Acquires stage) here at add_knows s = acquire_step adding stage here at.1 at.0 add_knows s
+  add_step (adds.LoadsCount i) here at add_knows s = loads_step adding i at.0 add_knows here at.1 s
+  add_step (adds.Hides i count) here at add_knows s = hides_step adding i at.0 add_knows.0 count here at.1 at.2 add_knows.1 s
+  add_step (adds.Stores i word) here at add_knows s = stores_step adding i at.0 add_knows.0 word here at.1 at.2 add_knows.1 s
+  add_step (adds.AddsCount i) here at add_knows s = places_step adding i at.0 add_knows.0 here at.1 add_knows.1 s
+  add_step (adds.AddsChange i) here at add_knows s = ends_step adding i at add_knows.0 here add_knows.1 add_knows.2 s

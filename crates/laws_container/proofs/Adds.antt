@@ -156,4 +156,4 @@ module _ {T : Type 0} (adding : Adding T) (stage : AcquireStage)
         → set_knows.Knows c (acquire_at c owner stage) (set_stages.now (of_set scene))
         → steps ≤ acquire_number c stage backs
         → StepOf scene (Add value owner) (add_at c value owner (adds.Acquires stage))
-    acquire_step at k s = held_step (of_set scene) (inv_of_set scene inv) owner fits acts.alive 0 Lead caller stage at k (omega arith)
+    acquire_step at knows s = held_step (of_set scene) (inv_of_set scene inv) owner fits acts.alive 0 Lead caller stage at knows (omega arith)

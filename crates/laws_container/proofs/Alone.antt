@@ -40,7 +40,7 @@ module _ {T : Type 0} where
       )
 
   pub alone_less : (p : ℕ) (events es : List (Event T)) → BeginsNone p es → WasAlone p (events ++ es) → WasAlone p events
-  alone_less p events es none h = (since_then p events es none h).0
+  alone_less p events es none was_alone = (since_then p events es none was_alone).0
 
   -- ---- the others have no call under way
 
@@ -53,11 +53,11 @@ module _ {T : Type 0} where
 
   -- while a call is alone, no other party has one under way
   pub others_shut : (p q : ℕ) (events : List (Event T)) → q ≢ p → WasAlone p events → IsShut (span_of q events)
-  others_shut p q events ne h =
-      let began : span_of q (h.before ++ Begun p h.start ∷ h.since) ≡ span_of q h.before =
-      fold-append (span_after q) Never h.before (Begun p h.start ∷ h.since)
-      ∙ all_stay p q (span_of q h.before) (Begun p h.start ∷ h.since) ne (begun, h.holds.1) in
-      subst IsShut (sym (ap (span_of q) h.is ∙ began)) (h.holds.0 q ne)
+  others_shut p q events ne was_alone =
+      let began : span_of q (was_alone.before ++ Begun p was_alone.start ∷ was_alone.since) ≡ span_of q was_alone.before =
+      fold-append (span_after q) Never was_alone.before (Begun p was_alone.start ∷ was_alone.since)
+      ∙ all_stay p q (span_of q was_alone.before) (Begun p was_alone.start ∷ was_alone.since) ne (begun, was_alone.holds.1) in
+      subst IsShut (sym (ap (span_of q) was_alone.is ∙ began)) (was_alone.holds.0 q ne)
     where
       begun : is_party p (Some p) ≡ true
       begun = eq-eqb p p refl

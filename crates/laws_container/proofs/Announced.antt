@@ -24,9 +24,9 @@ module _ {T : Type 0} where
       ap (announced_of i) (sym (append_assoc part (e ∷ []) es)) ∙ later
 
   none_rest : (p : ℕ) (mid rest : List (Event T)) → BeginsNone p (mid ++ rest) → BeginsNone p rest
-  none_rest p [] rest h = h
-  none_rest p (Begun q s ∷ es) rest h = none_rest p es rest h.1
-  none_rest p (e ∷ es) rest h = none_rest p es rest h
+  none_rest p [] rest begins_none = begins_none
+  none_rest p (Begun q s ∷ es) rest begins_none = none_rest p es rest begins_none.1
+  none_rest p (e ∷ es) rest begins_none = none_rest p es rest begins_none
 
   -- what was announced when a call began, and has stood through it with one value, is announced
   -- now

@@ -81,7 +81,7 @@ module _ {T : Type 0} (shown : Shown T) (terms : Terms) (code : Coding T) (t : T
       pub wrote : Wrote said start flight (number_of said)
 
     waiting : (said : Bool) (start : ContainerStart T) → IsAllowed t.world (Decide p said) → IsIn p (Container start) t → Waiting said start
-    waiting said start r here = grind arith
+    waiting said start allowed here = grind arith
 
     -- ---- a recovery
 

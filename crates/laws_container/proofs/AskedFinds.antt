@@ -59,19 +59,19 @@ module _ {T : Type 0} (shown : Shown T) (terms : Terms) (code : Coding T) (t : T
       -- a turn in which a party's call goes on, and that ends a find, writes nothing before
       -- that end
       by : (q : ℕ) → GoesOn shown terms code c t s may turn q → wrote ≡ []
-      by q g =
+      by q goes_on =
           let state = state_of q s.state.states in
-          let did = effects code q state g.flight g.answer ++ questions q g.flight g.answer in
-          let outcome = answer_in (any_call (after code state g.flight g.answer)) in
-          let whole : did ++ ending_of q (Container g.start) outcome ≡ wrote ++ last ∷ [] = sym g.wrote ∙ e in
+          let did = effects code q state goes_on.flight goes_on.answer ++ questions q goes_on.flight goes_on.answer in
+          let outcome = answer_in (any_call (after code state goes_on.flight goes_on.answer)) in
+          let whole : did ++ ending_of q (Container goes_on.start) outcome ≡ wrote ++ last ∷ [] = sym goes_on.wrote ∙ e in
           let end =
-          ends_last turn q p did (Container g.start) (Container (starts.Find owner)) outcome (Number number) wrote
-          (all_effects turn q g.mine code state g.flight g.answer) whole in
-          let name = container_is g.start (starts.Find owner) end.name in
-          let at = subst (λ a. At c code.size (set_acts_of q t.events) (acts_of q t.events) a g.flight) name g.at in
-          let nothing : did ≡ [] = silent_there q g.answer g.flight at end.done in
-          only_one (Finished q (Container g.start) (Number number)) last wrote
-          (sym (ap (λ es. es ++ ending_of q (Container g.start) outcome) nothing ∙ ap (λ o. ending_of q (Container g.start) o) end.done) ∙ whole)
+          ends_last turn q p did (Container goes_on.start) (Container (starts.Find owner)) outcome (Number number) wrote
+          (all_effects turn q goes_on.mine code state goes_on.flight goes_on.answer) whole in
+          let name = container_is goes_on.start (starts.Find owner) end.name in
+          let at = subst (λ a. At c code.size (set_acts_of q t.events) (acts_of q t.events) a goes_on.flight) name goes_on.at in
+          let nothing : did ≡ [] = silent_there q goes_on.answer goes_on.flight at end.done in
+          only_one (Finished q (Container goes_on.start) (Number number)) last wrote
+          (sym (ap (λ es. es ++ ending_of q (Container goes_on.start) outcome) nothing ∙ ap (λ o. ending_of q (Container goes_on.start) o) end.done) ∙ whole)
 
 module _ {T : Type 0} (shown : Shown T) (terms : Terms) (code : Coding T) (t : Trace T)
     (s : frame.Sound (family_by terms code t.world.capacity) t) (may : MayGoOn terms t) (turn : Turn T)

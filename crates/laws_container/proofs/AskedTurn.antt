@@ -146,23 +146,23 @@ module _ {T : Type 0} (shown : Shown T) (terms : Terms) (code : Coding T) (c : �
   -- a step of a party whose call waits for no decision lets its call go on
   next_by : (q : ℕ) (x : Party T) → party_of q t.world.latest ≡ Some x → is_none (flight_in t.world q) ≡ false
       → is_due t.world.coding (flight_in t.world q) ≡ false → (doing : Doing T) → x.doing ≡ doing → GoesOn (Next q) q
-  next_by q x found some free (Over others) d =
-      let here : flight_in t.world q ≡ None = ap (λ o. flight_of (doing_of o)) found ∙ ap (λ d. flight_of (Some d)) d in
+  next_by q x found some free (Over others) same_doing =
+      let here : flight_in t.world q ≡ None = ap (λ o. flight_of (doing_of o)) found ∙ ap (λ same_doing. flight_of (Some same_doing)) same_doing in
       let none : is_none (flight_in t.world q) ≡ true = ap is_none here in
       absurd (cc)
-  next_by q x found some free (Going flight since) d =
+  next_by q x found some free (Going flight since) same_doing =
       let w = t.world in
-      let here : flight_in w q ≡ Some flight = ap (λ o. flight_of (doing_of o)) found ∙ ap (λ d. flight_of (Some d)) d in
+      let here : flight_in w q ≡ Some flight = ap (λ o. flight_of (doing_of o)) found ∙ ap (λ same_doing. flight_of (Some same_doing)) same_doing in
       let asks_none : is_question (want_of w.coding flight) ≡ false = rw here at free in
       let n = next_number x (Going flight since) in
       let ask = ask_of_doing w.coding (Going flight since) in
-      (went (Next q) q n refl x since found flight d
-      (ap (events_of_next w q) found ∙ ap (λ doing. events_of_answer w q x (next_number x doing) doing) d)
+      (went (Next q) q n refl x since found flight same_doing
+      (ap (events_of_next w q) found ∙ ap (λ doing. events_of_answer w q x (next_number x doing) doing) same_doing)
       (ap (λ o. world_asks (after_next w q o) q) found
-      ∙ (ap (λ doing. world_asks (after_answer w q x (ask_of_doing w.coding doing) (next_number x doing) doing) q) d
+      ∙ (ap (λ doing. world_asks (after_answer w q x (ask_of_doing w.coding doing) (next_number x doing) doing) q) same_doing
       ∙ same_asks w q x since flight n ask))
       (λ p ne. ap (λ o. world_asks (after_next w q o) p) found
-      ∙ (ap (λ doing. world_asks (after_answer w q x (ask_of_doing w.coding doing) (next_number x doing) doing) p) d
+      ∙ (ap (λ doing. world_asks (after_answer w q x (ask_of_doing w.coding doing) (next_number x doing) doing) p) same_doing
       ∙ other_asks w q x since flight n ask p ne))
       (λ due not. absurd (cc))
       (ap (question_in w.coding) here)).on
@@ -188,20 +188,20 @@ module _ {T : Type 0} (shown : Shown T) (terms : Terms) (code : Coding T) (c : �
   -- a decision of a party whose call waits for one lets it go on with that answer
   decision_by : (q : ℕ) (said : Bool) (x : Party T) → party_of q t.world.latest ≡ Some x
       → is_due t.world.coding (flight_in t.world q) ≡ true → (doing : Doing T) → x.doing ≡ doing → IsDecided q said
-  decision_by q said x found due (Over others) d =
-      let here : flight_in t.world q ≡ None = ap (λ o. flight_of (doing_of o)) found ∙ ap (λ d. flight_of (Some d)) d in
+  decision_by q said x found due (Over others) same_doing =
+      let here : flight_in t.world q ≡ None = ap (λ o. flight_of (doing_of o)) found ∙ ap (λ same_doing. flight_of (Some same_doing)) same_doing in
       let none : is_due t.world.coding (flight_in t.world q) ≡ false = ap (is_due t.world.coding) here in
       absurd (cc)
-  decision_by q said x found due (Going flight since) d =
+  decision_by q said x found due (Going flight since) same_doing =
       let w = t.world in
-      let here : flight_in w q ≡ Some flight = ap (λ o. flight_of (doing_of o)) found ∙ ap (λ d. flight_of (Some d)) d in
+      let here : flight_in w q ≡ Some flight = ap (λ o. flight_of (doing_of o)) found ∙ ap (λ same_doing. flight_of (Some same_doing)) same_doing in
       let n = number_of said in
-      let h = went (Decide q said) q n refl x since found flight d
-      (ap (events_of_decision w q said) found ∙ ap (events_of_answer w q x n) d)
+      let h = went (Decide q said) q n refl x since found flight same_doing
+      (ap (events_of_decision w q said) found ∙ ap (events_of_answer w q x n) same_doing)
       (ap (λ o. world_asks (after_decision w q said o) q) found
-      ∙ (ap (λ doing. world_asks (after_answer w q x None n doing) q) d ∙ same_asks w q x since flight n None))
+      ∙ (ap (λ doing. world_asks (after_answer w q x None n doing) q) same_doing ∙ same_asks w q x since flight n None))
       (λ p ne. ap (λ o. world_asks (after_decision w q said o) p) found
-      ∙ (ap (λ doing. world_asks (after_answer w q x None n doing) p) d ∙ other_asks w q x since flight n None p ne))
+      ∙ (ap (λ doing. world_asks (after_answer w q x None n doing) p) same_doing ∙ other_asks w q x since flight n None p ne))
       (λ waits some. ap (Decide q) (is_yes said some))
       (ap (question_in w.coding) here)
       in
@@ -218,10 +218,10 @@ module _ {T : Type 0} (shown : Shown T) (terms : Terms) (code : Coding T) (c : �
 
   -- a decision that is allowed lets the call that waits for it go on with that answer
   pub decided : (q : ℕ) (said : Bool) → IsAllowed t.world (Decide q said) → IsDecided q said
-  decided q said r = by (party_of q t.world.latest) refl
+  decided q said allowed = by (party_of q t.world.latest) refl
     where
       due : is_due t.world.coding (flight_in t.world q) ≡ true
-      due = r
+      due = allowed
 
       -- whatever that party has under way, its call goes on with this answer
       by : (o : Option (Party T)) → party_of q t.world.latest ≡ o → IsDecided q said
@@ -283,16 +283,16 @@ module _ {T : Type 0} (shown : Shown T) (terms : Terms) (code : Coding T) (c : �
 
   -- any turn that is allowed is calm, or lets one party's call go on
   pub any_turn : (turn : Turn T) → IsAllowed t.world turn → IsCalm turn ⊎ IsGoing turn
-  any_turn (Begin q start) r =
+  any_turn (Begin q start) allowed =
       inl
       (record {
         right = (tt, tt);
         ends_none = λ p b answer wrote e. no_end (Begun q start) p b answer wrote (λ h. cc) e;
         asks = begun_asks q start (first_of t.world.kind t.world.capacity start t.world.kept) refl;
       })
-  any_turn (Next q) r = inr (record { party = q; goes = next_goes q r })
-  any_turn (Decide q said) r = inr (record { party = q; goes = (decided q said r).goes })
-  any_turn (Die o) r =
+  any_turn (Next q) allowed = inr (record { party = q; goes = next_goes q allowed })
+  any_turn (Decide q said) allowed = inr (record { party = q; goes = (decided q said allowed).goes })
+  any_turn (Die o) allowed =
       inl
       (record {
         right = (tt, tt);

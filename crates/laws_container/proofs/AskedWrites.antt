@@ -23,8 +23,8 @@ module _ {T : Type 0} (code : Coding T) (c : ℕ) (t : Trace T) (turn : Turn T) 
   All es = AllByRecursion R es
 
   joined : (xs ys : List (Event T)) → All xs → All ys → All (xs ++ ys)
-  joined [] ys h r = r
-  joined (x ∷ xs) ys h r = (h.0, joined xs ys h.1 r)
+  joined [] ys first_all second_all = second_all
+  joined (x ∷ xs) ys first_all second_all = (first_all.0, joined xs ys first_all.1 second_all)
 
   -- ---- any call
 
@@ -38,7 +38,7 @@ module _ {T : Type 0} (code : Coding T) (c : ℕ) (t : Trace T) (turn : Turn T) 
       → At c code.size (set_acts_of q t.events) (acts_of q t.events) start flight → Knows code c flight v
       → question_at (after_turn t turn) q ≡ made code flight old → ByYes flight old
       → All (effects code q state flight old ++ questions q flight old)
-  any_call_right state v same mine start flight old span at k asks told = grind arith
+  any_call_right state v same mine start flight old span at knows asks told = grind arith
 
   end_right : (start : ContainerStart T) (outcome : Option (Answer T)) → All (ending_of q (Container start) outcome)
   end_right start None = tt

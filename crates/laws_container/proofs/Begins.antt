@@ -207,17 +207,17 @@ module _ {T : Type 0} (scene : Scene T)
 
   -- each call knows as it begins what its first stage tells
   knows_first : (start : ContainerStart T) → MayRecover scene.terms.by events start → Knows code c (first c start) (v start)
-  knows_first (starts.Add value owner) r =
+  knows_first (starts.Add value owner) may_recover =
       record { paid = paid (starts.Add value owner); scanned = tt; owns = tt; says = tt; gone = tt }
-  knows_first (starts.Remove index owner mode) r = remove_knows index owner mode (nat_lt index c) refl
-  knows_first (starts.Replace index value owner) r = replaces_know index value owner (nat_lt index c) refl
-  knows_first (starts.Find owner) r =
+  knows_first (starts.Remove index owner mode) may_recover = remove_knows index owner mode (nat_lt index c) refl
+  knows_first (starts.Replace index value owner) may_recover = replaces_know index value owner (nat_lt index c) refl
+  knows_first (starts.Find owner) may_recover =
       let start : ContainerStart T = starts.Find owner in
       let none = count_none p (IsFilledWith owner) (events ++ begun start) in
       (length-replicate {A = ℕ} 128 0, (paid start, none, λ well_formed. record { count = none; copied = λ index less chosen through. absurd (omega arith) }))
-  knows_first (starts.Recover owner mode) r =
+  knows_first (starts.Recover owner mode) may_recover =
       let start : ContainerStart T = starts.Recover owner mode in
-      let dead = gone_then scene.terms.by owner mode r in (
+      let dead = gone_then scene.terms.by owner mode may_recover in (
         length-replicate {A = ℕ} 128 0,
         (
           paid start,
@@ -230,12 +230,12 @@ module _ {T : Type 0} (scene : Scene T)
         ),
         tt,
       )
-  knows_first starts.GetState r = (paid starts.GetState, new_state starts.GetState)
-  knows_first starts.UpdateState r =
+  knows_first starts.GetState may_recover = (paid starts.GetState, new_state starts.GetState)
+  knows_first starts.UpdateState may_recover =
       (paid starts.UpdateState, old_state starts.UpdateState (λ e. cc) (state_of p scene.states) refl)
-  knows_first starts.Len r = record { paid = paid starts.Len; scanned = tt; owns = tt; says = tt; gone = tt }
-  knows_first starts.IsEmpty r = record { paid = paid starts.IsEmpty; scanned = tt; owns = tt; says = tt; gone = tt }
-  knows_first starts.IsLocked r = record { paid = paid starts.IsLocked; scanned = tt; owns = tt; says = tt; gone = tt }
+  knows_first starts.Len may_recover = record { paid = paid starts.Len; scanned = tt; owns = tt; says = tt; gone = tt }
+  knows_first starts.IsEmpty may_recover = record { paid = paid starts.IsEmpty; scanned = tt; owns = tt; says = tt; gone = tt }
+  knows_first starts.IsLocked may_recover = record { paid = paid starts.IsLocked; scanned = tt; owns = tt; says = tt; gone = tt }
 
   pub begins_shown : (start : ContainerStart T) → names_owner start ≡ true → MayRecover scene.terms.by events start → Begins scene start
-  begins_shown start named r = record { does = does start; at = at_first start named; knows = knows_first start r }
+  begins_shown start named may_recover = record { does = does start; at = at_first start named; knows = knows_first start may_recover }

@@ -63,7 +63,7 @@ module _ {T : Type 0} where
   -- `c` is the capacity, and `v` what the party sees
   module _ (code : Coding T) (c : ℕ) (v : View T) where
     pays : (flight : ContainerFlight T) → Knows code c flight v → Pays v
-    pays flight h = grind arith
+    pays flight knows = grind arith
 
   -- no call has taken more steps than are promised, and each turn back is paid by a change
   pub bounds : (code : Coding T) (c : ℕ) → frame.Bounds (family code c)

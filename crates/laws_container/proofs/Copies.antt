@@ -24,19 +24,19 @@ module _ {T : Type 0} (code : Coding T) (c : ℕ) where
       → v'.words ≡ v.words → (Keeps v'.terms → Keeps v.terms) → (WellFormed (now v') → WellFormed (now v))
       → Copying code c index count copy at v
       → Copying code c index count (set copy at (datum_in code c (now v) index at)) (at + 1) v'
-  copying_more v v' index count copy at ats few same kept well_formed h =
+  copying_more v v' index count copy at ats few same kept well_formed copying =
       record {
-        within = h.within;
+        within = copying.within;
         few = omega arith;
-        room = length-set copy at _ ∙ h.room;
-        odd = h.odd;
-        below = λ keeps. let low = h.below (kept keeps) in let eq = count_same in omega arith;
+        room = length-set copy at _ ∙ copying.room;
+        odd = copying.odd;
+        below = λ keeps. let low = copying.below (kept keeps) in let eq = count_same in omega arith;
         same = λ holds is j js.
-            let here = get_or-set_same copy at (datum_in code c (now v) index at) 0 (let room = h.room in omega arith) in
+            let here = get_or-set_same copy at (datum_in code c (now v) index at) 0 (let room = copying.room in omega arith) in
             let there = get_or-set_other copy at j (datum_in code c (now v) index at) 0 in
             let counts = count_same in
             let datum = datum_same j in
-            let was = h.same (well_formed holds) in
+            let was = copying.same (well_formed holds) in
             grind arith;
       }
     where
@@ -53,22 +53,22 @@ module _ {T : Type 0} (code : Coding T) (c : ℕ) where
       → (WellFormed (now v) → IsWhole code c v.words v.events) → Copying code c index count copy code.size v
       → count_in code c (now v) index ≡ count → WellFormed (now v)
       → contents_of index v.events ≡ Some (value_in code.value_of code.size copy)
-  copied_value v index count copy coded whole h is well_formed = by (contents_of index v.events) (whole well_formed index h.within)
+  copied_value v index count copy coded whole copying is well_formed = by (contents_of index v.events) (whole well_formed index copying.within)
     where
       big : nat_lt (length copy) code.size ≡ false
-      big = let room = h.room in let few = coded.few in grind (arith, nat_tests)
+      big = let room = copying.room in let few = coded.few in grind (arith, nat_tests)
 
       -- what stands under that number is the value of the copy
       by : (o : Option T) → Stands code c v.words index o → o ≡ Some (value_in code.value_of code.size copy)
-      by None stands = let odd = h.odd in absurd (omega arith)
+      by None stands = let odd = copying.odd in absurd (omega arith)
       by (Some value) stands =
-          let room = h.room in
+          let room = copying.room in
           let few = coded.few in
           let long : length (take code.size copy) ≡ code.size = length-take-le code.size copy (omega arith) in
           let sized = coded.sized value in
           let words : take code.size copy ≡ code.words_of value =
           ext_get_or 0 (take code.size copy) (code.words_of value) (long ∙ sym sized)
-          (λ j js. get_or-take code.size copy j 0 (omega arith) ∙ (h.same well_formed is j (omega arith) ∙ stands.1 j (omega arith))) in
+          (λ j js. get_or-take code.size copy j 0 (omega arith) ∙ (copying.same well_formed is j (omega arith) ∙ stands.1 j (omega arith))) in
           let value_is : value_in code.value_of code.size copy ≡ value =
           ap (λ b. if b then code.value_of (take code.size (replicate 128 0)) else code.value_of (take code.size copy)) big
           ∙ (ap code.value_of words ∙ coded.given_back value) in

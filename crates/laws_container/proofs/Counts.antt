@@ -167,22 +167,22 @@ module _ {T : Type 0} (scene : Scene T) (inv : Inv scene) where
   pub count_step : (which : CountOf) (count : Counting) → IsHere scene (counts_as which) (count_at which c count)
       → CountAt c count → all scene ≡ [] → Knows code c (count_at which c count) (sees_now scene)
       → steps ≤ count_number c count + backs * (c + 2) → StepOf scene (counts_as which) (count_at which c count)
-  count_step which parts.LoadsCounter here at none k s = counts_move which parts.LoadsCounter here at none k s
-  count_step which (parts.LoadsCell number i filled) here at none k s =
-      counts_move which (parts.LoadsCell number i filled) here at none k s
-  count_step which (parts.ExchangesCounter number filled) here at none k s =
-      counts_move which (parts.ExchangesCounter number filled) here at none k s
+  count_step which parts.LoadsCounter here at none knows s = counts_move which parts.LoadsCounter here at none knows s
+  count_step which (parts.LoadsCell number i filled) here at none knows s =
+      counts_move which (parts.LoadsCell number i filled) here at none knows s
+  count_step which (parts.ExchangesCounter number filled) here at none knows s =
+      counts_move which (parts.ExchangesCounter number filled) here at none knows s
 
   -- the one step of an is_locked ends it
   pub lock_step : IsHere scene starts.IsLocked lock_at → all scene ≡ []
       → Knows code c lock_at (sees_now scene) → steps ≤ 0 → StepOf scene starts.IsLocked lock_at
-  lock_step here none k s =
+  lock_step here none knows s =
       let ask = Some (set_stages.loads 0) in
       let answer = Truth (counter_of ws == locked) in
       let y = party_then scene starts.IsLocked ask false (Done answer) in
       let es = Finished p (Container starts.IsLocked) answer ∷ [] in
       let well_formed = was_well_formed scene starts.IsLocked tt here.span (words_after ws ask) y es (refl, tt) in
-      let paid = k.paid in
+      let paid = knows.paid in
       ends scene starts.IsLocked answer ask false scene.states [] here.span none_lengthens
       (ends_there scene inv starts.IsLocked lock_at tt here y (words_after ws ask)
       (stays_same (of_set scene) (inv_of_set scene inv) (words_after ws ask) (set_stages.loads_same ws 0)) answer

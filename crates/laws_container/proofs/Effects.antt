@@ -222,7 +222,7 @@ module _ {T : Type 0} (scene : Scene T) (inv : Inv scene) (words' : List ℕ) (y
     -- a turn that adds one to the number of an element, as it may be counted, does to the
     -- elements what it may
     pub counts_one : IsCounted → Changes scene words' y es
-    counts_one h =
+    counts_one counted =
         record {
           passes =
               let here = count_here in
@@ -235,17 +235,17 @@ module _ {T : Type 0} (scene : Scene T) (inv : Inv scene) (words' : List ℕ) (y
               grind arith;
           leaves = λ q ne.
               record {
-                under = λ holds a o low lives theirs even. (count_there a (h.under holds q ne a o theirs even), λ j js. datum_all a j);
-                over = λ holds a o low lives theirs. let here = count_here in let ok = h.over holds q ne o in let there = count_there a in grind arith;
+                under = λ holds a o low lives theirs even. (count_there a (counted.under holds q ne a o theirs even), λ j js. datum_all a j);
+                over = λ holds a o low lives theirs. let here = count_here in let ok = counted.over holds q ne o in let there = count_there a in grind arith;
                 placed =
-                    λ holds a o low lives theirs fresh some. let here = h.placed holds q ne o in
-                    let left = h.left a in let same = h.contents a in grind arith;
+                    λ holds a o low lives theirs fresh some. let here = counted.placed holds q ne o in
+                    let left = counted.left a in let same = counted.contents a in grind arith;
                 alone = λ was a low. not_alone q ne was;
               };
           wide = ap length new ∙ length-set ws (count_word c i) _;
           counts = λ kept a low. let here = count_few kept in let few = e.counts kept in let there = count_there a in grind arith;
           change = λ kept. let same = change_same in let few = e.change kept in omega arith;
-          within = λ a v is. let was = e.within a v in let there = h.contents a in grind arith;
-          announced = λ holds a said. let k = h.announced holds a said in ap is_some (h.contents a k.0) ∙ e.announced (well_formed holds) a k.1;
-          whole = h.whole;
+          within = λ a v is. let was = e.within a v in let there = counted.contents a in grind arith;
+          announced = λ holds a said. let k = counted.announced holds a said in ap is_some (counted.contents a k.0) ∙ e.announced (well_formed holds) a k.1;
+          whole = counted.whole;
         }

@@ -157,15 +157,15 @@ module _ {T : Type 0} (finding : Finding T) where
       → Knows code c (find_at c owner room (finds.Asks k found)) v
       → steps ≤ find_number z (finds.Asks k found) → (answer : ℕ)
       → AnswerOf scene (Find owner) (find_at c owner room (finds.Asks k found)) None answer
-  find_decided room k found at here h s answer = go (answer == 0)
+  find_decided room k found at here knows s answer = go (answer == 0)
     where
       -- a find that was told ends, or goes to the next index
       go : (b : Bool) → Leads scene start None false scene.states [] (as_find room (if b then Done found else find_comes_to first (k + 1) found))
       go true = let all_of = times_below c k (z + 3) at.1 in
           let below = at.1 in
-          ends_there finding room (finds.Asks k found) here at.0 None refl (k + 1) found (omega arith) h.1.0.0 (omega arith) h.1.0.1
+          ends_there finding room (finds.Asks k found) here at.0 None refl (k + 1) found (omega arith) knows.1.0.0 (omega arith) knows.1.0.1
       go false =
-          comes_to_next finding room (finds.Asks k found) here at.0 None refl k found at.1 h.1.0.0 (omega arith) at.2 h.1.0.1 h.1.0.2 h.0
+          comes_to_next finding room (finds.Asks k found) here at.0 None refl k found at.1 knows.1.0.0 (omega arith) at.2 knows.1.0.1 knows.1.0.2 knows.0
 
   -- ---- any step
 
@@ -174,8 +174,8 @@ module _ {T : Type 0} (finding : Finding T) where
   pub find_step : (room : buffers.Buffer 128) (stage : FindStage) → FindAt c z (all scene) (done scene) stage
       → IsHere scene (Find owner) (find_at c owner room stage) → Knows code c (find_at c owner room stage) v
       → steps ≤ find_number z stage → StepOf scene (Find owner) (find_at c owner room stage)
-  find_step room (finds.LoadsCell k found) at here h s = cell_step finding room h.0 k found here at h.1 s
-  find_step room (finds.LoadsCount k found) at here h s = count_step finding room h.0 k found here at h.1 s
-  find_step room (finds.LoadsWord k found count word) at here h s = word_step finding room k found count word here at h.1 s
-  find_step room (finds.ChecksCount k found count) at here h s = check_step room k found count here at h.1 s
-  find_step room (finds.Asks k found) at here h s = find_decided room k found at here h s 0
+  find_step room (finds.LoadsCell k found) at here knows s = cell_step finding room knows.0 k found here at knows.1 s
+  find_step room (finds.LoadsCount k found) at here knows s = count_step finding room knows.0 k found here at knows.1 s
+  find_step room (finds.LoadsWord k found count word) at here knows s = word_step finding room k found count word here at knows.1 s
+  find_step room (finds.ChecksCount k found count) at here knows s = check_step room k found count here at knows.1 s
+  find_step room (finds.Asks k found) at here knows s = find_decided room k found at here knows s 0

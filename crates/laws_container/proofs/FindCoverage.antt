@@ -51,7 +51,7 @@ module _ {T : Type 0} (scene : Scene T) (inv : Inv scene) (owner : ℕ) (fits : 
     pub whole : WellFormed (before scene) → IsFoundWhole p owner bound number events
 
   whole_of : (bound number : ℕ) → HasFoundBelow code c owner bound bound number (sees_now scene) → IsFoundWhole p owner bound number events
-  whole_of bound number h = record { count = h.count; copied = λ index less chosen through. h.copied index less chosen through }
+  whole_of bound number found_below = record { count = found_below.count; copied = λ index less chosen through. found_below.copied index less chosen through }
 
   abbrev as_find : buffers.Buffer 128 → After (find_calls.Find T (buffers.Buffer 128)) ℕ → After (Flight T) (Answer T)
   as_find room r = any_call (as_call calls.Find Number (went_on as_it_is owner room r))
@@ -254,10 +254,10 @@ module _ {T : Type 0} (handed : Handed T) where
   wrote_end : (start : ContainerStart T) (flight : ContainerFlight T)
       → Wrote code (kept_now shown terms code c t s) (Container start) (flights.Container flight)
       → IsEnd q p (Container start) (Container (Find owner)) (end_of flight) (Number number)
-  wrote_end start flight e =
+  wrote_end start flight wrote =
       ends_alone turn q p (effects code q (state_of q s.state.states) flight answer ++ questions q flight answer)
       (Container start) (Container (Find owner)) (end_of flight) (Number number)
-      (all_effects turn q mine code (state_of q s.state.states) flight answer) e
+      (all_effects turn q mine code (state_of q s.state.states) flight answer) wrote
 
   -- what is said of an ended find, and where its run was well-formed a turn ago
   pub record Ends (bound : ℕ) : Type 0 where
@@ -272,12 +272,12 @@ module _ {T : Type 0} (handed : Handed T) where
       → IsHere scene (Find owner) flight → (fits : owner < empty)
       → Has scene inv owner fits bound number
       → Ends bound
-  ends_with bound flight is here fits h =
+  ends_with bound flight is here fits has_holds =
       record {
         party = is;
-        count = subst (λ n. IsCount n (IsFilledWith owner) bound number t.events) is h.count;
+        count = subst (λ n. IsCount n (IsFilledWith owner) bound number t.events) is has_holds.count;
         whole = λ y well_formed.
-            subst (λ n. IsFoundWhole n owner bound number t.events) is (h.whole (was_well_formed scene (Find owner) tt here.span s.state.words y
+            subst (λ n. IsFoundWhole n owner bound number t.events) is (has_holds.whole (was_well_formed scene (Find owner) tt here.span s.state.words y
             (Finished p (Container (Find owner)) (Number number) ∷ []) (ap Some (sym is), tt) well_formed));
       }
 
@@ -287,15 +287,15 @@ module _ {T : Type 0} (handed : Handed T) where
       → StandsThere (family_by terms code c) t s q x since start flight → is_question (want_of code flight) ≡ due
       → (due ≡ false → answer ≡ old_of s.state.words (ask_of (want_of code flight)))
       → Wrote code (kept_now shown terms code c t s) start flight → Ends c
-  counted due told (Container start) (flights.Container flight) h asks loads e =
-      let end = wrote_end start flight e in
+  counted due told (Container start) (flights.Container flight) stands_there_holds asks loads wrote =
+      let end = wrote_end start flight wrote in
       let name = find_name start owner end.name in
-      let stands = subst (λ a. StandsThere (family_by terms code c) t s q x since (Container a) (flights.Container flight)) name h in
+      let stands = subst (λ a. StandsThere (family_by terms code c) t s q x since (Container a) (flights.Container flight)) name stands_there_holds in
       let there = is_there shown terms code c t s q x since found (Find owner) flight stands in
       let fits = owner_fits scene inv owner flight there.at in
       ends_with c flight end.party there.here fits (find_tells scene inv owner number due flight there.at fits
       there.here there.knows asks answer loads told end.done)
-  counted due told start flight h asks loads e = absurd h.at
+  counted due told start flight stands_there_holds asks loads wrote = absurd stands_there_holds.at
 
   -- a call that stands there, was told no about an index, and wrote that the find is done, has
   -- counted over the indices up to that one
@@ -303,15 +303,15 @@ module _ {T : Type 0} (handed : Handed T) where
       → StandsThere (family_by terms code c) t s q x since start flight
       → question_in code (Some flight) ≡ Some (index, value) → Wrote code (kept_now shown terms code c t s) start flight
       → Ends (index + 1)
-  stopped index value zero (Container start) (flights.Container flight) h asks e =
-      let end = wrote_end start flight e in
+  stopped index value zero (Container start) (flights.Container flight) stands_there_holds asks wrote =
+      let end = wrote_end start flight wrote in
       let name = find_name start owner end.name in
-      let stands = subst (λ a. StandsThere (family_by terms code c) t s q x since (Container a) (flights.Container flight)) name h in
+      let stands = subst (λ a. StandsThere (family_by terms code c) t s q x since (Container a) (flights.Container flight)) name stands_there_holds in
       let there = is_there shown terms code c t s q x since found (Find owner) flight stands in
       let fits = owner_fits scene inv owner flight there.at in
       ends_with (index + 1) flight end.party there.here fits (find_stops scene inv owner number index value flight there.at fits there.knows asks
       (subst (λ n. answer_in (any_call (after code (state_of q s.state.states) flight n)) ≡ Some (Number number)) zero end.done))
-  stopped index value zero start flight h asks e = absurd h.at
+  stopped index value zero start flight stands_there_holds asks wrote = absurd stands_there_holds.at
 
   own_end : (start : Start T) (flight : Flight T) → StandsThere (family_by terms code c) t s q x since start flight
       → Wrote code (kept_now shown terms code c t s) start flight → q ≡ p
@@ -389,16 +389,17 @@ module _ {T : Type 0} (shown : Shown T) (terms : Terms) (code : Coding T) (c : �
   next_tells : (q : ℕ) → MayGoOn terms t → is_due t.world.coding (flight_in t.world q) ≡ false
       → (o : Option (Party T)) → party_of q t.world.latest ≡ o → Ended (events_of_next t.world q o)
       → Told c (after_next t.world q o).latest
-  next_tells q may free None found e = absurd (cc)
-  next_tells q may free (Some x) found e = go x.doing refl e
+  next_tells q may free None found ended_holds = absurd (cc)
+  next_tells q may free (Some x) found ended_holds = go x.doing refl ended_holds
     where
       go : (doing : Doing T) → x.doing ≡ doing → Ended (events_of_answer t.world q x (old_of t.world.words (ask_of_doing t.world.coding doing)) doing)
           → Told c (after_answer t.world q x (ask_of_doing t.world.coding doing) (old_of t.world.words (ask_of_doing t.world.coding doing)) doing).latest
-      go (Over others) d e = absurd (cc)
-      go (Going flight since) d e =
-          let here : flight_in t.world q ≡ Some flight = ap (λ o. flight_of (doing_of o)) found ∙ ap (λ d. flight_of (Some d)) d in
+      go (Over others) same_doing ended_holds = absurd (cc)
+      go (Going flight since) same_doing ended_holds =
+          let here : flight_in t.world q ≡ Some flight = ap (λ o. flight_of (doing_of o)) found ∙ ap (λ same_doing. flight_of (Some same_doing)) same_doing in
           let h =
-          all_counted (handed q may found since (Next q) refl (old_of t.world.words (ask_of (want_of t.world.coding flight)))) flight d e false
+          all_counted (handed q may found since (Next q) refl (old_of t.world.words (ask_of (want_of t.world.coding flight))))
+          flight same_doing ended_holds false
           (λ told. absurd (cc)) (rw here at free) (λ no. refl) in
           (h.count, h.whole _)
 
@@ -408,24 +409,25 @@ module _ {T : Type 0} (shown : Shown T) (terms : Terms) (code : Coding T) (c : �
       → ◌≢◌ {A = Turn T} (Decide q said) (Decide p false) → (o : Option (Party T)) → party_of q t.world.latest ≡ o
       → Ended (events_of_decision t.world q said o)
       → Told c (after_decision t.world q said o).latest
-  decision_tells q said may due ne None found e = absurd (cc)
-  decision_tells q said may due ne (Some x) found e = go x.doing refl e
+  decision_tells q said may due ne None found ended_holds = absurd (cc)
+  decision_tells q said may due ne (Some x) found ended_holds = go x.doing refl ended_holds
     where
       go : (doing : Doing T) → x.doing ≡ doing → Ended (events_of_answer t.world q x (number_of said) doing)
           → Told c (after_answer t.world q x None (number_of said) doing).latest
-      go (Over others) d e = absurd (cc)
-      go (Going flight since) d e = by said refl
+      go (Over others) same_doing ended_holds = absurd (cc)
+      go (Going flight since) same_doing ended_holds = by said refl
         where
           by : (b : Bool) → said ≡ b → Told c (after_answer t.world q x None (number_of said) (Going flight since)).latest
           by true is =
-              let here : flight_in t.world q ≡ Some flight = ap (λ o. flight_of (doing_of o)) found ∙ ap (λ d. flight_of (Some d)) d in
+              let here : flight_in t.world q ≡ Some flight =
+              ap (λ o. flight_of (doing_of o)) found ∙ ap (λ same_doing. flight_of (Some same_doing)) same_doing in
               let h =
-              all_counted (handed q may found since (Decide q said) refl (number_of said)) flight d e true
+              all_counted (handed q may found since (Decide q said) refl (number_of said)) flight same_doing ended_holds true
               (λ told zero. let one : number_of said ≡ 1 = ap number_of is in absurd (omega arith)) (rw here at due)
               (λ no. absurd (cc)) in
               (h.count, h.whole _)
           by false is =
-              let party = own_party (handed q may found since (Decide q said) refl (number_of said)) flight d e in
+              let party = own_party (handed q may found since (Decide q said) refl (number_of said)) flight same_doing ended_holds in
               absurd (ne (ap (λ n. Decide n said) party ∙ ap (λ b. Decide p b) is))
 
   -- a no to a find about an index, which wrote only that it is done, tells of the indices up to
@@ -433,16 +435,16 @@ module _ {T : Type 0} (shown : Shown T) (terms : Terms) (code : Coding T) (c : �
   stop_tells : (index : ℕ) (value : T) → MayGoOn terms t → (o : Option (Party T)) → party_of p t.world.latest ≡ o
       → question_in t.world.coding (flight_of (doing_of o)) ≡ Some (index, value)
       → Ended (events_of_decision t.world p false o) → Told (index + 1) (after_decision t.world p false o).latest
-  stop_tells index value may None found asks e = absurd (cc)
-  stop_tells index value may (Some x) found asks e = go x.doing refl asks e
+  stop_tells index value may None found asks ended_holds = absurd (cc)
+  stop_tells index value may (Some x) found asks ended_holds = go x.doing refl asks ended_holds
     where
       go : (doing : Doing T) → x.doing ≡ doing
           → question_in t.world.coding (flight_of (Some doing)) ≡ Some (index, value)
           → Ended (events_of_answer t.world p x (number_of false) doing)
           → Told (index + 1) (after_answer t.world p x None (number_of false) doing).latest
-      go (Over others) d asks e = absurd (cc)
-      go (Going flight since) d asks e =
-          let h = all_stopped (handed p may found since (Decide p false) refl (number_of false)) flight d e index value refl asks in
+      go (Over others) same_doing asks ended_holds = absurd (cc)
+      go (Going flight since) same_doing asks ended_holds =
+          let h = all_stopped (handed p may found since (Decide p false) refl (number_of false)) flight same_doing ended_holds index value refl asks in
           (h.count, h.whole _)
 
   -- no decision is due in a step
@@ -453,11 +455,11 @@ module _ {T : Type 0} (shown : Shown T) (terms : Terms) (code : Coding T) (c : �
   -- whole container
   tells : MayGoOn terms t → (turn : Turn T) → IsAllowed t.world turn → Ended (events_of t.world turn)
       → turn ≢ Decide p false → Told c (after_turn t turn).world.latest
-  tells may (Begin q start) r e ne = absurd (cc)
-  tells may (Next q) r e ne = next_tells q may (not_due q r) (party_of q t.world.latest) refl e
-  tells may (Decide q said) r e ne =
-      decision_tells q said may r ne (party_of q t.world.latest) refl e
-  tells may (Die o) r e ne = absurd (cc)
+  tells may (Begin q start) allowed ended_holds ne = absurd (cc)
+  tells may (Next q) allowed ended_holds ne = next_tells q may (not_due q allowed) (party_of q t.world.latest) refl ended_holds
+  tells may (Decide q said) allowed ended_holds ne =
+      decision_tells q said may allowed ne (party_of q t.world.latest) refl ended_holds
+  tells may (Die o) allowed ended_holds ne = absurd (cc)
 
 module _ {T : Type 0} (shown : Shown T) (terms : Terms) (code : Coding T) (t : Trace T)
     (s : frame.Sound (family_by terms code t.world.capacity) t) (may : MayGoOn terms t) (turn : Turn T)

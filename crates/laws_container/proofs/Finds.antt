@@ -41,7 +41,7 @@ all_both P [] ys h k = k
 all_both P (x ∷ xs) ys h k = (h.0, all_both P xs ys h.1 k)
 
 pub below_more : (n m : ℕ) (xs : List ℕ) → n ≤ m → AreBelow n xs → AreBelow m xs
-below_more n m xs few h = all_so (λ i. i < n) (λ i. i < m) xs (λ i less. omega arith) h
+below_more n m xs few are_below = all_so (λ i. i < n) (λ i. i < m) xs (λ i less. omega arith) are_below
 
 module _ {T : Type 0} where
   pub seen_more : (n : ℕ) (all : List (Act T)) (one : Act T) → AreBelow n (seen_in all) → AreBelow n (index_seen one) → AreBelow n (seen_in (all ++ one ∷ []))

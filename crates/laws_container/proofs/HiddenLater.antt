@@ -11,8 +11,8 @@ use Rattle.laws_container.proofs.Turns.{Now, WellFormed, Passes, Leaves}
 module _ {T : Type 0} where
   -- nothing stands there
   pub nothing_is : (o : Option T) → is_some o ≡ false → o ≡ None
-  nothing_is None e = refl
-  nothing_is (Some value) e = absurd (cc)
+  nothing_is None is_some_false = refl
+  nothing_is (Some value) is_some_false = absurd (cc)
 
   -- at this moment nothing stands at an index that has been freed
   pub empty_now : (p owner i index : ℕ) (events : List (Event T)) → IsOneOf (Frees i owner) (set_acts_of p events)

@@ -66,7 +66,7 @@ module _ {T : Type 0} (scene : Scene T) (start : ContainerStart T) (none : NoRep
         (frees_none i (subst (IsOneOf (Frees i owner)) (set_acts_more scene start span es own longer) freed)))
 
     pub hidden_on : HasHidden code c p owner no_index (before scene) → HasHidden code c p owner no_index then_is
-    hidden_on h = hidden_so no_index no_index (λ well_formed i freed but. absurd but) h
+    hidden_on hidden = hidden_so no_index no_index (λ well_formed i freed but. absurd but) hidden
 
     -- over a step that leaves the number and what stands at the index, that index alone is
     -- exempt still
@@ -74,17 +74,17 @@ module _ {T : Type 0} (scene : Scene T) (start : ContainerStart T) (none : NoRep
         → contents_of index (events ++ es) ≡ contents_of index events
         → HasHidden code c p owner (StillStands code c index count (before scene)) (before scene)
         → HasHidden code c p owner (StillStands code c index count then_is) then_is
-    stands_on index count same contents h =
+    stands_on index count same contents hidden =
         hidden_so (StillStands code c index count (before scene)) (StillStands code c index count then_is)
-        (λ well_formed i freed s. inr (s.0, same ∙ s.1, ap is_some contents ∙ s.2)) h
+        (λ well_formed i freed s. inr (s.0, same ∙ s.1, ap is_some contents ∙ s.2)) hidden
 
     -- and after which nothing stands there
     pub hidden_now : (index count : ℕ) → contents_of index (events ++ es) ≡ None
         → HasHidden code c p owner (StillStands code c index count (before scene)) (before scene)
         → HasHidden code c p owner no_index then_is
-    hidden_now index count nothing h =
+    hidden_now index count nothing hidden =
         hidden_so (StillStands code c index count (before scene)) no_index
-        (λ well_formed i freed s. inl (empty_now p owner i index (events ++ es) freed s.0 nothing)) h
+        (λ well_formed i freed s. inl (empty_now p owner i index (events ++ es) freed s.0 nothing)) hidden
 
   -- a number that was covered is so still
   pub covers_on : (words' : List ℕ) (y : Party T) (es : List (Event T)) → AreOwn p es → (index count : ℕ)
@@ -99,10 +99,10 @@ module _ {T : Type 0} (scene : Scene T) (start : ContainerStart T) (none : NoRep
   pub hides_it : (words' : List ℕ) (y : Party T) (index count : ℕ)
       → HasHidden code c p owner (StillStands code c index count (before scene)) (before scene)
       → HasHidden code c p owner no_index (after scene words' y (Hidden p index ∷ []))
-  hides_it words' y index count h =
+  hides_it words' y index count hidden =
       hidden_now words' y (Hidden p index ∷ []) (refl, tt) tt (λ start w. refl)
       (λ i freed. subst (IsOneOf (Frees i owner)) (append-nil (all scene)) freed) index count
-      (fold-append (contents_after index) None events (Hidden p index ∷ []) ∙ at_same index index None (contents_of index events) refl) h
+      (fold-append (contents_after index) None events (Hidden p index ∷ []) ∙ at_same index index None (contents_of index events) refl) hidden
 
   -- ---- it frees an index
 

@@ -37,20 +37,20 @@ total_is = grind arith
 -- it has freed its index
 removed_frees : (T : Type 0) (index owner : ℕ) (mode : ReleaseMode) (state : ReleaseState) (made : List SetAct)
     → HasDone {T = T} (Remove index owner mode) (answers.State state) made [] → IsOneOf (Frees index owner) made
-removed_frees T index owner Default states.Locked made h = absurd h
-removed_frees T index owner Default states.Unlocked made h =
-    subst (IsOneOf (Frees index owner)) (sym h) (record { before = []; after = []; is = refl })
-removed_frees T index owner LockIfLastIndex states.Locked made h =
+removed_frees T index owner Default states.Locked made has_done_holds = absurd has_done_holds
+removed_frees T index owner Default states.Unlocked made has_done_holds =
+    subst (IsOneOf (Frees index owner)) (sym has_done_holds) (record { before = []; after = []; is = refl })
+removed_frees T index owner LockIfLastIndex states.Locked made has_done_holds =
     ⊎_elim (λ e. subst (IsOneOf (Frees index owner)) (sym e) (record { before = []; after = []; is = refl }))
-    (λ e. subst (IsOneOf (Frees index owner)) (sym e) (record { before = []; after = Locks ∷ []; is = refl })) h
-removed_frees T index owner LockIfLastIndex states.Unlocked made h =
-    subst (IsOneOf (Frees index owner)) (sym h) (record { before = []; after = []; is = refl })
+    (λ e. subst (IsOneOf (Frees index owner)) (sym e) (record { before = []; after = Locks ∷ []; is = refl })) has_done_holds
+removed_frees T index owner LockIfLastIndex states.Unlocked made has_done_holds =
+    subst (IsOneOf (Frees index owner)) (sym has_done_holds) (record { before = []; after = []; is = refl })
 
 -- whatever it has done to elements
 removed_done : {T : Type 0} (index owner : ℕ) (mode : ReleaseMode) (state : ReleaseState) (made : List SetAct) (done : List (Act T))
     → HasDone {T = T} (Remove index owner mode) (answers.State state) made []
     → HasDone {T = T} (Remove index owner mode) (answers.State state) made done
-removed_done index owner mode state made acts h = grind arith
+removed_done index owner mode state made acts has_done_holds = grind arith
 
 -- a remove by the party of the scene, for an owner that is not gone
 pub record Removing (T : Type 0) : Type 0 where
@@ -124,14 +124,14 @@ module _ {T : Type 0} (removing : Removing T) where
     says_then : (m : ReleaseMode) (t : ReleaseState) (es : List (Event T)) → BeginsNone p es → (y : Party T)
         → RemoveSays code c index owner m t (sees_now scene)
         → RemoveSays code c index owner m t (then_sees scene hide_it false scene.states y es)
-    says_then m states.Locked es fresh y h = locked_later events es h
-    says_then Default states.Unlocked es fresh y h = tt
-    says_then LockIfLastIndex states.Unlocked es fresh y h = (
-      held_later p IsUnlocked events es fresh h.0,
+    says_then m states.Locked es fresh y remove_says = locked_later events es remove_says
+    says_then Default states.Unlocked es fresh y remove_says = tt
+    says_then LockIfLastIndex states.Unlocked es fresh y remove_says = (
+      held_later p IsUnlocked events es fresh remove_says.0,
       ⊎_elim (λ end. inl (worn_on scene.terms.by ws (words_after ws hide_it) counter_stays end))
           (λ (found : FilledSinceFreed p owner index events). inr
           (record { other = found.other; once = held_later p _ events es fresh found.once }))
-          h.1,
+          remove_says.1,
     )
 
     -- the step in which a remove hides what stands at its index shows what it has to, whether

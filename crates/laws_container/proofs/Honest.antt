@@ -57,7 +57,7 @@ module _ {T : Type 0} (p : ℕ) where
   effect_own e its = grind arith
 
   stand_by : (c : ℕ) (e : Event T) → IsEffectOf (Next p) e → (span : Span T) → Stands promise c e span → may_stand e span
-  stand_by c e its span h = grind arith
+  stand_by c e its span stands = grind arith
 
   longer_by : (start : Start T) (e : Event T) → IsEffectOf (Next p) e → (wrote : List (Event T)) → own_after (Open start wrote) e ≡ Open start (wrote ++ e ∷ [])
   longer_by start e its wrote = grind arith
@@ -185,12 +185,12 @@ module _ {T : Type 0} (terms : Terms) (code : Coding T) (c : ℕ) (t : Trace T) 
   same = subst IsHonest (sym (append-nil t.events)) honest
 
   by_steps : (flight : Flight T) → is_for_gone t.events (Some flight) ≡ false → Minds flight
-  by_steps (flights.Container flight) h = inl h
-  by_steps flight h = tt
+  by_steps (flights.Container flight) is_for_gone_false = inl is_for_gone_false
+  by_steps flight is_for_gone_false = tt
 
   by_question : (flight : Flight T) → is_question (want_of t.world.coding flight) ≡ true → Minds flight
-  by_question (flights.Container flight) h = inr h
-  by_question flight h = tt
+  by_question (flights.Container flight) is_question_true = inr is_question_true
+  by_question flight is_question_true = tt
 
   flies : (p : ℕ) (x : Party T) (flight : Flight T) (since : ℕ) → party_of p t.world.latest ≡ Some x → x.doing ≡ Going flight since
       → flight_in t.world p ≡ Some flight
@@ -204,10 +204,10 @@ module _ {T : Type 0} (terms : Terms) (code : Coding T) (c : ℕ) (t : Trace T) 
     where
       go : (doing : Doing T) → x.doing ≡ doing → Spans (events_of_answer t.world p x (old doing) doing)
           → Honest (events_of_answer t.world p x (old doing) doing)
-      go (Over others) d spans = same
-      go (Going flight since) d spans =
-          went p (old (Going flight since)) x since flight e d
-          (by_steps flight (subst (λ o. is_for_gone t.events o ≡ false) (flies p x flight since e d) steps)) spans
+      go (Over others) same_doing spans = same
+      go (Going flight since) same_doing spans =
+          went p (old (Going flight since)) x since flight e same_doing
+          (by_steps flight (subst (λ o. is_for_gone t.events o ≡ false) (flies p x flight since e same_doing) steps)) spans
 
   -- a decision leaves the run honest
   decision_honest : (p : ℕ) (said : Bool) → is_due t.world.coding (flight_in t.world p) ≡ true → (o : Option (Party T)) → party_of p t.world.latest ≡ o
@@ -217,9 +217,11 @@ module _ {T : Type 0} (terms : Terms) (code : Coding T) (c : ℕ) (t : Trace T) 
     where
       go : (doing : Doing T) → x.doing ≡ doing → Spans (events_of_answer t.world p x (number_of said) doing)
           → Honest (events_of_answer t.world p x (number_of said) doing)
-      go (Over others) d spans = same
-      go (Going flight since) d spans =
-          went p (number_of said) x since flight e d (by_question flight (subst (λ o. is_due t.world.coding o ≡ true) (flies p x flight since e d) due)) spans
+      go (Over others) same_doing spans = same
+      go (Going flight since) same_doing spans =
+          went p (number_of said) x since flight e same_doing
+          (by_question flight (subst (λ o. is_due t.world.coding o ≡ true) (flies p x flight since e same_doing) due))
+          spans
 
   -- a turn that an open run does not refuse, and that takes no step for one who is gone, leaves
   -- the run honest

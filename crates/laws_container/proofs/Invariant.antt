@@ -296,7 +296,7 @@ module _ {T : Type 0} (scene : Scene T) where
       → (since backs : ℕ) (flight : Flight T)
       → Knowing code c flight (view scene.terms scene.words scene.states latest events q since scene.changes backs)
       → Knowing code c flight (view scene.terms words' states' (put p y latest) (events ++ es) q since changes' backs)
-  any_knows words' states' y es changes' does seen q ne since backs (flights.Container flight) h =
+  any_knows words' states' y es changes' does seen q ne since backs (flights.Container flight) knowing =
       still_knows code c (view scene.terms scene.words scene.states latest events q since scene.changes backs)
       (record {
         words_then = words';
@@ -313,12 +313,12 @@ module _ {T : Type 0} (scene : Scene T) where
         same_party = party_put_other q p y latest ne;
         same_state = does.others q ne;
       })
-      flight h
-  any_knows words' states' y es changes' does seen q ne since backs flight h = absurd h
+      flight knowing
+  any_knows words' states' y es changes' does seen q ne since backs flight knowing = absurd knowing
 
   pub at_written : (c z : ℕ) (w w' : List (Event T)) (start : Start T) (flight : Flight T) → w' ≡ w
       → FlightAt c z (set_acts w) (acts w) start flight → FlightAt c z (set_acts w') (acts w') start flight
-  at_written c z w w' start flight same h = subst (λ x. FlightAt c z (set_acts x) (acts x) start flight) (sym same) h
+  at_written c z w w' start flight same flight_at_holds = subst (λ x. FlightAt c z (set_acts x) (acts x) start flight) (sym same) flight_at_holds
 
   module _ (words' : List ℕ) (states' : List (ℕ × ContainerState T)) (from : Span T) (y : Party T)
       (es : List (Event T)) (changes' : ℕ) (s : Shows words' states' from y es changes') (old : ContainerNow T)

@@ -43,15 +43,15 @@ module _ {T : Type 0} (shown : Shown T) (code : Coding T) (c : ℕ) where
   -- a turn that the rows allow tells all that the promise says
   tells_all : (t : Trace T) (turn : Turn T) → refusal_of t.world turn ≡ None
       → frame.Sound (family code c) t → promise.tells t turn (after_turn t turn)
-  tells_all t turn e s = here (subst (λ n. frame.Sound (family code n) t) (sym s.capacity) s)
+  tells_all t turn e sound = here (subst (λ n. frame.Sound (family code n) t) (sym sound.capacity) sound)
     where
       -- by the machine's own capacity it does
       here : frame.Sound (family code t.world.capacity) t → promise.tells t turn (after_turn t turn)
-      here h =
+      here sound =
           let passed = passes t.world turn e in
           let new : Trace T = after_turn t turn in
           let tells =
-          tells_if shown dying code t h (may_go_on dying code t.world.capacity t h passed.turns) turn
+          tells_if shown dying code t sound (may_go_on dying code t.world.capacity t sound passed.turns) turn
           (allowed_by t.world turn passed.on) (IsWellFormedRun new)
           (λ well_formed. well_formed_so_far new well_formed) in
           record {

@@ -96,16 +96,16 @@ module _ {T : Type 0} (code : Coding T) (c : ℕ) (v : View T) (turn : OthersTur
   events = v.events
 
   pub paid : IsPaid v → IsPaid later
-  paid h = ⊎_elim (λ s. let same = s.1 in omega arith) (λ more. omega arith) seen
+  paid is_paid = ⊎_elim (λ s. let same = s.1 in omega arith) (λ more. omega arith) seen
 
   pub check_paid : (index count : ℕ) → CheckPaid code c index count v → CheckPaid code c index count later
-  check_paid index count h = grind arith
+  check_paid index count check_paid_holds = grind arith
 
   lives : (owner : ℕ) → Lives owner later → Lives owner v
   lives owner alive = gone_less v.terms.by owner events es alive
 
   pub set_knows : (flight : _) → set.Knows c flight (of_set v) → set.Knows c flight (of_set later)
-  set_knows flight h = knows_later v.terms.by v.words words' events es q v.since v.changes changes' v.backs goes spares seen c flight h
+  set_knows flight knows = knows_later v.terms.by v.words words' events es q v.since v.changes changes' v.backs goes spares seen c flight knows
 
   pub once : (P : List (Event T) → Type 0) → HeldSometime q P events → HeldSometime q P (events ++ es)
   once P h = held_later q P events es spares.none h
@@ -126,7 +126,7 @@ module _ {T : Type 0} (code : Coding T) (c : ℕ) (v : View T) (turn : OthersTur
   found = grind arith
 
   replace_owns : (index owner : ℕ) → ReplaceOwns v.terms.by q index owner events → ReplaceOwns v.terms.by q index owner (events ++ es)
-  replace_owns index owner h = replace_later v.terms.by events es q index owner spares h
+  replace_owns index owner replace_owns_holds = replace_later v.terms.by events es q index owner spares replace_owns_holds
 
   -- a replace that has found its owner knows so after another party's turn
   replace_knows : (index owner : ℕ) (value : T) → ReplaceKnows c index owner value v → ReplaceKnows c index owner value later
@@ -154,7 +154,7 @@ module _ {T : Type 0} (code : Coding T) (c : ℕ) (v : View T) (turn : OthersTur
 
   writes : (owner index : ℕ) (value : T) (k : ℕ) → index < c → IsTheWriter owner index
       → Writes code c owner index value k v → Writes code c owner index value k later
-  writes owner index value k below writer h = let by_lives = lives in grind arith
+  writes owner index value k below writer writes_holds = let by_lives = lives in grind arith
 
   placed : (index : ℕ) (value : T) → HasPlaced code c index value v → HasPlaced code c index value later
   placed index value h well_formed = ap (λ a. places a) acts_same ∙ h (passes.well_formed well_formed)
@@ -164,31 +164,50 @@ module _ {T : Type 0} (code : Coding T) (c : ℕ) (v : View T) (turn : OthersTur
 
   -- an add at any stage knows after another party's turn what it knew
   pub add_knows : (value : T) (owner : ℕ) (stage : AddStage) → AddKnows code c value owner stage v → AddKnows code c value owner stage later
-  add_knows value owner (adds.Acquires stage) h = set_knows (acquire_at c owner stage) h
-  add_knows value owner (adds.LoadsCount index) h = add_owns owner index h
-  add_knows value owner (adds.Hides index count) h =
-      (add_owns owner index h.0, covers owner index count h.0.within (adds_write owner index h.0) h.1)
-  add_knows value owner (adds.Stores index at) h =
-      (add_owns owner index h.0, writes owner index value at h.0.within (adds_write owner index h.0) h.1)
-  add_knows value owner (adds.AddsCount index) h =
-      (add_owns owner index h.0, writes owner index value code.size h.0.within (adds_write owner index h.0) h.1)
-  add_knows value owner (adds.AddsChange index) h =
-      (add_owns owner index h.0, placed index value h.1, stood owner index h.0.within (adds_write owner index h.0) h.2)
+  add_knows value owner (adds.Acquires stage) add_knows_holds = set_knows (acquire_at c owner stage) add_knows_holds
+  add_knows value owner (adds.LoadsCount index) add_knows_holds = add_owns owner index add_knows_holds
+  add_knows value owner (adds.Hides index count) add_knows_holds =
+      (add_owns owner index add_knows_holds.0, covers owner index count add_knows_holds.0.within (adds_write owner index add_knows_holds.0) add_knows_holds.1)
+  add_knows value owner (adds.Stores index at) add_knows_holds = (
+    add_owns owner index add_knows_holds.0,
+    writes owner index value at add_knows_holds.0.within (adds_write owner index add_knows_holds.0) add_knows_holds.1,
+  )
+  add_knows value owner (adds.AddsCount index) add_knows_holds = (
+    add_owns owner index add_knows_holds.0,
+    writes owner index value code.size add_knows_holds.0.within (adds_write owner index add_knows_holds.0) add_knows_holds.1,
+  )
+  add_knows value owner (adds.AddsChange index) add_knows_holds = (
+    add_owns owner index add_knows_holds.0,
+    placed index value add_knows_holds.1,
+    stood owner index add_knows_holds.0.within (adds_write owner index add_knows_holds.0) add_knows_holds.2,
+  )
 
   -- a replace at any stage knows after another party's turn what it knew
   pub replaces_know : (index : ℕ) (value : T) (owner : ℕ) (stage : ReplaceStage)
       → ReplacesKnow code c index value owner stage v → ReplacesKnow code c index value owner stage later
-  replaces_know index value owner replaces.Refuses h = paid h
-  replaces_know index value owner replaces.LoadsCell h = (paid h.0, replace_owns index owner h.1)
-  replaces_know index value owner replaces.LoadsCount h = replace_knows index owner value h
-  replaces_know index value owner (replaces.Hides count) h =
-      (replace_knows index owner value h.0, covers owner index count h.0.within (replaces_write owner index value h.0) h.1)
-  replaces_know index value owner (replaces.Stores at) h =
-      (replace_knows index owner value h.0, writes owner index value at h.0.within (replaces_write owner index value h.0) h.1)
-  replaces_know index value owner replaces.AddsCount h =
-      (replace_knows index owner value h.0, writes owner index value code.size h.0.within (replaces_write owner index value h.0) h.1)
-  replaces_know index value owner replaces.AddsChange h =
-      (replace_knows index owner value h.0, placed index value h.1, stood owner index h.0.within (replaces_write owner index value h.0) h.2)
+  replaces_know index value owner replaces.Refuses replaces_know_holds = paid replaces_know_holds
+  replaces_know index value owner replaces.LoadsCell replaces_know_holds = (paid replaces_know_holds.0, replace_owns index owner replaces_know_holds.1)
+  replaces_know index value owner replaces.LoadsCount replaces_know_holds = replace_knows index owner value replaces_know_holds
+  replaces_know index value owner (replaces.Hides count) replaces_know_holds = (
+    replace_knows index owner value replaces_know_holds.0,
+    covers owner index count replaces_know_holds.0.within (replaces_write owner index value replaces_know_holds.0)
+        replaces_know_holds.1,
+  )
+  replaces_know index value owner (replaces.Stores at) replaces_know_holds = (
+    replace_knows index owner value replaces_know_holds.0,
+    writes owner index value at replaces_know_holds.0.within
+        (replaces_write owner index value replaces_know_holds.0) replaces_know_holds.1,
+  )
+  replaces_know index value owner replaces.AddsCount replaces_know_holds = (
+    replace_knows index owner value replaces_know_holds.0,
+    writes owner index value code.size replaces_know_holds.0.within
+        (replaces_write owner index value replaces_know_holds.0) replaces_know_holds.1,
+  )
+  replaces_know index value owner replaces.AddsChange replaces_know_holds = (
+    replace_knows index owner value replaces_know_holds.0,
+    placed index value replaces_know_holds.1,
+    stood owner index replaces_know_holds.0.within (replaces_write owner index value replaces_know_holds.0) replaces_know_holds.2,
+  )
 
   -- ---- a remove
 
@@ -209,35 +228,35 @@ module _ {T : Type 0} (code : Coding T) (c : ℕ) (v : View T) (turn : OthersTur
   -- a number that is there still was there before
   was_there : (index count : ℕ) → index < c → HasCome code c index count v → Keeps v.terms
       → count_in code c (now later) index ≡ count → count_in code c (now v) index ≡ count
-  was_there index count low h kept is = grind arith
+  was_there index count low come kept is = grind arith
 
   pub has_left : (index count : ℕ) → HasLeft code c index count v → HasLeft code c index count later
-  has_left index count h = grind arith
+  has_left index count left = grind arith
 
   release_left : (index count : ℕ) (stage : ReleaseStage) → ReleaseLeft code c index count stage v → ReleaseLeft code c index count stage later
-  release_left index count stage h = grind arith
+  release_left index count stage release_left_holds = grind arith
 
   -- what a release in a remove knows of the element that stood there is so after another
   -- party's turn
   release_hides : (index owner : ℕ) (mode : ReleaseMode) (count : ℕ) (stage : ReleaseStage)
       → set.Knows c (release_at c index owner mode stage) (of_set v) → ReleaseLeft code c index count stage v
       → ReleaseHides code c index owner count stage v → ReleaseHides code c index owner count stage later
-  release_hides index owner mode count releases.EmptiesCell k left h =
-      remove_covers code c q owner index count (now v) words' latest' es goes spares passes leaves left.0 k.owns h
-  release_hides index owner mode count (releases.Raises raise) k left h =
-      hidden_stands code c q owner index count (now v) words' latest' es goes spares passes leaves left.within h
-  release_hides index owner mode count (releases.Locks lock) k left h =
-      hidden_stands code c q owner index count (now v) words' latest' es goes spares passes leaves left.within h
+  release_hides index owner mode count releases.EmptiesCell knows left release_hides_holds =
+      remove_covers code c q owner index count (now v) words' latest' es goes spares passes leaves left.0 knows.owns release_hides_holds
+  release_hides index owner mode count (releases.Raises raise) knows left release_hides_holds =
+      hidden_stands code c q owner index count (now v) words' latest' es goes spares passes leaves left.within release_hides_holds
+  release_hides index owner mode count (releases.Locks lock) knows left release_hides_holds =
+      hidden_stands code c q owner index count (now v) words' latest' es goes spares passes leaves left.within release_hides_holds
 
   -- a remove at any stage knows after another party's turn what it knew
   pub remove_knows : (index owner : ℕ) (mode : ReleaseMode) (stage : RemoveStage)
       → RemoveKnows code c index owner mode stage v → RemoveKnows code c index owner mode stage later
-  remove_knows index owner mode removes.Refuses h = paid h
-  remove_knows index owner mode removes.LoadsCount h = set_knows (release_at c index owner mode releases.EmptiesCell) h
-  remove_knows index owner mode (removes.Releases count stage) h = (
-    set_knows (release_at c index owner mode stage) h.0,
-    release_left index count stage h.1,
-    release_hides index owner mode count stage h.0 h.1 h.2,
+  remove_knows index owner mode removes.Refuses remove_knows_holds = paid remove_knows_holds
+  remove_knows index owner mode removes.LoadsCount remove_knows_holds = set_knows (release_at c index owner mode releases.EmptiesCell) remove_knows_holds
+  remove_knows index owner mode (removes.Releases count stage) remove_knows_holds = (
+    set_knows (release_at c index owner mode stage) remove_knows_holds.0,
+    release_left index count stage remove_knows_holds.1,
+    release_hides index owner mode count stage remove_knows_holds.0 remove_knows_holds.1 remove_knows_holds.2,
   )
   remove_knows index owner mode (removes.Hides count state) h = (
     paid h.0,
@@ -254,24 +273,24 @@ module _ {T : Type 0} (code : Coding T) (c : ℕ) (v : View T) (turn : OthersTur
   copying = grind (arith, count_below, was_there)
 
   pub has_copied : (index : ℕ) (room : buffers.Buffer 128) → HasCopied code c index room v → HasCopied code c index room later
-  has_copied index room h = subst (IsLatest (Copies index (read_in code room))) (sym acts_same) h
+  has_copied index room copied = subst (IsLatest (Copies index (read_in code room))) (sym acts_same) copied
 
   through_before : (i : ℕ) → StoodThere q i (events ++ es) → StoodThere q i events
   through_before i through = through_less q (λ part. is_some (contents_of i part) ≡ true) events es spares.none through
 
   -- the indices that a find has counted, and copied, are so after another party's turn
   found_below : (owner bound k number : ℕ) → HasFoundBelow code c owner bound k number v → HasFoundBelow code c owner bound k number later
-  found_below owner bound k number h =
+  found_below owner bound k number has_found_below =
       record {
         count =
             record {
-              chosen = h.count.chosen;
-              is = h.count.is;
-              once = λ i below chosen. once (IsFilledWith owner i) (h.count.once i below chosen);
-              through = λ i below through. h.count.through i below (through_less q (IsFilledWith owner i) events es spares.none through);
+              chosen = has_found_below.count.chosen;
+              is = has_found_below.count.is;
+              once = λ i below chosen. once (IsFilledWith owner i) (has_found_below.count.once i below chosen);
+              through = λ i below through. has_found_below.count.through i below (through_less q (IsFilledWith owner i) events es spares.none through);
             };
         copied = λ i less chosen through.
-            let had = h.copied i less chosen (through_before i through) in
+            let had = has_found_below.copied i less chosen (through_before i through) in
             (had.0, subst (IsOneOf _) (sym acts_same) had.1);
       }
 
@@ -283,13 +302,14 @@ module _ {T : Type 0} (code : Coding T) (c : ℕ) (v : View T) (turn : OthersTur
 
   -- a find at any stage knows after another party's turn what it knew
   pub find_knows : (owner : ℕ) (room : buffers.Buffer 128) (stage : FindStage) → FindKnows code c owner room stage v → FindKnows code c owner room stage later
-  find_knows owner room (finds.LoadsCell index number) h = finds_on owner index index number h
-  find_knows owner room (finds.LoadsCount index number) h = (finds_on owner (index + 1) index number h.0, once (IsFilledWith owner index) h.1)
-  find_knows owner room (finds.LoadsWord index number count at) h = (
-    finds_on owner (index + 1) index number h.0,
-    steady index count h.2.within h.1,
-    copying index count room.words at h.2,
-    once (IsFilledWith owner index) h.3,
+  find_knows owner room (finds.LoadsCell index number) find_knows_holds = finds_on owner index index number find_knows_holds
+  find_knows owner room (finds.LoadsCount index number) find_knows_holds =
+      (finds_on owner (index + 1) index number find_knows_holds.0, once (IsFilledWith owner index) find_knows_holds.1)
+  find_knows owner room (finds.LoadsWord index number count at) find_knows_holds = (
+    finds_on owner (index + 1) index number find_knows_holds.0,
+    steady index count find_knows_holds.2.within find_knows_holds.1,
+    copying index count room.words at find_knows_holds.2,
+    once (IsFilledWith owner index) find_knows_holds.3,
   )
   find_knows owner room (finds.ChecksCount index number count) h = (
     finds_on owner (index + 1) index number h.0,

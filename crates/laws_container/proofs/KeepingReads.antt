@@ -85,39 +85,42 @@ module _ {T : Type 0} (code : Coding T) (c : ℕ) (v : View T) (turn : OthersTur
   recovers_then : (owner k : ℕ) (Here But But' : ℕ → Type 0)
       → (HasHidden code c q owner But (now v) → HasHidden code c q owner But' (now later))
       → Recovers code c owner k Here But v → Recovers code c owner k Here But' later
-  recovers_then owner k Here But But' stays h =
+  recovers_then owner k Here But But' stays recovers_holds =
       record {
-        dead = still_gone owner h.dead;
-        was_open = once code c v turn IsUnlocked h.was_open;
-        asked = asked_below owner k h.asked;
-        gone = gone_but owner Here h.dead h.gone;
-        hidden = stays h.hidden;
+        dead = still_gone owner recovers_holds.dead;
+        was_open = once code c v turn IsUnlocked recovers_holds.was_open;
+        asked = asked_below owner k recovers_holds.asked;
+        gone = gone_but owner Here recovers_holds.dead recovers_holds.gone;
+        hidden = stays recovers_holds.hidden;
       }
 
   recovers_on : (owner k : ℕ) (Here : ℕ → Type 0) → Recovers code c owner k Here no_index v → Recovers code c owner k Here no_index later
-  recovers_on owner k Here h =
-      recovers_then owner k Here no_index no_index (λ g. hidden_later code c q owner no_index (now v) words' latest' es spares passes g) h
+  recovers_on owner k Here recovers_holds =
+      recovers_then owner k Here no_index no_index (λ g. hidden_later code c q owner no_index (now v) words' latest' es spares passes g) recovers_holds
 
   covers_on : (owner index count : ℕ) → index < c → IsGone owner v → RecoverCovers code c owner index count (now v)
       → RecoverCovers code c owner index count (now later)
-  covers_on owner index count below dead h = recover_covers code c q owner index count (now v) words' latest' es goes spares passes leaves below dead h
+  covers_on owner index count below dead recover_covers_holds =
+      recover_covers code c q owner index count (now v) words' latest' es goes spares passes leaves below dead recover_covers_holds
 
   -- an owner who was recovered before another party's turn is so after it
   recovered : (owner : ℕ) → IsGone owner v → HasRecoveredBy v.terms.by q owner events → HasRecoveredBy v.terms.by q owner (events ++ es)
-  recovered owner dead h =
+  recovered owner dead has_recovered_by_holds =
       record {
-        gone = λ honest i told e. h.gone (honest_less v.terms.by events es honest) i (told_before i owner told) (lost i owner honest dead e);
-        asked = λ i through. asked_later i owner (h.asked i (through_less q (StillToFree q owner i) events es spares.none through));
+        gone =
+            λ honest i told e. has_recovered_by_holds.gone (honest_less v.terms.by events es honest) i
+            (told_before i owner told) (lost i owner honest dead e);
+        asked = λ i through. asked_later i owner (has_recovered_by_holds.asked i (through_less q (StillToFree q owner i) events es spares.none through));
       }
 
   -- what the state says with which a recovery will end holds after another party's turn
   recover_says : (owner : ℕ) (mode : ReleaseMode) (state : ReleaseState) → RecoverSays code c owner mode state v → RecoverSays code c owner mode state later
-  recover_says owner mode states.Locked h = locked_later events es h
-  recover_says owner mode states.Unlocked h = (
-    still_gone owner h.0,
-    unlocked_later q owner events es spares.none (set_acts_same code c v turn) h.1,
-    recovered owner h.0 h.2,
-    each_later q owner (Worn v) (Worn later) (worn code c v turn) mode events es spares.none (set_acts_same code c v turn) h.3,
+  recover_says owner mode states.Locked recover_says_holds = locked_later events es recover_says_holds
+  recover_says owner mode states.Unlocked recover_says_holds = (
+    still_gone owner recover_says_holds.0,
+    unlocked_later q owner events es spares.none (set_acts_same code c v turn) recover_says_holds.1,
+    recovered owner recover_says_holds.0 recover_says_holds.2,
+    each_later q owner (Worn v) (Worn later) (worn code c v turn) mode events es spares.none (set_acts_same code c v turn) recover_says_holds.3,
   )
 
   fills : (owner : ℕ) (mode : ReleaseMode) (But : ℕ → Type 0) → FilledBut (Worn v) mode q owner But events
@@ -133,10 +136,10 @@ module _ {T : Type 0} (code : Coding T) (c : ℕ) (v : View T) (turn : OthersTur
   -- a recovery at any stage knows after another party's turn what it knew
   recover_knows : (owner : ℕ) (mode : ReleaseMode) (room : buffers.Buffer 128) (stage : RecoverStage)
       → RecoverKnows code c owner mode room stage v → RecoverKnows code c owner mode room stage later
-  recover_knows owner mode room recovers.LoadsCounter h = (
-    paid code c v turn h.0,
-    still_gone owner h.1,
-    gone_but owner none h.1 h.2,
+  recover_knows owner mode room recovers.LoadsCounter recover_knows_holds = (
+    paid code c v turn recover_knows_holds.0,
+    still_gone owner recover_knows_holds.1,
+    gone_but owner none recover_knows_holds.1 recover_knows_holds.2,
   )
   recover_knows owner mode room (recovers.LoadsCell index) h = (paid code c v turn h.0, recovers_on owner index none h.1)
   recover_knows owner mode room (recovers.LoadsCount index) h = (
@@ -207,11 +210,11 @@ module _ {T : Type 0} (code : Coding T) (c : ℕ) (v : View T) (turn : OthersTur
 
   -- a look has gone over the same indices after another party's turn
   looks_on : (k x : ℕ) → Looks code c k x v → Looks code c k x later
-  looks_on k x h =
+  looks_on k x looks_holds =
       record {
-        state = h.state;
-        found = same_state ∙ h.found;
-        course = course_later code c (now v) m' es refl passes q h.state calls_on spares.none leaves.alone k x h.course;
+        state = looks_holds.state;
+        found = same_state ∙ looks_holds.found;
+        course = course_later code c (now v) m' es refl passes q looks_holds.state calls_on spares.none leaves.alone k x looks_holds.course;
       }
 
   -- a look that copies an element copies it still after another party's turn
@@ -236,26 +239,27 @@ module _ {T : Type 0} (code : Coding T) (c : ℕ) (v : View T) (turn : OthersTur
 
   -- a look at any stage knows after another party's turn what it knew
   look_knows : (stage : LookStage) → LookKnows code c stage v → LookKnows code c stage later
-  look_knows looks.LoadsChange h = (paid code c v turn h.0, look_rests h.1)
-  look_knows (looks.LoadsCount index) h = (paid code c v turn h.0, looks_on index c h.1)
-  look_knows (looks.LoadsWord index count at) h = (check_paid code c v turn index count h.0, look_copies index count at h.1)
-  look_knows (looks.ChecksCount index count) h = (
-    check_paid code c v turn index count h.0,
-    look_copies index count code.size h.1,
+  look_knows looks.LoadsChange look_knows_holds = (paid code c v turn look_knows_holds.0, look_rests look_knows_holds.1)
+  look_knows (looks.LoadsCount index) look_knows_holds = (paid code c v turn look_knows_holds.0, looks_on index c look_knows_holds.1)
+  look_knows (looks.LoadsWord index count at) look_knows_holds =
+      (check_paid code c v turn index count look_knows_holds.0, look_copies index count at look_knows_holds.1)
+  look_knows (looks.ChecksCount index count) look_knows_holds = (
+    check_paid code c v turn index count look_knows_holds.0,
+    look_copies index count code.size look_knows_holds.1,
   )
 
   -- ---- any call
 
   -- any call knows after another party's turn what it knew
   pub still_knows : (flight : ContainerFlight T) → Knows code c flight v → Knows code c flight later
-  still_knows (Add run) h = add_knows code c v turn run.given.value run.given.owner run.call.stage h
-  still_knows (Remove run) h = remove_knows code c v turn run.given.index run.given.owner run.given.mode run.call.stage h
-  still_knows (Replace run) h = replaces_know code c v turn run.given.index run.given.value run.given.owner run.call.stage h
-  still_knows (Find run) h = (h.0, find_knows code c v turn run.given run.room run.call.stage h.1)
-  still_knows (Recover run) h = (
-    h.0,
-    recover_knows run.given.owner run.given.mode run.room run.call.stage h.1,
-    recover_fills run.given.owner run.given.mode run.call.stage h.2,
+  still_knows (Add run) knows = add_knows code c v turn run.given.value run.given.owner run.call.stage knows
+  still_knows (Remove run) knows = remove_knows code c v turn run.given.index run.given.owner run.given.mode run.call.stage knows
+  still_knows (Replace run) knows = replaces_know code c v turn run.given.index run.given.value run.given.owner run.call.stage knows
+  still_knows (Find run) knows = (knows.0, find_knows code c v turn run.given run.room run.call.stage knows.1)
+  still_knows (Recover run) knows = (
+    knows.0,
+    recover_knows run.given.owner run.given.mode run.room run.call.stage knows.1,
+    recover_fills run.given.owner run.given.mode run.call.stage knows.2,
   )
   still_knows (Look which call) h = look_knows call.stage h
   still_knows (Count which run) h = set_knows code c v turn (borrowed_at c run.call.count) h

@@ -28,7 +28,7 @@ module _ {T : Type 0} where
 
   at_rest : (code : Coding T) (c : ℕ) (m : _) (q i : ℕ) (s : ContainerState T) (value : T) → Rests code c m q s
       → shows s i ≡ Some value → WasCopied q i value m.events
-  at_rest code c m q i s value h e = let by_shown_within = shown_within in grind arith
+  at_rest code c m q i s value rests e = let by_shown_within = shown_within in grind arith
 
 -- ---- what is promised
 
@@ -48,7 +48,7 @@ module _ {T : Type 0} (terms : Terms) (code : Coding T) (t : Trace T) (s : frame
       → frame.KnowsParty (family_by terms code c) s.state p t.events t.world.changes o
       → question_in code (flight_of (doing_of o)) ≡ Some (index, value)
       → IsLatest (Copies index value) (acts_of p t.events)
-  asked_by p index value o k e = grind arith
+  asked_by p index value o knows_party e = grind arith
 
   pub questions : AsksCopies t
   questions = grind (arith, asked_by)

@@ -34,11 +34,11 @@ module _ {T : Type 0} where
         → ((i : ℕ) → IsOneOf (Frees i owner) (set_acts_of p (events ++ es)) → IsOneOf (Frees i owner) (set_acts_of p events) ⊎ But i)
         → ((i : ℕ) → Was i → But i)
         → (is_locked events ≡ true → is_locked (events ++ es) ≡ true) → FilledBut worn mode p owner Was events → FilledBut worn' mode p owner But (events ++ es)
-    filled_then worn worn' on Default Was But events es none split more shut h = tt
-    filled_then worn worn' on LockIfLastIndex Was But events es none split more shut h =
+    filled_then worn worn' on Default Was But events es none split more shut filled_but = tt
+    filled_then worn worn' on LockIfLastIndex Was But events es none split more shut filled_but =
         λ i was. ⊎_elim (λ had. ⊎_elim
         (λ settled. inl (⊎_elim (λ f. inl (later i f)) (λ l. inr (⊎_elim (λ s. inl (shut s)) (λ w. inr (on w)) l)) settled))
-        (λ exempt. inr (more i exempt)) (h i had))
+        (λ exempt. inr (more i exempt)) (filled_but i had))
         (λ now. inr now) (split i was)
       where
         later : (i : ℕ) → FilledSinceFreed p owner i events → FilledSinceFreed p owner i (events ++ es)
@@ -68,17 +68,17 @@ module _ {T : Type 0} where
     -- where the container is not locked
     pub filled_each : (worn : Type 0) (mode : ReleaseMode) (events : List (Event T)) → is_locked events ≡ false
         → FilledBut worn mode p owner NoIndex events → FilledSinceEachBy worn mode p owner events
-    filled_each worn mode events free h = grind arith
+    filled_each worn mode events free filled_but = grind arith
 
     -- what was said of the locks at the end of a recovery is so after events that do nothing to
     -- the set
     pub each_later : (worn worn' : Type 0) → (worn → worn') → (mode : ReleaseMode) (events es : List (Event T))
         → BeginsNone p es → set_acts_of p (events ++ es) ≡ set_acts_of p events → FilledSinceEachBy worn mode p owner events
         → FilledSinceEachBy worn' mode p owner (events ++ es)
-    each_later worn worn' on Default events es none same h = tt
-    each_later worn worn' on LockIfLastIndex events es none same h = λ i was.
+    each_later worn worn' on Default events es none same filled_since_each_by_holds = tt
+    each_later worn worn' on LockIfLastIndex events es none same filled_since_each_by_holds = λ i was.
         ⊎_elim (λ end. inl (on end)) (λ (f : FilledSinceFreed p owner i events). inr (record { other = f.other; once = held_later p _ events es none f.once }))
-        (h i (subst (IsOneOf (Frees i owner)) same was))
+        (filled_since_each_by_holds i (subst (IsOneOf (Frees i owner)) same was))
 
     pub unlocked_later : (events es : List (Event T)) → BeginsNone p es
         → set_acts_of p (events ++ es) ≡ set_acts_of p events → UnlockedAtLast p events → UnlockedAtLast p (events ++ es)

@@ -128,10 +128,10 @@ module _ {T : Type 0} (shown : Shown T) (terms : Terms) (code : Coding T) (t : T
           (old_of t.world.words (ask_of_doing t.world.coding doing)) doing).kept
           p
           ≡ state_in t.world.kept p
-      go (Over others) d = refl
-      go (Going flight since) d =
-          let here = flies q x flight since found d in
-          any_stays shown terms code t.world.capacity t s q x since found _ flight d p
+      go (Over others) same_doing = refl
+      go (Going flight since) same_doing =
+          let here = flies q x flight since found same_doing in
+          any_stays shown terms code t.world.capacity t s q x since found _ flight same_doing p
           (apart_is p q flight (subst (λ o. ((q == p) && is_looking o) ≡ false) here none))
 
   -- a decision leaves each party's state
@@ -142,11 +142,11 @@ module _ {T : Type 0} (shown : Shown T) (terms : Terms) (code : Coding T) (t : T
   decision_moves q p said due (Some x) found = go x.doing refl
     where
       go : (doing : Doing T) → x.doing ≡ doing → state_in (after_answer t.world q x None (number_of said) doing).kept p ≡ state_in t.world.kept p
-      go (Over others) d = refl
-      go (Going flight since) d =
-          let here = flies q x flight since found d in
+      go (Over others) same_doing = refl
+      go (Going flight since) same_doing =
+          let here = flies q x flight since found same_doing in
           let asks : is_question (want_of t.world.coding flight) ≡ true = subst (λ o. is_due t.world.coding o ≡ true) here due in
-          any_stays shown terms code t.world.capacity t s q x since found _ flight d p (inr (no_look t.world.coding flight asks))
+          any_stays shown terms code t.world.capacity t s q x since found _ flight same_doing p (inr (no_look t.world.coding flight asks))
 
   begin_moves : (p q : ℕ) (start : Start T) → is_look_of t.world q (Begin p start) ≡ false → (o : Option (Flight T))
       → state_in (after_begin t.world p start o).kept q ≡ state_in t.world.kept q

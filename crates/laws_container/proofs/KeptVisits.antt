@@ -71,8 +71,8 @@ module _ {T : Type 0} (shown : AllShown T) (terms : Terms) (code : Coding T) (t 
   next_visits q (Some x) found = go x.doing refl
     where
       go : (doing : Doing T) → x.doing ≡ doing → All q t.events (events_of_answer t.world q x (old_of t.world.words (ask_of_doing t.world.coding doing)) doing)
-      go (Over others) d = tt
-      go (Going flight since) d = any_visits shown terms code t.world.capacity t s may q x since found _ flight d
+      go (Over others) same_doing = tt
+      go (Going flight since) same_doing = any_visits shown terms code t.world.capacity t s may q x since found _ flight same_doing
 
   -- what a decision writes of visits is right
   decision_visits : (q : ℕ) (said : Bool) (o : Option (Party T)) → party_of q t.world.latest ≡ o → All q t.events (events_of_decision t.world q said o)
@@ -80,8 +80,8 @@ module _ {T : Type 0} (shown : AllShown T) (terms : Terms) (code : Coding T) (t 
   decision_visits q said (Some x) found = go x.doing refl
     where
       go : (doing : Doing T) → x.doing ≡ doing → All q t.events (events_of_answer t.world q x (number_of said) doing)
-      go (Over others) d = tt
-      go (Going flight since) d = any_visits shown terms code t.world.capacity t s may q x since found _ flight d
+      go (Over others) same_doing = tt
+      go (Going flight since) same_doing = any_visits shown terms code t.world.capacity t s may q x since found _ flight same_doing
 
   visits : (u : Turn T) → AllByRecursion (VisitsRight t.events) (events_of t.world u)
   visits = grind (arith, next_visits, decision_visits)

@@ -301,8 +301,8 @@ module _ {T : Type 0} (code : Coding T) (c : ℕ) where
 
   own_after : (start : ContainerStart T) (after : After (ContainerFlight T) (Answer T)) → StandsAfter after
       → OwnAfter outline code c (starts.Container start) (any_call code c [] after)
-  own_after start (GoOn flight) h = h
-  own_after start (Done answer) h = tt
+  own_after start (GoOn flight) stands_after = stands_after
+  own_after start (Done answer) stands_after = tt
 
   -- a call that goes on stands at its place, and its party has a state if it looks
   goes : (p : ℕ) (start : Start T) (flight : Flight T) (old : ℕ) (kept : Registry T) → At code c start flight → Kept kept → Known p kept flight

@@ -124,7 +124,7 @@ module _ {T : Type 0} (code : Coding T) (c : ℕ) (m : Now T) (p : ℕ) where
 
   pub course_first : (s : ContainerState T) (change : ℕ) → change ≡ change_in code c m → Rests code c m p s
       → ShowsOwn p s c m.events → Course code c m p (record s { shown = with_change s.shown change }) 0 c
-  course_first s change is h own = grind arith
+  course_first s change is rests own = grind arith
 
   -- ---- at an index
 
@@ -256,7 +256,7 @@ module _ {T : Type 0} (code : Coding T) (c : ℕ) (m : Now T) (p : ℕ) where
   -- ---- a word is read
 
   pub course_word : (s : ContainerState T) (k x at word : ℕ) → Course code c m p s k x → Course code c m p (record s { shown = with_word s.shown at word }) k x
-  course_word s k x at word h = let room = length-set s.shown.copy at word in grind arith
+  course_word s k x at word course = let room = length-set s.shown.copy at word in grind arith
 
   -- ---- the look has gone over all of them
 

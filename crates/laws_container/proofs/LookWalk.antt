@@ -33,12 +33,12 @@ use Rattle.laws_robust.proofs.Cases.{on_bool}
 -- ---- the indices that it has come to
 
 below_more : (b d : ℕ) → b ≤ d → (xs : List ℕ) → AreBelow b xs → AreBelow d xs
-below_more b d more [] h = tt
-below_more b d more (x ∷ xs) h = (let first = h.0 in omega arith, below_more b d more xs h.1)
+below_more b d more [] are_below = tt
+below_more b d more (x ∷ xs) are_below = (let first = are_below.0 in omega arith, below_more b d more xs are_below.1)
 
 below_both : (b : ℕ) (xs ys : List ℕ) → AreBelow b xs → AreBelow b ys → AreBelow b (xs ++ ys)
-below_both b [] ys h g = g
-below_both b (x ∷ xs) ys h g = (h.0, below_both b xs ys h.1 g)
+below_both b [] ys first_below second_below = second_below
+below_both b (x ∷ xs) ys first_below second_below = (first_below.0, below_both b xs ys first_below.1 second_below)
 
 pub not_even : (n : ℕ) → n % 2 ≡ 1 → is_even n ≡ false
 not_even n odd = ne_eqb (n % 2) 0 (λ e. absurd (omega arith))
@@ -52,7 +52,7 @@ module _ {T : Type 0} where
   seen_passed = grind (arith, append-nil, below_more)
 
   pub seen_still : (index : ℕ) (did : List (Act T)) → AreBelow index (seen_in did) → AreBelow index (seen_in (did ++ []))
-  seen_still index did h = subst (λ a. AreBelow index (seen_in a)) (sym (append-nil did)) h
+  seen_still index did are_below = subst (λ a. AreBelow index (seen_in a)) (sym (append-nil did)) are_below
 
   -- under an even number nothing stands
   pub nothing_stands : (code : Coding T) (c : ℕ) (words : List ℕ) (i : ℕ) (o : Option T) → Stands code c words i o → count_at c words i % 2 ≡ 0 → o ≡ None
@@ -271,7 +271,7 @@ module _ {T : Type 0} (scene : Scene T) (inv : Inv scene) where
           (λ t. let some = inv.good.some in let less : c ≤ 0 = grind (arith, nat_tests) in absurd (omega arith)))
         where
           ap_below : done scene ≡ [] → AreBelow 0 (seen_in (done scene ++ []))
-          ap_below e = subst (λ a. AreBelow 0 (seen_in (a ++ []))) (sym e) tt
+          ap_below done_is_empty = subst (λ a. AreBelow 0 (seen_in (a ++ []))) (sym done_is_empty) tt
 
       -- ---- the number of an element is loaded
 

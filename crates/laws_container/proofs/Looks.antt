@@ -310,7 +310,7 @@ module _ {T : Type 0} (scene : Scene T) (inv : Inv scene) (which : LookOf) (stag
       (look_goes code which (call_at scene inv stage) o (old_of ws (ask_of (look_asks code.size c stage))))
 
   pub step_from : WalkAt scene inv s (Lead (ask_of (look_asks code.size c stage))) stage → StepOf scene (looks_as which) (look_at which c stage)
-  step_from h = subst StepFrom (sym found) h
+  step_from walk_at_holds = subst StepFrom (sym found) walk_at_holds
 
 -- ---- any stage
 
@@ -323,10 +323,10 @@ module _ {T : Type 0} (scene : Scene T) (inv : Inv scene) where
     pub found : state_of p scene.states ≡ Some state
 
   pub state_known : (stage : LookStage) → LookKnows code c stage (sees_now scene) → HasState
-  state_known stages.LoadsChange k = let h = k.1 in record { state = h.state; found = h.found }
-  state_known (stages.LoadsCount index) k = let h = k.1 in record { state = h.state; found = h.found }
-  state_known (stages.LoadsWord index count word) k = let h = k.1 in record { state = h.looks.state; found = h.looks.found }
-  state_known (stages.ChecksCount index count) k = let h = k.1 in record { state = h.looks.state; found = h.looks.found }
+  state_known stages.LoadsChange look_knows = let h = look_knows.1 in record { state = h.state; found = h.found }
+  state_known (stages.LoadsCount index) look_knows = let h = look_knows.1 in record { state = h.state; found = h.found }
+  state_known (stages.LoadsWord index count word) look_knows = let h = look_knows.1 in record { state = h.looks.state; found = h.looks.found }
+  state_known (stages.ChecksCount index count) look_knows = let h = look_knows.1 in record { state = h.looks.state; found = h.looks.found }
 
   -- any step of a look leads to what its caller shows of each way on
   pub walks : (stage : LookStage) → LookAt c code.size (all scene) (done scene) stage
@@ -351,7 +351,7 @@ module _ {T : Type 0} (scene : Scene T) (inv : Inv scene) where
       → LookAt c code.size (all scene) (done scene) stage → Knows code c (look_at which c stage) (sees_now scene)
       → steps ≤ look_number code.size stage backs
       → StepOf scene (looks_as which) (look_at which c stage)
-  look_step which stage here at k few =
-      let h = state_known stage k in
+  look_step which stage here at knows few =
+      let h = state_known stage knows in
       step_from scene inv which stage here h.state h.found
-      (walks stage at k few (Lead scene inv which stage here h.state h.found) (walker scene inv which stage here h.state h.found))
+      (walks stage at knows few (Lead scene inv which stage here h.state h.found) (walker scene inv which stage here h.state h.found))

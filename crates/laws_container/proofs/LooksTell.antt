@@ -168,11 +168,11 @@ module _ {T : Type 0} (shown : Shown T) (terms : Terms) (code : Coding T) (c : �
         → Ended (events_of_step q (Container a)
         (stepping n code (kept_now shown terms code c t s) (Container a) (flights.Container flight)))
         → IsLast q p (Container a) (Container start) (answer_in (any_call (goes_after code (state_of q s.state.states) flight n))) answer
-    last_of n a flight e =
+    last_of n a flight ended_holds =
         ends_last turn q p (effects code q (state_of q s.state.states) flight n ++ questions q flight n)
         (Container a) (Container start)
         (answer_in (any_call (goes_after code (state_of q s.state.states) flight n))) answer wrote
-        (all_effects turn q mine code (state_of q s.state.states) flight n) e
+        (all_effects turn q mine code (state_of q s.state.states) flight n) ended_holds
 
     -- a step of a look that wrote this end last is the step in which the look ends, with what
     -- it leaves and writes
@@ -227,36 +227,36 @@ module _ {T : Type 0} (shown : Shown T) (terms : Terms) (code : Coding T) (c : �
   -- a step that wrote this end last is one of a look that ends so
   next_look : (q : ℕ) → (o : Option (Party T)) → party_of q t.world.latest ≡ o → Ended (events_of_next t.world q o)
       → LookTurn q (after_next t.world q o).kept (after_next t.world q o).latest (events_of_next t.world q o)
-  next_look q None found e = absurd (no_more wrote (Finished p (Container start) answer) [] e)
-  next_look q (Some x) found e = go x.doing refl e
+  next_look q None found ended_holds = absurd (no_more wrote (Finished p (Container start) answer) [] ended_holds)
+  next_look q (Some x) found ended_holds = go x.doing refl ended_holds
     where
       go : (doing : Doing T) → x.doing ≡ doing → Ended (events_of_answer t.world q x (old_of t.world.words (ask_of_doing t.world.coding doing)) doing)
           → LookTurn q (after_answer t.world q x (ask_of_doing t.world.coding doing) (old_of t.world.words (ask_of_doing t.world.coding doing)) doing).kept
           (after_answer t.world q x (ask_of_doing t.world.coding doing) (old_of t.world.words (ask_of_doing t.world.coding doing)) doing).latest
           (events_of_answer t.world q x (old_of t.world.words (ask_of_doing t.world.coding doing)) doing)
-      go (Over others) d e = absurd (no_more wrote (Finished p (Container start) answer) [] e)
-      go (Going flight since) d e =
+      go (Over others) same_doing ended_holds = absurd (no_more wrote (Finished p (Container start) answer) [] ended_holds)
+      go (Going flight since) same_doing ended_holds =
           any_look q x since found (Next q) refl (old_of t.world.words (ask_of (want_of t.world.coding flight))) flight
-          d (λ no. refl) _ (λ no. refl) e
+          same_doing (λ no. refl) _ (λ no. refl) ended_holds
 
   -- a decision that wrote this end last is one of a look that ends so
   decision_look : (q : ℕ) (said : Bool) → is_due t.world.coding (flight_in t.world q) ≡ true
       → (o : Option (Party T)) → party_of q t.world.latest ≡ o → Ended (events_of_decision t.world q said o)
       → LookTurn q (after_decision t.world q said o).kept (after_decision t.world q said o).latest (events_of_decision t.world q said o)
-  decision_look q said due None found e = absurd (no_more wrote (Finished p (Container start) answer) [] e)
-  decision_look q said due (Some x) found e = go x.doing refl e
+  decision_look q said due None found ended_holds = absurd (no_more wrote (Finished p (Container start) answer) [] ended_holds)
+  decision_look q said due (Some x) found ended_holds = go x.doing refl ended_holds
     where
       go : (doing : Doing T) → x.doing ≡ doing → Ended (events_of_answer t.world q x (number_of said) doing)
           → LookTurn q (after_answer t.world q x None (number_of said) doing).kept
           (after_answer t.world q x None (number_of said) doing).latest
           (events_of_answer t.world q x (number_of said) doing)
-      go (Over others) d e = absurd (no_more wrote (Finished p (Container start) answer) [] e)
-      go (Going flight since) d e =
-          let here : flight_in t.world q ≡ Some flight = ap (λ o. flight_of (doing_of o)) found ∙ ap (λ d. flight_of (Some d)) d in
+      go (Over others) same_doing ended_holds = absurd (no_more wrote (Finished p (Container start) answer) [] ended_holds)
+      go (Going flight since) same_doing ended_holds =
+          let here : flight_in t.world q ≡ Some flight = ap (λ o. flight_of (doing_of o)) found ∙ ap (λ same_doing. flight_of (Some same_doing)) same_doing in
           let asks : is_question (want_of t.world.coding flight) ≡ true = rw here at due in
-          any_look q x since found (Decide q said) refl (number_of said) flight d
+          any_look q x since found (Decide q said) refl (number_of said) flight same_doing
           (λ no. both_ways (is_question (want_of t.world.coding flight)) no asks) _
-          (λ no. both_ways (is_question (want_of t.world.coding flight)) no asks) e
+          (λ no. both_ways (is_question (want_of t.world.coding flight)) no asks) ended_holds
 
   -- the turn of a look that ends
   pub record LookEnd (new : Trace T) : Type 0 where
@@ -267,16 +267,17 @@ module _ {T : Type 0} (shown : Shown T) (terms : Terms) (code : Coding T) (c : �
 
   -- a turn that wrote this end last is the turn of a look that ends
   pub look_end : (turn : Turn T) → IsAllowed t.world turn → Ended (events_of t.world turn) → LookEnd (after_turn t turn)
-  look_end (Begin q a) r e = absurd (no_end (Begun q a) p (Container start) answer wrote (λ h. cc) e)
-  look_end (Next q) r e = record { party = q; events = events_of t.world (Next q); is = refl; turn = next_look q (party_of q t.world.latest) refl e }
-  look_end (Decide q said) r e =
+  look_end (Begin q a) allowed ended_holds = absurd (no_end (Begun q a) p (Container start) answer wrote (λ h. cc) ended_holds)
+  look_end (Next q) allowed ended_holds =
+      record { party = q; events = events_of t.world (Next q); is = refl; turn = next_look q (party_of q t.world.latest) refl ended_holds }
+  look_end (Decide q said) allowed ended_holds =
       record {
         party = q;
         events = events_of t.world (Decide q said);
         is = refl;
-        turn = decision_look q said r (party_of q t.world.latest) refl e;
+        turn = decision_look q said allowed (party_of q t.world.latest) refl ended_holds;
       }
-  look_end (Die o) r e = absurd (no_end (Died o) p (Container start) answer wrote (λ h. cc) e)
+  look_end (Die o) allowed ended_holds = absurd (no_end (Died o) p (Container start) answer wrote (λ h. cc) ended_holds)
 
   -- ---- what it tells
 

@@ -51,8 +51,8 @@ module _ {T : Type 0} (kept : Bool) (code : Coding T) (c : ℕ) where
     rightly : (p : ℕ) (x : Party T) (since : ℕ) (found : party_of p t.world.latest ≡ Some x) (flight : Flight T)
         → (kept ≡ true → is_for_gone t.events (Some flight) ≡ false)
         → IsRightly shown terms code c t s p x since found flight
-    rightly p x since found (flights.Container flight) h = h
-    rightly p x since found flight h = tt
+    rightly p x since found (flights.Container flight) is_for_gone_false = is_for_gone_false
+    rightly p x since found flight is_for_gone_false = tt
 
     -- a begin
     begun : (p : ℕ) (start : Start T) (flight : Flight T) → MayRecoverIn shown terms code c t s p start → flight_in t.world p ≡ None
@@ -83,8 +83,8 @@ module _ {T : Type 0} (kept : Bool) (code : Coding T) (c : ℕ) where
         begins p start (recovers_by shown terms code c t s p start b) b.free b.call
 
     free_by : (o : Option (Flight T)) → is_some o ≡ false → o ≡ None
-    free_by None e = refl
-    free_by (Some flight) e = absurd (cc)
+    free_by None is_some_false = refl
+    free_by (Some flight) is_some_false = absurd (cc)
 
     -- a turn that an open run does not refuse leaves the machine sound, if it takes no step for
     -- one who is gone where the run keeps to that
@@ -178,17 +178,17 @@ module _ {T : Type 0} (code : Coding T) (c : ℕ) where
   -- and sound
   attempt_honest : (t : Trace T) (turn : Turn T) (o : Option Refusal) → open_refusal t.world turn ≡ o → Any t → IsHonest t.events
       → steps_for_gone t turn ≡ false → Any (unless_refused t (after_turn t turn) o) × IsHonest (unless_refused t (after_turn t turn) o).events
-  attempt_honest t turn None e s honest steps =
-      let next : Any (after_turn t turn) = open_turn_sound false code c t s (λ keeps. absurd (cc)) turn e (λ keeps. absurd (cc)) in
-      (next, turn_honest (terms false code c) code c t s honest turn e steps next)
-  attempt_honest t turn (Some refusal) e s honest steps = (s, honest)
+  attempt_honest t turn None e any honest steps =
+      let next : Any (after_turn t turn) = open_turn_sound false code c t any (λ keeps. absurd (cc)) turn e (λ keeps. absurd (cc)) in
+      (next, turn_honest (terms false code c) code c t any honest turn e steps next)
+  attempt_honest t turn (Some refusal) e any honest steps = (any, honest)
 
   -- a faithful run from an honest machine leads to an honest one
   run_honest : (turns : List (Turn T)) (t : Trace T) → Any t → IsHonest t.events → is_faithful turns t ≡ true → IsHonest (run_open turns t).events
-  run_honest [] t s honest faithful = honest
-  run_honest (turn ∷ turns) t s honest faithful =
+  run_honest [] t any honest faithful = honest
+  run_honest (turn ∷ turns) t any honest faithful =
       let both = both_true (not (steps_for_gone t turn)) (is_faithful turns (attempt_open t turn)) faithful in
-      let next = attempt_honest t turn (open_refusal t.world turn) refl s honest (not_true (steps_for_gone t turn) both.0) in
+      let next = attempt_honest t turn (open_refusal t.world turn) refl any honest (not_true (steps_for_gone t turn) both.0) in
       run_honest turns (attempt_open t turn) next.0 next.1 both.1
 
 -- `t` is the machine that an open run has reached

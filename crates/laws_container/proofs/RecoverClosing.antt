@@ -210,4 +210,4 @@ module _ {T : Type 0} (recovery : Recovery T) where
       → Knows code c (recover_at c owner mode room (recovers.Asks index count)) (sees_now scene)
       → steps ≤ recover_number c z mode (recovers.Asks index count) backs → (answer : ℕ)
       → AnswerOf scene (Recover owner mode) (recover_at c owner mode room (recovers.Asks index count)) None answer
-  recover_decided room index count at here k s answer = decided recovery room index count at here k.0 k.1 s k.2 answer
+  recover_decided room index count at here knows s answer = decided recovery room index count at here knows.0 knows.1 s knows.2 answer

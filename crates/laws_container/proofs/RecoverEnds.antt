@@ -85,7 +85,7 @@ module _ {T : Type 0} (recovery : Recovery T) where
         course.within (λ i low. course_calm recovery index (index + 1) i (index + 1) course low (omega arith)) paid stays_recs fill
 
   pub just_on : HasJustFreed (all scene) → HasJustFreed (all scene ++ [])
-  just_on h = subst HasJustFreed (sym (append-nil (all scene))) h
+  just_on just_freed = subst HasJustFreed (sym (append-nil (all scene))) just_freed
 
   -- ---- the exchange of a cell
 
@@ -191,12 +191,12 @@ module _ {T : Type 0} (recovery : Recovery T) where
       -- nothing stands there under an even number
       recs_empty : is_even count ≡ true → (y : Party T) → owes (flight_of (Some y.doing)) ≡ true
           → Recovers code c owner (index + 1) none none (then_sees scene empty_it false scene.states y freeing)
-      recs_empty t y owe =
+      recs_empty is_even_true y owe =
           rehidden code c owner (index + 1) none
           (StillStands code c index count (after scene (words_after ws empty_it) y freeing)) none
           (then_sees scene empty_it false scene.states y freeing) (recs_freed y)
           (hidden_even code c p owner index count (after scene (words_after ws empty_it) y freeing)
-          (does y owe).changes.whole stands.0.within (even_is count t) (recs_freed y).hidden)
+          (does y owe).changes.whole stands.0.within (even_is count is_even_true) (recs_freed y).hidden)
 
       -- once the cell is empty, what a call that may lock has to show of each index that it has
       -- freed is shown of all but this one

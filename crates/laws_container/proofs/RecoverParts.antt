@@ -75,17 +75,17 @@ module _ {T : Type 0} (recovery : Recovery T) where
   pub fill_same : (ask : Option Ask) → words_after ws ask ≡ ws → (But : ℕ → Type 0)
       → FilledBut (IsWorn scene.terms.by ws) mode p owner But events
       → FilledBut (IsWorn scene.terms.by (words_after ws ask)) mode p owner But (events ++ [])
-  fill_same ask same But f =
+  fill_same ask same But filled_but =
       filled_calm p owner (IsWorn scene.terms.by ws) (IsWorn scene.terms.by (words_after ws ask))
-      (λ end. subst (IsWorn scene.terms.by) (sym same) end) mode But events f
+      (λ end. subst (IsWorn scene.terms.by) (sym same) end) mode But events filled_but
 
   -- a step that leaves all words but the counter leaves what a recovery knows of its locks
   pub fill_stays : (ask : Option Ask) → set_effects.Stays (of_set scene) (words_after ws ask) → (But : ℕ → Type 0)
       → FilledBut (IsWorn scene.terms.by ws) mode p owner But events
       → FilledBut (IsWorn scene.terms.by (words_after ws ask)) mode p owner But (events ++ [])
-  fill_stays ask stays But f =
+  fill_stays ask stays But filled_but =
       filled_calm p owner (IsWorn scene.terms.by ws) (IsWorn scene.terms.by (words_after ws ask))
-      (worn_on scene.terms.by ws (words_after ws ask) stays.leaves.stuck) mode But events f
+      (worn_on scene.terms.by ws (words_after ws ask) stays.leaves.stuck) mode But events filled_but
 
   module _ (room : buffers.Buffer 128) (stage : RecoverStage) (here : IsHere scene (Recover owner mode) (recover_at c owner mode room stage)) where
     abbrev pub then_at : buffers.Buffer 128 → RecoverStage → Option Ask → Bool → Party T
@@ -145,28 +145,28 @@ module _ {T : Type 0} (recovery : Recovery T) where
           → ((i : ℕ) → New i → (filled_of i (events ++ es) ≢ Some owner) ⊎ Now i)
           → HasHidden code c p owner But' (after scene (words_after ws ask) y es)
           → Recovers code c owner k' Now But' (then_sees scene ask back scene.states y es)
-      recs k k' Was Now New But But' h asked told was new hidden =
+      recs k k' Was Now New But But' recovers_holds asked told was new hidden =
           knowing.recovers_then code c owner (sees_now scene) (words_after ws ask) scene.states (put p y latest)
           (since_then scene ask) (changes_then scene ask) (backs_then scene back) es fresh
           (set_acts_more scene start here.span es own longer) (acts_more scene start here.span es own longer) goes
-          k k' Was Now New But But' h asked told was new hidden
+          k k' Was Now New But But' recovers_holds asked told was new hidden
 
       -- of its locks
       pub fills_on : (Was But : ℕ → Type 0)
           → ((i : ℕ) → IsOneOf (Frees i owner) (set_acts_of p events ++ set_acts es) → IsOneOf (Frees i owner) (set_acts_of p events) ⊎ But i)
           → ((i : ℕ) → Was i → But i) → FilledBut (IsWorn scene.terms.by ws) mode p owner Was events
           → FilledBut (IsWorn scene.terms.by (words_after ws ask)) mode p owner But (events ++ es)
-      fills_on Was But split more h =
+      fills_on Was But split more filled_but =
           filled_then p owner (IsWorn scene.terms.by ws) (IsWorn scene.terms.by (words_after ws ask))
           (worn_on scene.terms.by ws (words_after ws ask) goes.stuck) mode Was But events es fresh
           (λ i was. split i (subst (IsOneOf (Frees i owner)) (set_acts_more scene start here.span es own longer) was))
-          more (locked_later events es) h
+          more (locked_later events es) filled_but
 
       pub asked_on : (k : ℕ) → AskedBelow code c owner k (sees_now scene) → AskedBelow code c owner k (then_sees scene ask back scene.states y es)
-      asked_on k h =
+      asked_on k asked_below =
           knowing.asked_then code c owner (sees_now scene) (words_after ws ask) scene.states (put p y latest)
           (since_then scene ask) (changes_then scene ask) (backs_then scene back) es fresh
-          (set_acts_more scene start here.span es own longer) (acts_more scene start here.span es own longer) goes k h
+          (set_acts_more scene start here.span es own longer) (acts_more scene start here.span es own longer) goes k asked_below
 
       -- a recovery has come to one index more, if it need not free it, or has asked about it,
       -- or was shown it
@@ -174,10 +174,10 @@ module _ {T : Type 0} (recovery : Recovery T) where
           → (HeldThroughout p (StillToFree p owner k) (events ++ es)
           → IsOneOf (Asks k owner) (set_acts_of p (events ++ es)) ⊎ WasShown p k (events ++ es))
           → AskedBelow code c owner (k + 1) (then_sees scene ask back scene.states y es)
-      asked_more k h now =
+      asked_more k asked_below now =
           knowing.asked_next code c owner (sees_now scene) (words_after ws ask) scene.states (put p y latest)
           (since_then scene ask) (changes_then scene ask) (backs_then scene back) es fresh
-          (set_acts_more scene start here.span es own longer) (acts_more scene start here.span es own longer) goes k h
+          (set_acts_more scene start here.span es own longer) (acts_more scene start here.span es own longer) goes k asked_below
           now
 
     -- by events that tell and show nothing
@@ -191,7 +191,7 @@ module _ {T : Type 0} (recovery : Recovery T) where
     -- what it has freed is hidden still, over a step that writes nothing
     pub hidden_still : (ask : Option Ask) (y : Party T) → HasHidden code c p owner none (before scene)
         → HasHidden code c p owner none (after scene (words_after ws ask) y [])
-    hidden_still ask y h = hidden_on scene start tt here.span owner (words_after ws ask) y [] tt tt none_lengthens none_freed h
+    hidden_still ask y hidden = hidden_on scene start tt here.span owner (words_after ws ask) y [] tt tt none_lengthens none_freed hidden
 
     -- ---- it comes to the next index, or to the counter
 

@@ -37,8 +37,8 @@ use Rattle.laws_container.proofs.Writing.{even_is, odd_is}
 use Rattle.laws_robust.proofs.Cases.{on_bool}
 
 pub none_is : {T : Type 0} (o : Option T) → is_some o ≡ false → o ≡ None
-none_is None e = refl
-none_is (Some x) e = absurd (cc)
+none_is None is_some_false = refl
+none_is (Some x) is_some_false = absurd (cc)
 
 pub back_at_least : (c z : ℕ) (mode : ReleaseMode) → z + 1 ≤ for_back c z mode
 back_at_least c z Default = omega arith
@@ -78,8 +78,8 @@ module _ {T : Type 0} (recovery : Recovery T) where
   -- its course, over a step that writes nothing
   pub course_calm : (index bound index' bound' : ℕ) → Course index bound → index' < c → bound ≤ bound'
       → IsInCourse c z (all scene ++ []) (done scene ++ []) owner index' bound'
-  course_calm index bound index' bound' h low more =
-      course_then c z (all scene) [] (done scene) [] owner index bound index' bound' h low more tt tt
+  course_calm index bound index' bound' course_holds low more =
+      course_then c z (all scene) [] (done scene) [] owner index bound index' bound' course_holds low more tt tt
       (λ j was. inl (one_of_none (Frees j owner) (all scene) was))
 
   -- ---- any step that changes and writes nothing
@@ -90,11 +90,11 @@ module _ {T : Type 0} (recovery : Recovery T) where
     -- what it knows of what it has lost and asked about
     pub calm_recs : (y : Party T) (k : ℕ) → Recovers code c owner k none none (sees_now scene)
         → Recovers code c owner k none none (then_sees scene ask back scene.states y [])
-    calm_recs y k h =
+    calm_recs y k recovers_holds =
         let goes = (silent_set scene inv (words_after ws ask) same y [] tt tt).goes in
         recs recovery room stage here ask back y [] tt tt none_lengthens goes k k none none none
-        none none h (asked_on recovery room stage here ask back y [] tt tt none_lengthens goes k h.asked)
-        (told_none recovery room stage here) (λ i e. absurd e) (λ i e. absurd e) (hidden_still recovery room stage here ask y h.hidden)
+        none none recovers_holds (asked_on recovery room stage here ask back y [] tt tt none_lengthens goes k recovers_holds.asked)
+        (told_none recovery room stage here) (λ i e. absurd e) (λ i e. absurd e) (hidden_still recovery room stage here ask y recovers_holds.hidden)
 
     -- a recovery that has asked about an index, or was shown it, or need not free it, has come
     -- past it
@@ -102,11 +102,11 @@ module _ {T : Type 0} (recovery : Recovery T) where
         → (HeldThroughout p (StillToFree p owner k) (events ++ [])
         → IsOneOf (Asks k owner) (set_acts_of p (events ++ [])) ⊎ WasShown p k (events ++ []))
         → Recovers code c owner (k + 1) none none (then_sees scene ask back scene.states y [])
-    calm_recs_more y k h now =
+    calm_recs_more y k recovers_holds now =
         let goes = (silent_set scene inv (words_after ws ask) same y [] tt tt).goes in
         recs recovery room stage here ask back y [] tt tt none_lengthens goes k (k + 1) none none
-        none none none h (asked_more recovery room stage here ask back y [] tt tt none_lengthens goes k h.asked now)
-        (told_none recovery room stage here) (λ i e. absurd e) (λ i e. absurd e) (hidden_still recovery room stage here ask y h.hidden)
+        none none none recovers_holds (asked_more recovery room stage here ask back y [] tt tt none_lengthens goes k recovers_holds.asked now)
+        (told_none recovery room stage here) (λ i e. absurd e) (λ i e. absurd e) (hidden_still recovery room stage here ask y recovers_holds.hidden)
 
     -- a recovery goes on from a step that changes and writes nothing, where the next stage's
     -- conditions hold
@@ -130,13 +130,13 @@ module _ {T : Type 0} (recovery : Recovery T) where
         → ((y : Party T) → Recovers code c owner (index + 1) none none (then_sees scene ask back scene.states y []))
         → FilledBut (IsWorn scene.terms.by ws) mode p owner NoIndex events
         → Becomes ask back [] room (recover_comes_to (first recovery) (index + 1))
-    calm_next index few course rec f =
+    calm_next index few course rec filled_but =
         comes_to_next recovery room stage here long ask back [] none_lengthens tt
         (λ y owe. reads_does recovery room stage here (words_after ws ask) same y [] tt tt (right_none (words_after ws ask) y) owe)
         index few (⊎_elim (λ h. h.within) (λ h. h.within) course)
         (λ i low. ⊎_elim (λ h. course_calm index index i (index + 1) h low (omega arith))
         (λ h. course_calm index (index + 1) i (index + 1) h low (omega arith)) course)
-        paid rec (fill_same recovery ask same NoIndex f)
+        paid rec (fill_same recovery ask same NoIndex filled_but)
 
   -- ---- the counter
 
@@ -361,7 +361,7 @@ module _ {T : Type 0} (recovery : Recovery T) where
       (s : steps ≤ 2 + index * for_index c z mode + backs * for_back c z mode)
       → FilledBut (IsWorn scene.terms.by ws) mode p owner NoIndex events
       → StepOf scene (Recover owner mode) (recover_at c owner mode room (recovers.LoadsCount index))
-  count_step room index here long course k s f =
+  count_step room index here long course k s filled_but =
       sees_number room (recovers.LoadsCount index) index here long course k.1 k.2
       (Some (set_stages.loads (count_word c index))) (loads_same ws (count_word c index)) false
-      (let paid = k.0 in omega arith) (omega arith) f
+      (let paid = k.0 in omega arith) (omega arith) filled_but

@@ -18,42 +18,43 @@ one_more_of = grind (arith, append_assoc)
 
 -- nothing was done besides
 pub one_of_none : (one : SetAct) (all : List SetAct) → IsOneOf one (all ++ []) → IsOneOf one all
-one_of_none one all h = subst (IsOneOf one) (append-nil all) h
+one_of_none one all is_one_of_holds = subst (IsOneOf one) (append-nil all) is_one_of_holds
 
 module _ {T : Type 0} where
   pub has_of_none : (one : Act T) (all : List (Act T)) → IsOneOf one (all ++ []) → IsOneOf one all
-  has_of_none one all h = subst (IsOneOf one) (append-nil all) h
+  has_of_none one all is_one_of_holds = subst (IsOneOf one) (append-nil all) is_one_of_holds
 
   -- one of them is one of the earlier ones, or the last
   pub was_act : (one last : Act T) (all : List (Act T)) → IsOneOf one (all ++ last ∷ []) → IsOneOf one all ⊎ (last ≡ one)
-  was_act one last all h = go (split_last all last h.before one h.after h.is)
+  was_act one last all is_one_of_holds = go (split_last all last is_one_of_holds.before one is_one_of_holds.after is_one_of_holds.is)
     where
-      go : SplitAt all last h.before one h.after → IsOneOf one all ⊎ (last ≡ one)
+      go : SplitAt all last is_one_of_holds.before one is_one_of_holds.after → IsOneOf one all ⊎ (last ≡ one)
       go (Last p q) = inr q
-      go (Earlier rest p) = inl (record { before = h.before; after = rest; is = p })
+      go (Earlier rest p) = inl (record { before = is_one_of_holds.before; after = rest; is = p })
 
   pub has_latest : (one : Act T) (all : List (Act T)) → IsLatest one all → IsOneOf one all
-  has_latest one all h = record { before = h.before; after = []; is = h.is }
+  has_latest one all latest = record { before = latest.before; after = []; is = latest.is }
 
   -- it is in its course still
   pub course_then : (c z : ℕ) (all ds : List SetAct) (done fresh : List (Act T)) (owner i b i' b' : ℕ)
       → IsInCourse c z all done owner i b → i' < c → b ≤ b' → AreBelow b' (seen_in fresh) → AreBelow b' (asked_in ds)
       → ((j : ℕ) → IsOneOf (Frees j owner) (all ++ ds) → IsOneOf (Frees j owner) all ⊎ AskedOrShown c z all done owner j)
       → IsInCourse c z (all ++ ds) (done ++ fresh) owner i' b'
-  course_then c z all ds done fresh owner i b i' b' h low more seen asked freed =
+  course_then c z all ds done fresh owner i b i' b' in_course low more seen asked freed =
       record {
         within = low;
         seen =
             subst (AreBelow b') (sym (flat_map-append index_seen done fresh))
-            (all_both (λ n. n < b') (seen_in done) (seen_in fresh) (below_more b b' (seen_in done) more h.seen) seen);
+            (all_both (λ n. n < b') (seen_in done) (seen_in fresh) (below_more b b' (seen_in done) more in_course.seen) seen);
         asked =
             subst (AreBelow b') (sym (flat_map-append index_asked all ds))
-            (all_both (λ n. n < b') (asked_in all) (asked_in ds) (below_more b b' (asked_in all) more h.asked) asked);
-        freed = λ j was. later j (⊎_elim (λ earlier. h.freed j earlier) (λ known. known) (freed j was));
+            (all_both (λ n. n < b') (asked_in all) (asked_in ds) (below_more b b' (asked_in all) more in_course.asked) asked);
+        freed = λ j was. later j (⊎_elim (λ earlier. in_course.freed j earlier) (λ known. known) (freed j was));
       }
     where
       later : (j : ℕ) → AskedOrShown c z all done owner j → AskedOrShown c z (all ++ ds) (done ++ fresh) owner j
-      later j k = ⊎_elim (λ asked. inl (one_more_of (Asks j owner) all ds asked)) (λ shown. inr (has_more (Sees j) done fresh shown)) k
+      later j asked_or_shown =
+          ⊎_elim (λ asked. inl (one_more_of (Asks j owner) all ds asked)) (λ shown. inr (has_more (Sees j) done fresh shown)) asked_or_shown
 
 -- ---- what it knows
 
@@ -116,12 +117,12 @@ module _ {T : Type 0} (code : Coding T) (c owner : ℕ) (v : View T) (words' : L
       → ((i : ℕ) → Was i → (filled_of i (v.events ++ es) ≢ Some owner) ⊎ Now i)
       → ((i : ℕ) → New i → (filled_of i (v.events ++ es) ≢ Some owner) ⊎ Now i)
       → HasHidden code c v.party owner But' (now then_view) → Recovers code c owner k' Now But' then_view
-  recovers_then k k' Was Now New But But' h asked told was new hidden =
+  recovers_then k k' Was Now New But But' recovers asked told was new hidden =
       record {
-        dead = gone_more v.terms.by owner events es h.dead;
-        was_open = held_later p IsUnlocked events es none h.was_open;
+        dead = gone_more v.terms.by owner events es recovers.dead;
+        was_open = held_later p IsUnlocked events es none recovers.was_open;
         asked = asked;
-        gone = gone_then Was Now New h.dead h.gone told was new;
+        gone = gone_then Was Now New recovers.dead recovers.gone told was new;
         hidden = hidden;
       }
 

@@ -262,7 +262,7 @@ module _ {T : Type 0} (recovery : Recovery T) where
         lock_paid : (next : Lock) (ask : Option Ask) (back : Bool)
             → set_knows.Paid (set_knows.lock_holds next) (set_stages.sees (of_set scene) ask back)
             → backs_then scene back + since_then scene ask ≤ changes_then scene ask
-        lock_paid next ask back h = held_paid (set_knows.lock_holds next) ask back h
+        lock_paid next ask back paid = held_paid (set_knows.lock_holds next) ask back paid
 
         -- at the events that it sees
         paid_calm : (next : Lock) (ask : Option Ask) (back : Bool)

@@ -181,12 +181,12 @@ module _ {T : Type 0} (removing : Removing T) where
     left_calm : (next : RemoveStage) (ask : Option Ask) (back : Bool)
         → set_effects.Stays (of_set scene) (words_after ws ask) → HasLeft code c index count (sees_now scene)
         → HasLeft code c index count (SeesCalmly next ask back)
-    left_calm next ask back stays h =
+    left_calm next ask back stays has_left_holds =
         let same : count_at c (words_after ws ask) index ≡ count_in code c (before scene) index = stays.others (count_word c index) (omega arith) in
         record {
-          within = h.within;
-          below = λ kept. let low = h.below kept in omega arith;
-          left = λ holds is. h.left (was_well_formed_calmly scene start tt here.span (then_at next ask back) holds) (sym same ∙ is);
+          within = has_left_holds.within;
+          below = λ kept. let low = has_left_holds.below kept in omega arith;
+          left = λ holds is. has_left_holds.left (was_well_formed_calmly scene start tt here.span (then_at next ask back) holds) (sym same ∙ is);
         }
 
     -- a release that has freed
@@ -207,9 +207,9 @@ module _ {T : Type 0} (removing : Removing T) where
         low : (s : ReleaseStage) → ReleaseAt c index owner mode (all scene) s
             → ReleaseLeft code c index count s (sees_now scene) → Keeps scene.terms
             → count ≤ count_at c (words_after ws ask) index
-        low releases.EmptiesCell at h kept = let was = h.1 kept in let eq = same in omega arith
-        low (releases.Raises raise) at h kept = let was = h.below kept in let eq = same in omega arith
-        low (releases.Locks lock) at h kept = let was = h.below kept in let eq = same in omega arith
+        low releases.EmptiesCell at release_left kept = let was = release_left.1 kept in let eq = same in omega arith
+        low (releases.Raises raise) at release_left kept = let was = release_left.below kept in let eq = same in omega arith
+        low (releases.Locks lock) at release_left kept = let was = release_left.below kept in let eq = same in omega arith
     left_next (releases.Raises raise) ask back stays at =
         left_calm (removes.Releases count (releases.Raises raise)) ask back stays (has_left at)
     left_next (releases.Locks lock) ask back stays at =
@@ -440,4 +440,4 @@ module _ {T : Type 0} (removing : Removing T) where
     pub release_step : set_knows.Knows c (release_at c index owner mode stage) (set_stages.now (of_set scene))
         → steps ≤ 1 + release_number c mode stage backs
         → StepOf scene start (at_stage (removes.Releases count stage))
-    release_step k s = held_step (of_set scene) (inv_of_set scene inv) index owner mode fits below lives began 1 Lead caller stage now_at k s
+    release_step knows s = held_step (of_set scene) (inv_of_set scene inv) index owner mode fits below lives began 1 Lead caller stage now_at knows s

@@ -86,10 +86,11 @@ module _ {T : Type 0} (replacing : Replacing T) where
   may_before : (stage : ReplaceStage) → Here stage → HeldSometime p (IsFilledWith owner index) events
       → (y : Party T) (es : List (Event T)) → AreOwn p es → BeginsNone p es → Lengthens es → 1 ≤ y.steps
       → IsWellFormedSoFar scene.terms (put p y latest) (events ++ es) → MayReplace p index owner events
-  may_before stage here filled y es own none longer few h =
+  may_before stage here filled y es own none longer few well_formed_so_far =
       let span : span_of p (events ++ es) ≡ Open (Container (Replace index value owner)) (wrote_of p events ++ es) =
       span_of-own p events es own ∙ (ap (λ s. fold own_after s es) here.span ∙ longer start (wrote_of p events)) in
-      let stands : StandsWellFormed p (Some y) (events ++ es) = subst (λ o. StandsWellFormed p o (events ++ es)) (party_put_same p y latest) (h.replaces p) in
+      let stands : StandsWellFormed p (Some y) (events ++ es) =
+      subst (λ o. StandsWellFormed p o (events ++ es)) (party_put_same p y latest) (well_formed_so_far.replaces p) in
       (earlier p index owner events es none
       (stands index owner value (wrote_of p events ++ es) span few (held_later p (IsFilledWith owner index) events es none filled))).may
 
@@ -101,8 +102,9 @@ module _ {T : Type 0} (replacing : Replacing T) where
 
   pub was_calm : (stage : ReplaceStage) → Here stage → HeldSometime p (IsFilledWith owner index) events → (y : Party T)
       → 1 ≤ y.steps → IsWellFormedSoFar scene.terms (put p y latest) events → WellFormed (before scene)
-  was_calm stage here filled y few h =
-      was_going stage here filled ws y [] tt tt none_lengthens few (subst (λ es. IsWellFormedSoFar scene.terms (put p y latest) es) (sym (append-nil events)) h)
+  was_calm stage here filled y few well_formed_so_far =
+      was_going stage here filled ws y [] tt tt none_lengthens few
+      (subst (λ es. IsWellFormedSoFar scene.terms (put p y latest) es) (sym (append-nil events)) well_formed_so_far)
 
   -- it is there still, one step further
   pub found_then : (stage next : ReplaceStage) → Here stage → (ask : Ask) (es : List (Event T)) → AreOwn p es

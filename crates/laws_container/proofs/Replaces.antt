@@ -73,7 +73,7 @@ module _ {T : Type 0} where
       }
 
   replacer_stays : (i o : ℕ) (party : Option ℕ) (e : Event T) → TakesNot i o e → replacer_after i o party e ≡ party
-  replacer_stays i o party e h = grind arith
+  replacer_stays i o party e takes_not = grind arith
 
   replacers_stay : (i o : ℕ) (party : Option ℕ) (es : List (Event T)) → NoneTakes i o es → fold (replacer_after i o) party es ≡ party
   replacers_stay i o party [] h = refl
@@ -95,7 +95,7 @@ module _ {T : Type 0} where
   pub add_later : (by : GoneBy) (events es : List (Event T)) (q i o : ℕ) → Spares by q events es
       → (IsCalm by events → is_gone by o events ≡ false → Adds q i o events) → IsCalm by (events ++ es)
       → is_gone by o (events ++ es) ≡ false → Adds q i o (events ++ es)
-  add_later by events es q i o spares h calm alive =
+  add_later by events es q i o spares adds calm alive =
       let lives = gone_less by o events es alive in
-      let own = h (calm_less by events es calm) lives in
+      let own = adds (calm_less by events es calm) lives in
       record { by = spares.owned calm i o lives own.by; held = spares.held calm i o lives own.by own.held }

@@ -246,4 +246,4 @@ module _ {T : Type 0} (size c : ℕ) (old new : List ℕ) where
     to_falls steps s was (GoOn next) low one none (inr h, pays) =
         let less = moves h (flights.Container was) (flights.Container next) in
         inr (omega (arith, less, low, one), inl (moved_by h, pays))
-    to_falls steps s was (Done answer) low one none h = tt
+    to_falls steps s was (Done answer) low one none call_to_holds = tt

@@ -87,17 +87,17 @@ module _ {T : Type 0} (code : Coding T) (c : ℕ) (words : List ℕ) where
         (remove_released (record { capacity = c; stage = removes.Releases count stage }) count a)))
     released n' was count (GoOn next) (inl h) moved new is stage e = (inl (is ∙ h.0, (let le = h.1 in omega arith)), omega arith)
     released n' was count (GoOn next) (inr h) moved new is stage e = (inr (rw is h), omega arith)
-    released n' was count (Done (Ok state)) h moved new is stage e = go (is_even count) refl moved
+    released n' was count (Done (Ok state)) release_to_holds moved new is stage e = go (is_even count) refl moved
       where
         go : (t : Bool) → is_even count ≡ t → StaysOrMoves c n n'
             → CallTo code.size c words new 1 (remove (removes.Releases count stage))
             (as_call calls.Remove removed
             (went_on as_it_is given tt (remove_released (record { capacity = c; stage = removes.Releases count stage }) count (Done (Ok state)))))
-        go true t (inl h) = rw t (inl (is ∙ h, omega arith), omega arith)
-        go true t (inr h) = rw t (inr (rw is h), omega arith)
-        go false t (inl h) = rw t (inl (is ∙ h, omega arith), omega arith)
-        go false t (inr h) = rw t (inr (rw is h), omega arith)
-    released n' was count (Done (Err failure)) h moved new is stage e = tt
+        go true t (inl release_to_holds) = rw t (inl (is ∙ release_to_holds, omega arith), omega arith)
+        go true t (inr release_to_holds) = rw t (inr (rw is release_to_holds), omega arith)
+        go false t (inl release_to_holds) = rw t (inl (is ∙ release_to_holds, omega arith), omega arith)
+        go false t (inr release_to_holds) = rw t (inr (rw is release_to_holds), omega arith)
+    released n' was count (Done (Err failure)) release_to_holds moved new is stage e = tt
 
     release_leaves_none : (stage : ReleaseStage) → get_or (words_after words (ask_of (release_asks stage given))) 0 0 ≡ n
         → LeavesAll (measure {T = T} code.size c) words (words_after words (ask_of (release_asks stage given)))
@@ -183,28 +183,28 @@ module _ {T : Type 0} (code : Coding T) (c : ℕ) (words : List ℕ) where
     -- has less room
     raised : (n' index : ℕ) (raise : raises.Raise) (a : After raises.Raise ReleaseState) → RaiseTo c n n' raise a → (new : List ℕ) → get_or new 0 0 ≡ n'
         → To new 1 (recovers.Raises index raise) (becomes room (recover_raised (at_stage (recovers.Raises index raise)) index mode a))
-    raised n' index raise (GoOn next) h new is = (inl (is ∙ h.0, (let le = h.1 in omega arith)), omega arith)
+    raised n' index raise (GoOn next) raise_to_holds new is = (inl (is ∙ raise_to_holds.0, (let le = raise_to_holds.1 in omega arith)), omega arith)
     raised n' index raise (Done states.Locked) (inl h) new is = (inl (is ∙ h, omega arith), omega arith)
     raised n' index raise (Done states.Locked) (inr h) new is = (inr (rw is h), omega arith)
-    raised n' index raise (Done states.Unlocked) h new is = by_mode mode h
+    raised n' index raise (Done states.Unlocked) raise_to_holds new is = by_mode mode raise_to_holds
       where
         -- a recovery whose raise has ended, and that locks in the mode for that alone, has a
         -- step less, or the counter has less room
         by_mode : (m : ReleaseMode) → StaysOrMoves c n n'
             → To new 1 (recovers.Raises index raise)
             (becomes room (recover_raised (at_stage (recovers.Raises index raise)) index m (Done states.Unlocked)))
-        by_mode Default h =
-            comes new 1 index room (recovers.Raises index raise) (subst (StaysOrMoves c n) (sym is) h) (omega arith)
-        by_mode LockIfLastIndex (inl h) = (inl (is ∙ h, omega arith), omega arith)
-        by_mode LockIfLastIndex (inr h) = (inr (rw is h), omega arith)
+        by_mode Default raise_to_holds =
+            comes new 1 index room (recovers.Raises index raise) (subst (StaysOrMoves c n) (sym is) raise_to_holds) (omega arith)
+        by_mode LockIfLastIndex (inl raise_to_holds) = (inl (is ∙ raise_to_holds, omega arith), omega arith)
+        by_mode LockIfLastIndex (inr raise_to_holds) = (inr (rw is raise_to_holds), omega arith)
 
     -- a recovery whose lock has a step less has one less itself, or the counter has less room
     lock_goes : (n' index : ℕ) (lock : locks.Lock) (a : After locks.Lock ReleaseState) → LockTo c n n' lock a → (new : List ℕ) → get_or new 0 0 ≡ n'
         → To new 1 (recovers.Locks index lock) (becomes room (recover_locked (at_stage (recovers.Locks index lock)) index a))
     lock_goes n' index lock (GoOn next) (inl h) new is = (inl (is ∙ h.0, (let le = h.1 in omega arith)), omega arith)
     lock_goes n' index lock (GoOn next) (inr h) new is = (inr (rw is h), omega arith)
-    lock_goes n' index lock (Done state) h new is =
-        comes new 1 index room (recovers.Locks index lock) (subst (StaysOrMoves c n) (sym is) h) (omega arith)
+    lock_goes n' index lock (Done state) lock_to_holds new is =
+        comes new 1 index room (recovers.Locks index lock) (subst (StaysOrMoves c n) (sym is) lock_to_holds) (omega arith)
 
     -- what its step comes to, whatever words that leaves
     abbrev Steps : List ℕ → RecoverStage → Type 0

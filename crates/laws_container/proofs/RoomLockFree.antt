@@ -189,7 +189,7 @@ module _ {T : Type 0} where
       -- measure with room if it falls by the one without
       plain_falls : (s : ℕ) → s ≤ 1 → (was : ContainerFlight T) (a : After (ContainerFlight T) (Answer T)) → is_plain was ≡ true → PlainAfter a
           → StaysOrMoves c (get_or old 0 0) (get_or new 0 0) → Falls (measure size c) s was a → Falls (room_measure size c) s was a
-      plain_falls s one was (Done answer) plain then moved h = tt
+      plain_falls s one was (Done answer) plain then moved falls_holds = tt
       plain_falls s one was (GoOn next) plain then (inl same) (inl (e, le, pays)) =
           let a = plain_is old was plain in let b = plain_is old next then in
           inl (e, omega (arith, le, a, b), omega (arith, pays, a, b))
@@ -199,10 +199,10 @@ module _ {T : Type 0} where
       plain_falls s one was (GoOn next) plain then (inl same) (inr (le, inr pays)) =
           let a = plain_is old was plain in let b = plain_is new next then in
           inr (rw same (omega (arith, le, a, b)), inr (omega (arith, pays, a, b)))
-      plain_falls s one was (GoOn next) plain then (inr less) h =
+      plain_falls s one was (GoOn next) plain then (inr less) falls_holds =
           let down = moves size c old new most less (flights.Container was) (flights.Container next) in
           let a = plain_is old was plain in let b = plain_is old next then in
-          let fewer = no_more h in
+          let fewer = no_more falls_holds in
           inr (omega (arith, down, one), inl (moved_by size c old new most less, omega (arith, fewer, a, b)))
         where
           no_more : Falls (measure size c) s was (GoOn next) → call_pays c next ≤ call_pays c was
@@ -396,8 +396,8 @@ module _ {T : Type 0} (code : Coding T) (c : ℕ) (some : 1 ≤ c) (wide : 1 ≤
 
   own_after : (start : ContainerStart T) (a : After (ContainerFlight T) (Answer T)) → CallAfter code c a
       → OwnAfter room_outline code c (starts.Container start) (as_call flights.Container (λ answer. answer) a)
-  own_after start (GoOn flight) h = h
-  own_after start (Done answer) h = tt
+  own_after start (GoOn flight) call_after = call_after
+  own_after start (Done answer) call_after = tt
 
   -- a call that goes on stands at a place of its name, and its party has a state if it looks
   goes : (p : ℕ) (start : Start T) (flight : Flight T) (old : ℕ) (kept : Registry T) → AtAny code c start flight → Kept kept → Known p kept flight

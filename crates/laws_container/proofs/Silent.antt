@@ -36,40 +36,40 @@ module _ {T : Type 0} where
     fold_stays (e ∷ es) h a = ap (λ b. fold f b es) (stays e h.0 a) ∙ fold_stays es h.1 a
 
   filled_stays : (i : ℕ) (e : Event T) → Silent e → (o : Option ℕ) → filled_after i o e ≡ o
-  filled_stays i e h o = grind arith
+  filled_stays i e silent_holds o = grind arith
 
   holder_stays : (i : ℕ) (e : Event T) → Silent e → (o : Option ℕ) → holder_after i o e ≡ o
-  holder_stays i e h o = grind arith
+  holder_stays i e silent_holds o = grind arith
 
   locked_stays : (e : Event T) → Silent e → (b : Bool) → locked_after b e ≡ b
-  locked_stays e h b = grind arith
+  locked_stays e silent_holds b = grind arith
 
   dead_stays : (owner : ℕ) (e : Event T) → Silent e → (b : Bool) → dead_after owner b e ≡ b
-  dead_stays o e h b = grind arith
+  dead_stays o e silent_holds b = grind arith
 
   contents_stay : (i : ℕ) (e : Event T) → Silent e → (o : Option T) → contents_after i o e ≡ o
-  contents_stay i e h o = grind arith
+  contents_stay i e silent_holds o = grind arith
 
   left_stays : (i : ℕ) (e : Event T) → Silent e → (b : Bool) → left_after i b e ≡ b
-  left_stays i e h b = grind arith
+  left_stays i e silent_holds b = grind arith
 
   settled_stays : (i : ℕ) (e : Event T) → Silent e → (o : Option ℕ) → settled_after i o e ≡ o
-  settled_stays i e h o = grind arith
+  settled_stays i e silent_holds o = grind arith
 
   right_stays : (i : ℕ) (e : Event T) → Silent e → (r : Right) → right_after i r e ≡ r
-  right_stays i e h r = grind arith
+  right_stays i e silent_holds r = grind arith
 
   announced_stays : (i : ℕ) (e : Event T) → Silent e → (b : Bool) → announced_after i b e ≡ b
-  announced_stays i e h b = grind arith
+  announced_stays i e silent_holds b = grind arith
 
   does_right : (c : ℕ) (earlier : List (Event T)) (e : Event T) → Silent e → SetDoes c earlier e
-  does_right c earlier e h = grind arith
+  does_right c earlier e silent_holds = grind arith
 
   holds_right : (earlier : List (Event T)) (e : Event T) → Silent e → HoldsRight earlier e
-  holds_right earlier e h = grind arith
+  holds_right earlier e silent_holds = grind arith
 
   answers_right : (by : GoneBy) (worn : Type 0) (c : ℕ) (earlier : List (Event T)) (e : Event T) → Silent e → AnswersBy by worn c earlier e
-  answers_right by worn c earlier e h = grind arith
+  answers_right by worn c earlier e silent_holds = grind arith
 
   all_right : (P : List (Event T) → Event T → Type 0)
       → ((earlier : List (Event T)) (e : Event T) → Silent e → P earlier e) → (earlier es : List (Event T))

@@ -119,11 +119,11 @@ pub record MayGoOn {T : Type 0} (terms : Terms) (t : Trace T) : Type 0 where
 module _ {T : Type 0} where
   few_room : (by : GoneBy) (c : ℕ) (words dead : List ℕ) (events : List (Event T)) (turns : ℕ)
       → set.Good by c words dead events turns → turns < 2 ^ 64 - 2 → set.HasRoom by words
-  few_room by c words dead events turns g small = grind arith
+  few_room by c words dead events turns good_holds small = grind arith
 
   pub may_go_on : (terms : Terms) (code : Coding T) (c : ℕ) (t : Trace T) → frame.Sound (family_by terms code c) t
       → t.world.turns < 2 ^ 64 - 2 → MayGoOn terms t
-  may_go_on terms code c t s small = let by_few_room = few_room in grind arith
+  may_go_on terms code c t sound small = let by_few_room = few_room in grind arith
 
 -- `c` is the capacity, `t` the run so far, and `s` what is sound of it
 module _ {T : Type 0} (shown : Shown T) (terms : Terms) (code : Coding T) (c : ℕ) (t : Trace T) (s : frame.Sound (family_by terms code c) t) where
@@ -171,7 +171,7 @@ module _ {T : Type 0} (shown : Shown T) (terms : Terms) (code : Coding T) (c : �
     pub is_there : (start : ContainerStart T) (flight : ContainerFlight T)
         → StandsThere (family_by terms code c) t s p x since (Container start) (flights.Container flight)
         → IsThere start flight
-    is_there start flight h = grind arith
+    is_there start flight stands_there = grind arith
 
     -- the rows that it has passed
     pub passes : (flight : ContainerFlight T) (said : Option Bool)
@@ -192,8 +192,8 @@ module _ {T : Type 0} (shown : Shown T) (terms : Terms) (code : Coding T) (c : �
         → first_row (going_rows code kept_now (Some flight) None) ≡ None
         → StandsThere (family_by terms code c) t s p x since start flight
         → ComesFrom (family_by terms code c) t s p x since code s.state.words kept_now start flight
-    comes may (Container start) (flights.Container flight) rightly r h =
-        let there = is_there start flight h in
+    comes may (Container start) (flights.Container flight) rightly r stands_there =
+        let there = is_there start flight stands_there in
         let inv = inv_with may in
         let moves =
         step_moves (scene_of p x since) inv (shown.calls (scene_of p x since) inv) start flight there.at there.here
@@ -204,7 +204,7 @@ module _ {T : Type 0} (shown : Shown T) (terms : Terms) (code : Coding T) (c : �
           holds = holds_more (scene_of p x since) _ _ (Open (Container start) (wrote_of p t.events)) _ _ _ moves s.state state_is s.holds s.inv;
           owes = owes (scene_of p x since) _ _ (Open (Container start) (wrote_of p t.events)) _ _ _ moves s.state state_is s.holds s.inv there.here.span;
         }
-    comes may start flight rightly r h = absurd h.at
+    comes may start flight rightly r stands_there = absurd stands_there.at
 
     -- ---- a decision
 
@@ -212,8 +212,8 @@ module _ {T : Type 0} (shown : Shown T) (terms : Terms) (code : Coding T) (c : �
     pub decides : MayGoOn terms t → (said : Bool) (start : Start T) (flight : Flight T)
         → is_question (want_of code flight) ≡ true → StandsThere (family_by terms code c) t s p x since start flight
         → DecidesFrom (family_by terms code c) t s p x since code (number_of said) s.state.words kept_now start flight
-    decides may said (Container start) (flights.Container flight) asks h =
-        let there = is_there start flight h in
+    decides may said (Container start) (flights.Container flight) asks stands_there =
+        let there = is_there start flight stands_there in
         let inv = inv_with may in
         let moves =
         decision_moves (scene_of p x since) inv (shown.calls (scene_of p x since) inv) said start flight there.at
@@ -224,7 +224,7 @@ module _ {T : Type 0} (shown : Shown T) (terms : Terms) (code : Coding T) (c : �
           holds = holds_more (scene_of p x since) _ _ (Open (Container start) (wrote_of p t.events)) _ _ _ moves s.state state_is s.holds s.inv;
           owes = owes (scene_of p x since) _ _ (Open (Container start) (wrote_of p t.events)) _ _ _ moves s.state state_is s.holds s.inv there.here.span;
         }
-    decides may said start flight asks h = absurd h.at
+    decides may said start flight asks stands_there = absurd stands_there.at
 
   -- ---- a call begins
 
@@ -328,8 +328,8 @@ module _ {T : Type 0} (shown : Shown T) (terms : Terms) (code : Coding T) (c : �
           → (q since backs : ℕ) (flight : Flight T)
           → Knowing code c flight (view terms s.state.words s.state.states t.world.latest t.events q since t.world.changes backs)
           → Knowing code c flight (view terms s.state.words s.state.states t.world.latest (t.events ++ Died o ∷ []) q since t.world.changes backs)
-      knows_then o d q since backs (flights.Container flight) h = d.knows q since t.world.changes backs flight h
-      knows_then o d q since backs flight h = absurd h
+      knows_then o d q since backs (flights.Container flight) knowing = d.knows q since t.world.changes backs flight knowing
+      knows_then o d q since backs flight knowing = absurd knowing
 
 module _ {T : Type 0} (shown : Shown T) where
   -- where owners die a call that passes its rows acts for none who is dead

@@ -245,13 +245,13 @@ module _ {T : Type 0} (scene : Scene T) where
   pub was_well_formed_calmly : (start : ContainerStart T) → NoReplace start
       → span_of p events ≡ Open (Container start) (wrote_of p events) → (y : Party T)
       → IsWellFormedSoFar scene.terms (put p y latest) events → WellFormed (before scene)
-  was_well_formed_calmly start none span y h =
-      was_well_formed start none span ws y [] tt (subst (λ es. IsWellFormedSoFar scene.terms (put p y latest) es) (sym (append-nil events)) h)
+  was_well_formed_calmly start none span y well_formed_so_far =
+      was_well_formed start none span ws y [] tt (subst (λ es. IsWellFormedSoFar scene.terms (put p y latest) es) (sym (append-nil events)) well_formed_so_far)
 
   -- ---- the states of the parties, where the call is no look
 
   no_look : (flight : ContainerFlight T) → NoLook flight → is_looking (Some (flights.Container flight)) ≡ false
-  no_look flight h = grind arith
+  no_look flight no_look_holds = grind arith
 
   module _ (inv : Inv scene) (start : ContainerStart T) (flight : ContainerFlight T) (none : NoLook flight) (here : IsHere start flight) where
     pub is_idle_now : is_looking (flight_of (doing_of (party_of p latest))) ≡ false

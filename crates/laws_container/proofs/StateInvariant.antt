@@ -78,29 +78,29 @@ module _ {T : Type 0} (code : Coding T) (c : ℕ) where
     sight_later = grind (arith, copied_later, still, change_still, inl, inr)
 
     pub rests_later : Rests m q s → Rests m' q s
-    rests_later h = record { sight = sight_later c c h.sight; known = h.known; seen = h.seen; counts = h.counts; room = h.room }
+    rests_later rests = record { sight = sight_later c c rests.sight; known = rests.known; seen = rests.seen; counts = rests.counts; room = rests.room }
 
     -- of a look of a party that begins no call, nor is alone with another's step
     pub course_later : {what : Option (ℕ × T)} → CallsOn q what m.events m'.events → BeginsNone q es
         → (WasAlone q m'.events → (i : ℕ) → i < c → count_in code c m' i ≡ count_in code c m i) → (k x : ℕ)
         → Course m q s k x → Course m' q s k x
-    course_later {what} on none steady k x h =
+    course_later {what} on none steady k x course =
         record {
-          sight = sight_later k x h.sight;
-          known = h.known;
-          room = h.room;
-          unseen = h.unseen;
+          sight = sight_later k x course.sight;
+          known = course.known;
+          room = course.room;
+          unseen = course.unseen;
           fresh = λ well_formed i ks low through.
               let all = subst (StoodThere q i) more through in
               let less = through_less q (λ part. is_some (contents_of i part) ≡ true) m.events es none all in
-              let was = h.fresh (passes.well_formed well_formed) i ks low less in
+              let was = course.fresh (passes.well_formed well_formed) i ks low less in
               was ∙ sym (passes.stood well_formed i low
               (through_now q (λ part. is_some (contents_of i part) ≡ true) m.events less)
               (through_now q (λ part. is_some (contents_of i part) ≡ true) m'.events through));
           once = λ well_formed i ks low.
               subst (HeldSometime q (λ part. shows s i ≡ contents_of i part)) (sym more)
-              (held_later q (λ part. shows s i ≡ contents_of i part) m.events es none (h.once (passes.well_formed well_formed) i ks low));
+              (held_later q (λ part. shows s i ≡ contents_of i part) m.events es none (course.once (passes.well_formed well_formed) i ks low));
           alone = λ was i ks low.
-              h.alone (alone_less q m.events es none (subst (WasAlone q) more was)) i ks low ∙ sym (steady was i low);
-          own = own_later q what m.events m'.events on s x h.own;
+              course.alone (alone_less q m.events es none (subst (WasAlone q) more was)) i ks low ∙ sym (steady was i low);
+          own = own_later q what m.events m'.events on s x course.own;
         }

@@ -23,16 +23,16 @@ module _ {T : Type 0} where
 
   -- where owners die
   pub well_formed_so_far : (t : Trace T) → IsWellFormedRun t → IsWellFormedSoFar dying t.world.latest t.events
-  well_formed_so_far t h = well_formed_on dying t refl tt h
+  well_formed_so_far t well_formed_run = well_formed_on dying t refl tt well_formed_run
 
   -- a replace of a party whose span stays was begun rightly before as well
   pub stands_less : (q : ℕ) (o : Option (Party T)) (events es : List (Event T)) → BeginsNone q es
       → span_of q (events ++ es) ≡ span_of q events → StandsWellFormed q o (events ++ es) → StandsWellFormed q o events
-  stands_less q None events es none same h = tt
-  stands_less q (Some x) events es none same h =
+  stands_less q None events es none same stands_well_formed = tt
+  stands_less q (Some x) events es none same stands_well_formed =
       λ index owner value wrote span steps found.
       (earlier q index owner events es none
-      (h index owner value wrote (same ∙ span) steps (held_later q (IsFilledWith owner index) events es none found))).may
+      (stands_well_formed index owner value wrote (same ∙ span) steps (held_later q (IsFilledWith owner index) events es none found))).may
 
   -- the call `y` of party `p` writes the events `es`
   module _ (terms : Terms) (p : ℕ) (y : Party T) (latest : List (ℕ × Party T)) (events es : List (Event T)) (own : AreOwn p es) where
@@ -44,10 +44,12 @@ module _ {T : Type 0} where
 
     -- a turn of a party of which this is so
     pub well_formed_before : (IsWellFormedThen → StandsWellFormed p (party_of p latest) events) → IsWellFormedThen → IsWellFormedSoFar terms latest events
-    well_formed_before mine h =
+    well_formed_before mine is_well_formed_then_holds =
         record {
-          kept = h.kept;
-          calm = calm_less terms.by events es h.calm;
-          replaced = Each-less ReplacesRight events es h.replaced;
-          replaces = λ q. ⊎_elim (λ e. subst (λ n. StandsWellFormed n (party_of n latest) events) (sym e) (mine h)) (λ ne. others_less h q ne) (cases_eq q p);
+          kept = is_well_formed_then_holds.kept;
+          calm = calm_less terms.by events es is_well_formed_then_holds.calm;
+          replaced = Each-less ReplacesRight events es is_well_formed_then_holds.replaced;
+          replaces =
+              λ q. ⊎_elim (λ e. subst (λ n. StandsWellFormed n (party_of n latest) events) (sym e) (mine is_well_formed_then_holds))
+              (λ ne. others_less is_well_formed_then_holds q ne) (cases_eq q p);
         }

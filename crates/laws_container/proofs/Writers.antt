@@ -21,4 +21,4 @@ module _ {T : Type 0} where
   -- party `p` may write at index `i` for the owner `o`, and party `q` for `u`
   module _ (p q i o u : ℕ) (events : List (Event T)) (owned : AreOwned events) where
     pub one_writer : IsWriter p i o events → IsWriter q i u events → p ≡ q
-    one_writer a b = grind arith
+    one_writer first_writer second_writer = grind arith

@@ -17,8 +17,8 @@ module _ {T : Type 0} (turn : Turn T) (p : ℕ) (mine : IsParty turn p) where
   either false xs ys left right = right
 
   joined : (xs ys : List (Event T)) → All xs → All ys → All (xs ++ ys)
-  joined [] ys h r = r
-  joined (x ∷ xs) ys h r = (h.0, joined xs ys h.1 r)
+  joined [] ys first_all second_all = second_all
+  joined (x ∷ xs) ys first_all second_all = (first_all.0, joined xs ys first_all.1 second_all)
 
   all_done : (code : Coding T) (state : Option (ContainerState T)) (flight : ContainerFlight T) (old : ℕ) → All (effects code p state flight old)
   all_done code state flight old = grind arith

@@ -21,7 +21,7 @@ use Rattle.model.specs.World.{Trace}
 
 module _ {T : Type 0} (well_formed : Type 0) where
   -- the indices below the bound that a find has counted
-  abbrev pub CountsIf : ℕ → ℕ → ℕ → ℕ → List (Event T) → Type 0
+  abbrev pub CountsIf : (p owner bound number : ℕ) → List (Event T) → Type 0
   CountsIf p owner bound number events =
       IsCount p (IsFilledWith owner) bound number events
       × (well_formed → IsFoundWhole p owner bound number events)

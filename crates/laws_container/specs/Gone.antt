@@ -33,7 +33,7 @@ module _ {T : Type 0} where
   AsksBy by before e = Unit {0}
 
   -- a recovery frees for its own owner, who is gone, what it was told to free or shown
-  abbrev pub FreedBy : GoneBy → ℕ → ℕ → ℕ → List (Event T) → Span T → Type 0
+  abbrev pub FreedBy : GoneBy → (p index owner : ℕ) → List (Event T) → Span T → Type 0
   FreedBy by p index owner before (Open (Container (Recover o mode)) wrote) =
       (owner ≡ o) × (is_gone by owner before ≡ true)
       × (IsOneOf (Yes index owner) (set_acts_of p before) ⊎ WasShown p index before)
@@ -55,7 +55,7 @@ module _ {T : Type 0} where
   -- ---- answers
 
   -- in the mode that locks, some index was filled after each that it freed
-  abbrev pub FilledSinceEachBy : Type 0 → ReleaseMode → ℕ → ℕ → List (Event T) → Type 0
+  abbrev pub FilledSinceEachBy : Type 0 → ReleaseMode → (p owner : ℕ) → List (Event T) → Type 0
   FilledSinceEachBy worn LockIfLastIndex p owner events =
       (index : ℕ) → IsOneOf (Frees index owner) (set_acts_of p events)
       → worn ⊎ FilledSinceFreed p owner index events

@@ -199,7 +199,7 @@ module _ {T : Type 0} (code : Coding T) (c : ℕ) (words : List ℕ) where
 
     -- after a claim of a flag that stood no flag more stands
     tried_fewer : (j : ℕ) → is_claimed c tried j ≡ true → is_claimed c words j ≡ true
-    tried_fewer j t = ⊎_elim here there (cases_eq j i)
+    tried_fewer j is_claimed_true = ⊎_elim here there (cases_eq j i)
       where
         here : j ≡ i → is_claimed c words j ≡ true
         here e = subst (λ k. is_claimed c words k ≡ true) (sym e) stood
@@ -208,7 +208,7 @@ module _ {T : Type 0} (code : Coding T) (c : ℕ) (words : List ℕ) where
         there ne =
             let wide = g.wide in
             let within = flag_within c i below in
-            sym (claim_leaves c words i (omega arith) j ne) ∙ t
+            sym (claim_leaves c words i (omega arith) j ne) ∙ is_claimed_true
 
     claims_fall : Shown (acquire_at c (acquires.Claims i))
     claims_fall =
@@ -241,24 +241,24 @@ module _ {T : Type 0} (code : Coding T) (c : ℕ) (words : List ℕ) where
   -- each step of an acquire falls
   acquire_falls : (holders : List (Option ℕ)) (busy_calls : ℕ) → Good c words holders busy_calls → (stage : AcquireStage) → AcquireAt c stage
       → counts (acquire_at c stage) ≤ busy_calls → Shown (acquire_at c stage)
-  acquire_falls holders busy_calls g acquires.LoadsHead at heavy =
+  acquire_falls holders busy_calls good_holds acquires.LoadsHead at heavy =
       sees_falls _ (flights.Indices (acquire_at c acquires.LoadsHead)) acquires.LoadsHead (load_leaves words 0)
       (omega arith) (omega arith)
-  acquire_falls holders busy_calls g (acquires.LoadsNext head) at heavy = go (now == head) refl
+  acquire_falls holders busy_calls good_holds (acquires.LoadsNext head) at heavy = go (now == head) refl
     where
       go : (t : Bool) → (now == head) ≡ t → Shown (acquire_at c (acquires.LoadsNext head))
       go true t = inl (load_leaves words (next_word (proposed head)), rw t (omega arith), omega arith)
       go false t = inl (load_leaves words (next_word (proposed head)), rw t (omega arith), omega arith)
-  acquire_falls holders busy_calls g (acquires.ExchangesHead head next) at heavy = exchange_falls g.some head next
-  acquire_falls holders busy_calls g (acquires.Claims i) at heavy = go (is_claimed c words i) refl
+  acquire_falls holders busy_calls good_holds (acquires.ExchangesHead head next) at heavy = exchange_falls good_holds.some head next
+  acquire_falls holders busy_calls good_holds (acquires.Claims i) at heavy = go (is_claimed c words i) refl
     where
       go : (t : Bool) → is_claimed c words i ≡ t → Shown (acquire_at c (acquires.Claims i))
-      go true t = claims_fall holders busy_calls g i at t
+      go true t = claims_fall holders busy_calls good_holds i at t
       go false t = rw t tt
-  acquire_falls holders busy_calls g (acquires.Scans i) at heavy = go (is_claimed c words i) refl
+  acquire_falls holders busy_calls good_holds (acquires.Scans i) at heavy = go (is_claimed c words i) refl
     where
       go : (t : Bool) → is_claimed c words i ≡ t → Shown (acquire_at c (acquires.Scans i))
-      go true t = scans_fall holders busy_calls g i at t (some_free c words holders busy_calls g heavy)
+      go true t = scans_fall holders busy_calls good_holds i at t (some_free c words holders busy_calls good_holds heavy)
       go false t = rw t tt
 
   -- ---- a release
@@ -272,7 +272,7 @@ module _ {T : Type 0} (code : Coding T) (c : ℕ) (words : List ℕ) where
 
     -- after a flag is cleared no flag more stands
     cleared_fewer : (j : ℕ) → is_claimed c cleared j ≡ true → is_claimed c words j ≡ true
-    cleared_fewer j t = ⊎_elim here there (cases_eq j index)
+    cleared_fewer j is_claimed_true = ⊎_elim here there (cases_eq j index)
       where
         within : flag_word c index < length words
         within = let wide = g.wide in let low = flag_within c index below in omega arith
@@ -280,11 +280,11 @@ module _ {T : Type 0} (code : Coding T) (c : ℕ) (words : List ℕ) where
         here : j ≡ index → is_claimed c words j ≡ true
         here e =
             let clear = clear_clears c words index within in
-            let stood : is_claimed c cleared index ≡ true = subst (λ k. is_claimed c cleared k ≡ true) e t in
+            let stood : is_claimed c cleared index ≡ true = subst (λ k. is_claimed c cleared k ≡ true) e is_claimed_true in
             absurd (cc)
 
         there : j ≢ index → is_claimed c words j ≡ true
-        there ne = sym (clear_leaves c words index within j ne) ∙ t
+        there ne = sym (clear_leaves c words index within j ne) ∙ is_claimed_true
 
     abbrev stored : ℕ → List ℕ
     stored head = set words (next_word index) (proposed head)
@@ -293,7 +293,7 @@ module _ {T : Type 0} (code : Coding T) (c : ℕ) (words : List ℕ) where
     stored_head head = head_stays c words (next_word index) (proposed head) (omega arith)
 
     stored_fewer : (head j : ℕ) → is_claimed c (stored head) j ≡ true → is_claimed c words j ≡ true
-    stored_fewer head j t = sym (claims_stay c words (next_word index) (proposed head) j (omega arith)) ∙ t
+    stored_fewer head j is_claimed_true = sym (claims_stay c words (next_word index) (proposed head) j (omega arith)) ∙ is_claimed_true
 
     -- each step of a release in mode Default falls
     default_falls : (stage : ReleaseStage) → Shown (default_at c index stage)
@@ -331,18 +331,18 @@ module _ {T : Type 0} (code : Coding T) (c : ℕ) (words : List ℕ) where
   -- each step of any call of the set falls
   call_falls : (holders : List (Option ℕ)) (busy_calls p : ℕ) → Good c words holders busy_calls → (start : IndexStart) (flight : IndexFlight)
       → At c holders p start flight → counts flight ≤ busy_calls → Shown flight
-  call_falls holders busy_calls p g starts.Acquire (calls.Acquire run) at heavy =
+  call_falls holders busy_calls p good_holds starts.Acquire (calls.Acquire run) at heavy =
       subst (λ n. counts (acquire_at n run.call.stage) ≤ busy_calls → Shown (acquire_at n run.call.stage)) (sym at.0)
-      (λ h. acquire_falls holders busy_calls g run.call.stage at.1 h) heavy
-  call_falls holders busy_calls p g (starts.Release index Default) (calls.ReleaseDefault run) at heavy =
+      (λ h. acquire_falls holders busy_calls good_holds run.call.stage at.1 h) heavy
+  call_falls holders busy_calls p good_holds (starts.Release index Default) (calls.ReleaseDefault run) at heavy =
       subst (λ n. Shown (default_at n run.given run.call.stage)) (sym at.0)
-      (subst (λ i. Shown (default_at c i run.call.stage)) (sym at.1) (default_falls holders busy_calls g index at.2 run.call.stage))
-  call_falls holders busy_calls p g (starts.Release index LockIfLastIndex) (calls.ReleaseLock run) at heavy =
+      (subst (λ i. Shown (default_at c i run.call.stage)) (sym at.1) (default_falls holders busy_calls good_holds index at.2 run.call.stage))
+  call_falls holders busy_calls p good_holds (starts.Release index LockIfLastIndex) (calls.ReleaseLock run) at heavy =
       subst (λ n. Shown (lock_at n run.given run.call.stage)) (sym at.0)
-      (subst (λ i. Shown (lock_at c i run.call.stage)) (sym at.1) (lock_falls holders busy_calls g index at.2 run.call.stage))
-  call_falls holders busy_calls p g starts.BorrowedIndices (calls.BorrowedIndices run) at heavy = tt
-  call_falls holders busy_calls p g starts.IsLocked (calls.IsLocked run) at heavy = tt
-  call_falls holders busy_calls p g start flight at heavy = absurd at
+      (subst (λ i. Shown (lock_at c i run.call.stage)) (sym at.1) (lock_falls holders busy_calls good_holds index at.2 run.call.stage))
+  call_falls holders busy_calls p good_holds starts.BorrowedIndices (calls.BorrowedIndices run) at heavy = tt
+  call_falls holders busy_calls p good_holds starts.IsLocked (calls.IsLocked run) at heavy = tt
+  call_falls holders busy_calls p good_holds start flight at heavy = absurd at
 
 -- ---- no call has more left
 

@@ -49,8 +49,8 @@ module _ {T : Type 0} (scene : Scene T IndexSet) (inv : Inv outline scene) (stra
       -- while the set is not locked, what it counts lies between what is held and what is in
       -- use
       unlocked : is_locked events ≡ false → ((tally_of events).held ≤ borrowed_number (head_of ws)) × (borrowed_number (head_of ws) ≤ in_use (tally_of events))
-      unlocked t =
-          let says : says_locked (head_of ws) ≡ false = sym inv.holds.lock ∙ t in
+      unlocked is_locked_false =
+          let says : says_locked (head_of ws) ≡ false = sym inv.holds.lock ∙ is_locked_false in
           let not_locked : borrowed (head_of ws) ≢ locked = grind (arith, nat_tests) in
           let is = counts_right c ws hs (busy scene) g not_locked in
           let number = is.0 in

@@ -45,30 +45,30 @@ module _ (c : ℕ) (words : List ℕ) (holders : List (Option ℕ)) where
   moves_word = grind (arith, length-set, claims_stay)
 
   pub stores_next : (index x busy : ℕ) → index < c → Good c words holders busy → Good c (set words (1 + index) x) holders busy
-  stores_next index x busy below g =
+  stores_next index x busy below good =
       let same : counted_in words ≡ counted_in (set words (1 + index) x) = ap borrowed (sym (head_stays c words (1 + index) x (omega arith))) in
-      moves_word (1 + index) x busy busy (omega arith) g (subst (λ n. Tally c n (held_below holders c + busy)) same g.tally)
+      moves_word (1 + index) x busy busy (omega arith) good (subst (λ n. Tally c n (held_below holders c + busy)) same good.tally)
 
   -- ---- the head
 
   module _ (busy : ℕ) where
     new_head : (x : ℕ) → Good c words holders busy → counted_in (set words 0 x) ≡ borrowed x
-    new_head x g = let wide = g.wide in ap borrowed (get_or-set_same words 0 x 0 (omega arith))
+    new_head x good = let wide = good.wide in ap borrowed (get_or-set_same words 0 x 0 (omega arith))
 
     -- an acquire counts one more
     pub takes : (next : ℕ) → Good c words holders busy → counted_in words ≢ locked → counted_in words ≢ c
         → Good c (set words 0 (head_taken (head_of words) next)) holders (busy + 1)
-    takes next g unlocked less =
-        let few = g.few in
-        let is = counts_right busy g unlocked in
+    takes next good unlocked less =
+        let few = good.few in
+        let is = counts_right busy good unlocked in
         let same = is.0 in
         let most = is.1 in
         let to : ℕ = head_taken (head_of words) next in
-        let head : counted_in (set words 0 to) ≡ borrowed to = new_head to g in
+        let head : counted_in (set words 0 to) ≡ borrowed to = new_head to good in
         let number : borrowed to ≡ counted_in words + 1 = taken_number (head_of words) next (omega arith) in
-        let tally = tally_up c (counted_in words) (held_below holders c + busy) few g.tally (counted_in (set words 0 to)) unlocked less (head ∙ number) in
+        let tally = tally_up c (counted_in words) (held_below holders c + busy) few good.tally (counted_in (set words 0 to)) unlocked less (head ∙ number) in
         let total : held_below holders c + busy + 1 ≡ held_below holders c + (busy + 1) = omega arith in
-        moves_word 0 to busy (busy + 1) (omega arith) g (subst (λ n. Tally c (counted_in (set words 0 to)) n) total tally)
+        moves_word 0 to busy (busy + 1) (omega arith) good (subst (λ n. Tally c (counted_in (set words 0 to)) n) total tally)
 
   module _ (busy : ℕ) (g : Good c words holders (busy + 1)) where
     -- a call that gives an index back counts one less
@@ -118,32 +118,32 @@ module _ (c : ℕ) (words : List ℕ) (holders : List (Option ℕ)) where
         → ((j : ℕ) → j ≢ i → is_claimed c (set words place x) j ≡ is_claimed c words j)
         → held_below (set holders i o) c + busy' ≡ held_below holders c + busy → Good c words holders busy
         → Good c (set words place x) (set holders i o) busy'
-    moves_flag x o busy busy' here others total g =
+    moves_flag x o busy busy' here others total good =
         let same : counted_in words ≡ counted_in (set words place x) = ap borrowed (sym (head_stays c words place x (omega arith))) in
         record {
-          some = g.some;
-          few = g.few;
-          wide = length-set words place x ∙ g.wide;
-          long = length-set holders i o ∙ g.long;
+          some = good.some;
+          few = good.few;
+          wide = length-set words place x ∙ good.wide;
+          long = length-set holders i o ∙ good.long;
           flags = λ j within. ⊎_elim
               (λ e. ap (is_claimed c (set words place x)) e
               ∙ (here ∙ sym
-              (ap is_some (ap (holder (set holders i o)) e ∙ get_or-set_same holders i o None (let long = g.long in omega arith)))))
-              (λ ne. others j ne ∙ (g.flags j within ∙ sym (ap is_some (get_or-set_other holders i j o None ne)))) (cases_eq j i);
-          tally = subst (λ n. Tally c (counted_in (set words place x)) n) (sym total) (subst (λ n. Tally c n (held_below holders c + busy)) same g.tally);
+              (ap is_some (ap (holder (set holders i o)) e ∙ get_or-set_same holders i o None (let long = good.long in omega arith)))))
+              (λ ne. others j ne ∙ (good.flags j within ∙ sym (ap is_some (get_or-set_other holders i j o None ne)))) (cases_eq j i);
+          tally = subst (λ n. Tally c (counted_in (set words place x)) n) (sym total) (subst (λ n. Tally c n (held_below holders c + busy)) same good.tally);
         }
 
     within : (busy : ℕ) → Good c words holders busy → place < length words
-    within busy g = let wide = g.wide in let low = flag_within c i below in omega arith
+    within busy good = let wide = good.wide in let low = flag_within c i below in omega arith
 
     -- an acquire sets the flag that it finds clear, and holds the index
     pub claims : (p busy : ℕ) → is_claimed c words i ≡ false → Good c words holders (busy + 1)
         → Good c (set words place (bit_or old (flag i))) (set holders i (Some p)) busy
-    claims p busy clear g =
-        let in_words = within (busy + 1) g in
-        let none : one_held (holder holders i) ≡ 0 = ap one_held (none_if_not (holder holders i) (sym (g.flags i below) ∙ clear)) in
-        let more = held_below_set holders c i (Some p) below g.long in
-        moves_flag (bit_or old (flag i)) (Some p) (busy + 1) busy (claim_sets c words i in_words) (claim_leaves c words i in_words) (omega arith) g
+    claims p busy clear good =
+        let in_words = within (busy + 1) good in
+        let none : one_held (holder holders i) ≡ 0 = ap one_held (none_if_not (holder holders i) (sym (good.flags i below) ∙ clear)) in
+        let more = held_below_set holders c i (Some p) below good.long in
+        moves_flag (bit_or old (flag i)) (Some p) (busy + 1) busy (claim_sets c words i in_words) (claim_leaves c words i in_words) (omega arith) good
 
     -- a flag that stands already goes on to stand, as do the others
     pub still_claimed : (busy j : ℕ) → Good c words holders busy → is_claimed c words j ≡ true → is_claimed c (set words place (bit_or old (flag i))) j ≡ true
@@ -151,29 +151,30 @@ module _ (c : ℕ) (words : List ℕ) (holders : List (Option ℕ)) where
 
     -- after a claim of a flag that stands already the words are right for the same holders
     pub claims_again : (busy : ℕ) → is_claimed c words i ≡ true → Good c words holders busy → Good c (set words place (bit_or old (flag i))) holders busy
-    claims_again busy stood g =
+    claims_again busy stood good =
         let same : counted_in words ≡ counted_in (set words place (bit_or old (flag i))) =
         ap borrowed (sym (head_stays c words place (bit_or old (flag i)) (omega arith))) in
         record {
-          some = g.some;
-          few = g.few;
-          wide = length-set words place (bit_or old (flag i)) ∙ g.wide;
-          long = g.long;
+          some = good.some;
+          few = good.few;
+          wide = length-set words place (bit_or old (flag i)) ∙ good.wide;
+          long = good.long;
           flags = λ j below_c. ⊎_elim
-              (λ e. still_claimed busy j g (ap (is_claimed c words) e ∙ stood) ∙ (sym (ap (is_claimed c words) e ∙ stood) ∙ g.flags j below_c))
-              (λ ne. claim_leaves c words i (within busy g) j ne ∙ g.flags j below_c) (cases_eq j i);
-          tally = subst (λ n. Tally c n (held_below holders c + busy)) same g.tally;
+              (λ e. still_claimed busy j good (ap (is_claimed c words) e ∙ stood) ∙ (sym (ap (is_claimed c words) e ∙ stood) ∙ good.flags j below_c))
+              (λ ne. claim_leaves c words i (within busy good) j ne ∙ good.flags j below_c) (cases_eq j i);
+          tally = subst (λ n. Tally c n (held_below holders c + busy)) same good.tally;
         }
 
     -- nobody held it
     pub was_free : (busy : ℕ) → is_claimed c words i ≡ false → Good c words holders busy → holder holders i ≡ None
-    was_free busy clear g = none_if_not (holder holders i) (sym (g.flags i below) ∙ clear)
+    was_free busy clear good = none_if_not (holder holders i) (sym (good.flags i below) ∙ clear)
 
     -- a release clears the flag of an index that is held
     pub frees : (p busy : ℕ) → holder holders i ≡ Some p → Good c words holders busy
         → Good c (set words place (bit_and old (2 ^ 64 - 1 - flag i))) (set holders i None) (busy + 1)
-    frees p busy holds g =
-        let in_words = within busy g in
+    frees p busy holds good =
+        let in_words = within busy good in
         let one : one_held (holder holders i) ≡ 1 = ap one_held holds in
-        let less = held_below_set holders c i None below g.long in
-        moves_flag (bit_and old (2 ^ 64 - 1 - flag i)) None busy (busy + 1) (clear_clears c words i in_words) (clear_leaves c words i in_words) (omega arith) g
+        let less = held_below_set holders c i None below good.long in
+        moves_flag (bit_and old (2 ^ 64 - 1 - flag i)) None busy (busy + 1) (clear_clears c words i in_words)
+        (clear_leaves c words i in_words) (omega arith) good

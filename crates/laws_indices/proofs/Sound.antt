@@ -30,9 +30,9 @@ use Rattle.laws_indices.proofs.Steps.{step_shows, begin_shows}
 module _ {T : Type 0} where
   -- what the invariant says in the promises' words
   set_kept : (code : Coding T) (c : ℕ) (t : Trace T) → frame.Sound (family code c) t → IsIndexSet t
-  set_kept code c t s =
-      let kept = s.fit.kept in
-      let words = s.fit.words in
+  set_kept code c t sound =
+      let kept = sound.fit.kept in
+      let words = sound.fit.words in
       grind arith
 
   all_effects : (p : ℕ) (freed : Option ℕ) (outcome : Option (Answer T)) → AllByRecursion (IsEffectOf {T = T} (Next p)) (effects p freed outcome)
@@ -121,6 +121,7 @@ module _ {T : Type 0} where
   reached_on_sound = laws.reached_on_sound outline all_turns
 
   pub kept_on : (t : Trace T) → t.world.kind ≡ kinds.Indices → IsReachedOn t → IsKept t
-  kept_on t is r =
-      let s = reached_on_sound t is r in
-      laws.kept_by outline May all_turns (λ code c coded admitted. owed code c) t is r.coded r.admitted s (set_kept t.world.coding t.world.capacity t s)
+  kept_on t is reached_on =
+      let s = reached_on_sound t is reached_on in
+      laws.kept_by outline May all_turns (λ code c coded admitted. owed code c) t is reached_on.coded
+      reached_on.admitted s (set_kept t.world.coding t.world.capacity t s)

@@ -147,7 +147,7 @@ module _ {T : Type 0} (scene : Scene T IndexSet) where
 
   -- what is paid goes on to be so after a step of its own, which counts no change for it
   pub paid_of : (P : Type 0) → PaidUnless P scene.since scene.changes scene.backs → IsPaid scene.since scene.changes scene.backs
-  paid_of P h = ⊎_elim (λ k. k.1) (λ k. omega arith) h
+  paid_of P paid_unless = ⊎_elim (λ k. k.1) (λ k. omega arith) paid_unless
 
   pub unless_then : (ask : Option Ask) (P Q : Type 0) → (P → Q) → PaidUnless P scene.since scene.changes scene.backs
       → PaidUnless Q (since_then ask) (changes_then ask) (backs_then false)

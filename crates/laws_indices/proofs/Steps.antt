@@ -55,15 +55,16 @@ module _ {T : Type 0} (scene : Scene T IndexSet) (inv : Inv outline scene) where
   pub step_moves : (start : IndexStart) (flight : IndexFlight) → IsHere scene flight → At c hs p start flight
       → scene.steps ≤ number_of c flight scene.backs
       → FlightKnows c scene.state.words scene.since scene.changes scene.backs flight → StepOf scene start flight
-  step_moves starts.Acquire (calls.Acquire run) here at s k =
-      acquire_moves run.call.capacity run.call.stage at.0 (λ h. acquire_step scene inv run.call.stage h at.1 k s) here
-  step_moves (starts.Release index Default) (calls.ReleaseDefault run) here at s k =
-      default_moves run.call.capacity run.given index run.call.stage at.0 at.1 (λ h. default_step scene inv index at.2 k run.call.stage h at.3 s) here
-  step_moves (starts.Release index LockIfLastIndex) (calls.ReleaseLock run) here at s k =
-      lock_moves run.call.capacity run.given index run.call.stage at.0 at.1 (λ h. lock_step scene inv index at.2 run.call.stage h at.3 k s) here
-  step_moves starts.BorrowedIndices (calls.BorrowedIndices run) here at s k = counts_step scene inv k s here
-  step_moves starts.IsLocked (calls.IsLocked run) here at s k = looks_step scene inv k s
-  step_moves start flight here at s k = absurd at
+  step_moves starts.Acquire (calls.Acquire run) here at s flight_knows =
+      acquire_moves run.call.capacity run.call.stage at.0 (λ h. acquire_step scene inv run.call.stage h at.1 flight_knows s) here
+  step_moves (starts.Release index Default) (calls.ReleaseDefault run) here at s flight_knows =
+      default_moves run.call.capacity run.given index run.call.stage at.0 at.1
+      (λ h. default_step scene inv index at.2 flight_knows run.call.stage h at.3 s) here
+  step_moves (starts.Release index LockIfLastIndex) (calls.ReleaseLock run) here at s flight_knows =
+      lock_moves run.call.capacity run.given index run.call.stage at.0 at.1 (λ h. lock_step scene inv index at.2 run.call.stage h at.3 flight_knows s) here
+  step_moves starts.BorrowedIndices (calls.BorrowedIndices run) here at s flight_knows = counts_step scene inv flight_knows s here
+  step_moves starts.IsLocked (calls.IsLocked run) here at s flight_knows = looks_step scene inv flight_knows s
+  step_moves start flight here at s flight_knows = absurd at
 
 -- ---- what a step and a begin show
 

@@ -139,7 +139,7 @@ module _ {T : Type 0} (m : Underway T) (p : ℕ) where
   moves_on : (read : ℕ) → (moved read == read) ≡ true
       → asked ≡ ask_of (shifted (submission_word slots) (move 1 read))
       → AddsOne (read_word t.world.capacity) t.world.words asked
-  moves_on read e asks =
+  moves_on read moved_true asks =
       let found = finds_read slots queue k busy s.holds.parts reached read in
       let same : read ≡ k.submission.read = grind (arith, nat_tests) in
       by_words read_word (ask_of (shifted (submission_word slots) (move 1 read))) asks

@@ -71,7 +71,7 @@ module _ {T : Type 0} (code : Coding T) (slots queue : ℕ) (s : Channel T) (lat
 
   -- the sender has the index that its call asks for
   mine : (index : ℕ) → p ≡ 0 → not (holds (get_or s.book.holders index None) p) ≡ false → not (holds (get_or s.book.holders index None) 0) ≡ false
-  mine index zero e = subst (λ q. not (holds (get_or s.book.holders index None) q) ≡ false) zero e
+  mine index zero not_false = subst (λ q. not (holds (get_or s.book.holders index None) q) ≡ false) zero not_false
 
   -- what a call has passed that no row refuses
   passed : (start : LoanStart) → first_row (call_rows slots s.book p start) ≡ None

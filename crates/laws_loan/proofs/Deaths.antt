@@ -72,26 +72,26 @@ module _ {T : Type 0} (slots queue : ℕ) (s : Channel T) (o : ℕ) where
   parts_then = grind (arith, placed_then)
 
   told_then : Told queue s.submission.waiting s.completion.waiting s.events → Told queue s.submission.waiting s.completion.waiting (s.events ++ Died o ∷ [])
-  told_then h =
-      told_more queue s.submission.waiting s.submission.waiting s.completion.waiting s.completion.waiting s.events (Died o ∷ []) h
+  told_then told =
+      told_more queue s.submission.waiting s.submission.waiting s.completion.waiting s.completion.waiting s.events (Died o ∷ []) told
       (record { book = append-nil (items s.submission.waiting); given = append-nil s.completion.waiting; goes = refl; answers = refl })
 
   -- what holds between two turns holds after the turn in which the owner dies
   now_then : (latest : List (ℕ × Party T)) (turns : ℕ) → HoldsNow slots queue s latest s.events turns
       → HoldsNow slots queue after latest (s.events ++ Died o ∷ []) (turns + 1)
-  now_then latest turns h =
-      let sent = h.sent in
-      let given = h.given in
-      let some = h.receivers.0 in
-      let most = h.receivers.1 in
+  now_then latest turns holds_now =
+      let sent = holds_now.sent in
+      let given = holds_now.given in
+      let some = holds_now.receivers.0 in
+      let most = holds_now.receivers.1 in
       let same = same_receiver in
-      let parts = parts_then (counted_for (sends_at latest)) h.parts in
-      let told = told_then h.told in
+      let parts = parts_then (counted_for (sends_at latest)) holds_now.parts in
+      let told = told_then holds_now.told in
       let reclaiming = fold-append reclaims_after false s.events (Died o ∷ []) in
       let span = span_of-death 0 s.events o in
-      let moves = Each-append (MovesRight slots) s.events (Died o ∷ []) h.moves (tt, tt) in
-      let begins = Each-append BeginsRight s.events (Died o ∷ []) h.begins (tt, tt) in
-      let answers = Each-append (AnswersRight slots) s.events (Died o ∷ []) h.answers (tt, tt) in
+      let moves = Each-append (MovesRight slots) s.events (Died o ∷ []) holds_now.moves (tt, tt) in
+      let begins = Each-append BeginsRight s.events (Died o ∷ []) holds_now.begins (tt, tt) in
+      let answers = Each-append (AnswersRight slots) s.events (Died o ∷ []) holds_now.answers (tt, tt) in
       grind (arith, span_of-death, same_spot)
 
   -- ---- what the calls know

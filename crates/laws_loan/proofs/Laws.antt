@@ -125,29 +125,29 @@ module _ {T : Type 0} (code : Coding T) (slots queue : ℕ) where
 -- a machine that was reached is a sound one of some second number, its dead do nothing more, and its table is right
 pub reached : {T : Type 0} (t : Trace T) → t.world.kind ≡ kinds.Loan → IsReached t
     → (queue : ℕ) × frame.Sound (family t.world.coding t.world.capacity queue) t × Each LivesRight t.events × IsTabled t
-reached {T} t is r = kept_by_runs IsSound keeps t first r
+reached {T} t is is_reached = kept_by_runs IsSound keeps t first is_reached
   where
     IsSound : Trace T → Type 0
     IsSound u = (queue : ℕ) × frame.Sound (family t.world.coding t.world.capacity queue) u × Each LivesRight u.events × IsTabled u
 
     -- a turn that is not refused keeps this
     keeps : (u : Trace T) (turn : Turn T) → refusal_of u.world turn ≡ None → IsSound u → IsSound (after_turn u turn)
-    keeps u turn e h =
+    keeps u turn e is_sound =
         let passed = passes u.world turn e in
         let sound =
-        frame.turn_sound (family t.world.coding t.world.capacity h.0) (λ t turn. t.world.turns < 2 ^ 64 - 2)
-        (laws t.world.coding t.world.capacity h.0) u turn passed.on passed.turns h.1 in (
-          h.0,
+        frame.turn_sound (family t.world.coding t.world.capacity is_sound.0) (λ t turn. t.world.turns < 2 ^ 64 - 2)
+        (laws t.world.coding t.world.capacity is_sound.0) u turn passed.on passed.turns is_sound.1 in (
+          is_sound.0,
           sound,
-          turn_lives t.world.coding t.world.capacity h.0 u h.1 turn passed.on h.2,
-          turn_tabled t.world.coding t.world.capacity h.0 u h.1 h.3 turn sound.holds.moves,
+          turn_lives t.world.coding t.world.capacity is_sound.0 u is_sound.1 turn passed.on is_sound.2,
+          turn_tabled t.world.coding t.world.capacity is_sound.0 u is_sound.1 is_sound.3 turn sound.holds.moves,
         )
 
     -- the opening has it, at any number that is admitted
     first : (queue : ℕ) → queue_error t.world.kind queue ≡ None → IsSound (opened t.world.coding t.world.kind t.world.capacity queue t.world.parties)
     first queue queued =
         let w = t.world in
-        let few = slots_are w.capacity (subst (λ kind. capacity_error kind w.capacity ≡ None) is r.admitted) in
+        let few = slots_are w.capacity (subst (λ kind. capacity_error kind w.capacity ≡ None) is is_reached.admitted) in
         let fits = queue_is queue (subst (λ kind. queue_error kind queue ≡ None) is queued) in (
           queue,
           subst (λ kind. frame.Sound (family w.coding w.capacity queue) (opened w.coding kind w.capacity queue w.parties))

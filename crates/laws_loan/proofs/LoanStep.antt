@@ -66,27 +66,27 @@ module _ {T : Type 0} (m : Underway T) (stage : AcquireStage) (there : Stands m 
   leads_on : (acquire : After acquire_calls.Acquire Acquired)
       → AcquireLeads slots stage sound.state.set words_then sound.state.claims acquire
       → With false (loaned_after T acquire)
-  leads_on (GoOn acquire) l =
-      subst (λ c. With false (GoOn (Loan (record { call = record { capacity = c; stage = acquire.stage }; given = tt; room = tt })))) (sym l.1)
+  leads_on (GoOn acquire) acquire_leads =
+      subst (λ c. With false (GoOn (Loan (record { call = record { capacity = c; stage = acquire.stage }; given = tt; room = tt })))) (sym acquire_leads.1)
       (from_step m calls.Loan ask (GoOn (loan_at slots acquire.stage)) effects.Claims _ [] from (
         goes_steps scene stage stands
-            acquire.stage l.0 l.2 l.3,
+            acquire.stage acquire_leads.0 acquire_leads.2 acquire_leads.3,
         refl,
       ))
-  leads_on (Done (Ok i)) l =
+  leads_on (Done (Ok i)) acquire_leads =
       from_step m calls.Loan ask (Done (answers.Index i)) effects.Claims
       _ [] from (
-        claims_steps scene stage stands i l.1
-            l.0 l.2 l.3,
+        claims_steps scene stage stands i acquire_leads.1
+            acquire_leads.0 acquire_leads.2 acquire_leads.3,
         refl,
       )
-  leads_on (Done (Err failures.OutOfIndices)) l =
+  leads_on (Done (Err failures.OutOfIndices)) acquire_leads =
       from_step m calls.Loan ask (Done (answers.NoIndex failures.OutOfIndices)) effects.Claims _ [] from (
-        fails_steps scene stage stands l.0 l.1
-            l.2,
+        fails_steps scene stage stands acquire_leads.0 acquire_leads.1
+            acquire_leads.2,
         refl,
       )
-  leads_on (Done (Err failures.IsLocked)) l = absurd l
+  leads_on (Done (Err failures.IsLocked)) acquire_leads = absurd acquire_leads
 
   -- a loan that stands at a stage of its acquire comes on as a step of the machine
   pub loan_acquires : Comes m 0 (starts.Loan calls.Loan) (flights.Loan (loan_at slots stage))

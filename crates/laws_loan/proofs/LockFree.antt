@@ -90,8 +90,8 @@ module _ {T : Type 0} (code : Coding T) (slots queue : ℕ) (t : Trace T) (sound
   -- the begin of a call makes the weight no greater, where its party has none under way
   begins : (p : ℕ) (start : Start T) → (o : Option (Flight T)) → is_none o ≡ false → flight_in w p ≡ None
       → weight slots (after_begin w p start o) ≤ weight slots w
-  begins p start None e free = absurd (cc)
-  begins p start (Some flight) e free = ⊎_elim sender other (cases_eq p 0)
+  begins p start None is_none_false free = absurd (cc)
+  begins p start (Some flight) is_none_false free = ⊎_elim sender other (cases_eq p 0)
     where
       new : World T
       new = after_begin w p start (Some flight)
@@ -133,14 +133,14 @@ module _ {T : Type 0} (code : Coding T) (slots queue : ℕ) (t : Trace T) (sound
       sender mine =
           let most = sender_most slots (party_of 0 new.latest) in
           let was = free_sender slots (party_of 0 w.latest) (subst (λ q. flight_in w q ≡ None) mine free) in
-          let stays = ap left (there now (λ e. not_sender code slots queue t sound (e ∙ mine))) in
+          let stays = ap left (there now (λ is_none_false. not_sender code slots queue t sound (is_none_false ∙ mine))) in
           let rests = no_more (omega arith) in
           omega arith
 
       -- and where another party begins
       other : p ≢ 0 → weight slots new ≤ weight slots w
       other ne =
-          let same_sender = ap (sender_left slots) (there 0 (λ e. ne (sym e))) in
+          let same_sender = ap (sender_left slots) (there 0 (λ is_none_false. ne (sym is_none_false))) in
           let rests = no_more (⊎_elim receives neither (cases_eq p now)) in
           omega arith
         where
@@ -151,7 +151,7 @@ module _ {T : Type 0} (code : Coding T) (slots queue : ℕ) (t : Trace T) (sound
               omega arith
 
           neither : p ≢ now → left (party_of now new.latest) ≤ left (party_of now w.latest)
-          neither ne = let stays = ap left (there now (λ e. ne (sym e))) in omega arith
+          neither ne = let stays = ap left (there now (λ is_none_false. ne (sym is_none_false))) in omega arith
 
   -- ---- a call goes on
 

@@ -463,11 +463,11 @@ module _ {T : Type 0} (code : Coding T) (slots queue : ℕ) where
 
         -- so does a step of the receiver
         receives_less : Receives p x.steps flight st → steps + weight slots new ≤ weight slots t.world
-        receives_less h =
-            let ne = h.0 in
-            let is = h.1 in
-            let alive = h.2 in
-            let fewer = subst (λ a. Fewer T slots queue t.world.words s.book.places x.steps ask flight a) e h.3 in
+        receives_less receives_holds =
+            let ne = receives_holds.0 in
+            let is = receives_holds.1 in
+            let alive = receives_holds.2 in
+            let fewer = subst (λ a. Fewer T slots queue t.world.words s.book.places x.steps ask flight a) e receives_holds.3 in
             let mine : party_of r new.latest ≡ Some y = subst (λ q. party_of q new.latest ≡ Some y) is here in
             let was : party_of r t.world.latest ≡ Some x = subst (λ q. party_of q t.world.latest ≡ Some x) is found in
             let now : new_rest (Some y) ≡ receiver_call (read_at slots new.words) (x.steps + steps) next =

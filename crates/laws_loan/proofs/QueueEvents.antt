@@ -50,19 +50,19 @@ module _ {T : Type 0} where
     -- what the events told of the channel they tell with a turn's events behind them, of what
     -- waits then
     pub told_more : Told queue sent back events → Tells queue (is_reclaiming events) sent sent' back back' es → Told queue sent' back' (events ++ es)
-    told_more h s =
+    told_more told tells =
         let more = moments_more events es in
         record {
-          book = rest_more publishes hands_out events es (items sent) (items sent') h.book s.book;
-          given = rest_more gives_back takes_back events es back back' h.given s.given;
+          book = rest_more publishes hands_out events es (items sent) (items sent') told.book tells.book;
+          given = rest_more gives_back takes_back events es back back' told.given tells.given;
           stand =
               ap (standing (overflowing_list queue)) more
               ∙ standing_more (overflowing_list queue) (queue_moments events) (as_queue (is_reclaiming events) es)
-              (items (take queue sent)) (items (take queue sent')) h.stand s.goes;
+              (items (take queue sent)) (items (take queue sent')) told.stand tells.goes;
           legal =
               subst (IsLegal (overflowing_list queue)) (sym more)
               (legal_more (overflowing_list queue) (queue_moments events) (as_queue (is_reclaiming events) es)
-              (items (take queue sent)) h.legal h.stand s.answers);
+              (items (take queue sent)) told.legal told.stand tells.answers);
         }
 
 -- events that tell nothing of the submission queue, where of the completion queue they tell so

@@ -153,22 +153,22 @@ module _ {T : Type 0} (m : Underway T) where
       leads_on : (release : After (Release DefaultMode) ReleaseState)
           → ReleaseLeads slots stage words_then s.claims release
           → With (reclaimed_after T (call stage) s.book.places number index release)
-      leads_on (GoOn release) l =
+      leads_on (GoOn release) release_leads =
           let few = there.steps in
           let at = there.at.3.stage_at in
-          let more = l.2 in
-          goes_on number index release.stage (subst (indices.Good slots words_then s.claims) (sym l.1) l.0) (
-            frees_for release.stage l.1 s.book.places index,
+          let more = release_leads.2 in
+          goes_on number index release.stage (subst (indices.Good slots words_then s.claims) (sym release_leads.1) release_leads.0) (
+            frees_for release.stage release_leads.1 s.book.places index,
             at.1,
             at.2,
-            at.3 ∙ ap (λ n. number + n) (heavy ∙ sym l.1),
-            subst (λ n. AllByRecursion (λ i. i < index + n) (freed wrote)) (heavy ∙ sym l.1) at.4,
+            at.3 ∙ ap (λ n. number + n) (heavy ∙ sym release_leads.1),
+            subst (λ n. AllByRecursion (λ i. i < index + n) (freed wrote)) (heavy ∙ sym release_leads.1) at.4,
             (λ j low. at.5 j (omega arith)),
             at.6,
             at.7,
           )
           (omega arith)
-      leads_on (Done state) l =
+      leads_on (Done state) release_leads =
           let at = there.at.3.stage_at in
           let below = at.1 in
           let less = at.2 in
@@ -177,7 +177,7 @@ module _ {T : Type 0} (m : Underway T) where
           let next_one : (index + 1) % 2 ^ 32 ≡ index + 1 = omega arith in
           subst (λ n. With (as_call Reclaim Number (reclaim_comes_to (call stage) s.book.places n ((index + 1) % 2 ^ 32)))) (sym counted)
           (subst (λ i. With (as_call Reclaim Number (reclaim_comes_to (call stage) s.book.places (number + 1) i))) (sym next_one)
-          (next l.0 l.1 (next_sent s.book.places slots (index + 1)) (comes_to s.book.places slots (index + 1))))
+          (next release_leads.0 release_leads.1 (next_sent s.book.places slots (index + 1)) (comes_to s.book.places slots (index + 1))))
 
       -- so every later step of the release comes on
       later : With (reclaimed_after T (call stage) s.book.places number index (back_takes slots stage (old_of (words_in s) ask)))

@@ -77,16 +77,16 @@ module _ {T : Type 0} (m : Underway T) (index : ℕ) (r : Releasing T m.slots m.
       leads_on : (release : After (Release DefaultMode) ReleaseState)
           → ReleaseLeads slots stage words_then s.claims release
           → With stage effects.Quiet (embedded r.at r.answer release)
-      leads_on (GoOn release) l =
+      leads_on (GoOn release) release_leads =
           from_step m r.start (asked stage) (GoOn (r.at release.stage)) effects.Quiet _
           wrote_now (was_open scene index r below h stage heavy there straight) (
-            goes_steps scene index r below h stage heavy there straight release.stage l.0 l.1 l.2,
+            goes_steps scene index r below h stage heavy there straight release.stage release_leads.0 release_leads.1 release_leads.2,
             r.so.book None s.book,
           )
-      leads_on (Done state) l =
+      leads_on (Done state) release_leads =
           from_step m r.start (asked stage) (Done r.answer) effects.Quiet
           _ wrote_now (was_open scene index r below h stage heavy there straight) (
-            ends_steps scene index r below h stage heavy there straight l.0 l.1,
+            ends_steps scene index r below h stage heavy there straight release_leads.0 release_leads.1,
             r.so.book (Some r.answer) s.book,
           )
 

@@ -54,10 +54,10 @@ module _ (c index : ℕ) (below : index < c) (ws : List ℕ) (hs : List (Option 
   -- the clear of the flag of an index that the sender has makes it free, and the release is
   -- counted from then on
   clears : holder hs index ≡ Some 0 → Good c ws hs 0 → ReleaseStep releases.ClearsFlag
-  clears holds g =
-      let wide = g.wide in
+  clears holds good_holds =
+      let wide = good_holds.wide in
       let low = flag_within c index below in
-      let good : Good c (words_after ws (released_by releases.ClearsFlag)) (set hs index None) 1 = frees c ws hs index below 0 0 holds g in
+      let good : Good c (words_after ws (released_by releases.ClearsFlag)) (set hs index None) 1 = frees c ws hs index below 0 0 holds good_holds in
       let unlocked = unlocked_for c (words_after ws (released_by releases.ClearsFlag)) (set hs index None) 1 good (omega arith) in
       grind arith
 
@@ -115,11 +115,11 @@ module _ (c index : ℕ) (below : index < c) (ws : List ℕ) (hs : List (Option 
 
   -- each stage of a release leads on so, where it stands as it should
   pub release_step : (stage : ReleaseStage) → ReleaseAt hs 0 index stage → Good c ws hs (release_counts stage) → ReleaseStep stage
-  release_step releases.ClearsFlag at g = clears at g
-  release_step releases.LoadsHead at g = loads g
-  release_step (releases.StoresNext head) at g = stores g head
-  release_step (releases.ExchangesHead head) at g = exchanges g head
-  release_step releases.Subtracts at g = subtracts_one g
+  release_step releases.ClearsFlag at good = clears at good
+  release_step releases.LoadsHead at good = loads good
+  release_step (releases.StoresNext head) at good = stores good head
+  release_step (releases.ExchangesHead head) at good = exchanges good head
+  release_step releases.Subtracts at good = subtracts_one good
 
 -- ---- an acquire
 

@@ -95,4 +95,4 @@ module _ (queue : ℕ) (some : 1 ≤ queue) (few : queue < 2 ^ 32) (k : Core ℕ
 
   -- where it has moved already, nothing changes
   pub stays_words : (read : ℕ) → (k.read == read) ≡ false → words_after ws (moves_from read) ≡ ws
-  stays_words read t = rw t refl
+  stays_words read read_false = rw read_false refl

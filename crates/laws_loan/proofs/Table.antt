@@ -47,7 +47,7 @@ by_with : (q p : ℕ) → IsBy p (With q) → p ≡ q
 by_with = grind arith
 
 by_none : (p : ℕ) (spot : Spot) → spot ≢ With p → spot ≢ Passing p → IsBy p spot → ⊥
-by_none p spot a b by = ⊎_elim a b by
+by_none p spot first_spot_is_not second_spot_is_not by = ⊎_elim first_spot_is_not second_spot_is_not by
 
 module _ {T : Type 0} (slots : ℕ) (claims : List (Option ℕ)) (sent back : List ℕ) (book : Book)
     (events : List (Event T)) (h : Placed slots claims sent back book events) where

@@ -26,14 +26,14 @@ module _ {T : Type 0} (slots queue : ℕ) (s s' : Channel T) (p : ℕ) (y : Part
 
   -- what holds between two turns holds after a turn that shows this
   pub now_more : HoldsNow slots queue s latest s.events turns → Shows → HoldsNow slots queue s' (put p y latest) (s.events ++ es) (turns + 1)
-  now_more h shows =
+  now_more holds_now shows =
       let told =
       subst (Told queue s'.submission.waiting s'.completion.waiting) (sym shows.events)
-      (told_more queue s.submission.waiting s'.submission.waiting s.completion.waiting s'.completion.waiting s.events es h.told shows.tells) in
+      (told_more queue s.submission.waiting s'.submission.waiting s.completion.waiting s'.completion.waiting s.events es holds_now.told shows.tells) in
       let reclaiming = fold-append reclaims_after false s.events es in
-      let moves = Each-append (MovesRight slots) s.events es h.moves shows.moves in
-      let begins = Each-append BeginsRight s.events es h.begins shows.begins in
-      let answers = Each-append (AnswersRight slots) s.events es h.answers shows.answers in
+      let moves = Each-append (MovesRight slots) s.events es holds_now.moves shows.moves in
+      let begins = Each-append BeginsRight s.events es holds_now.begins shows.begins in
+      let answers = Each-append (AnswersRight slots) s.events es holds_now.answers shows.answers in
       grind arith
 
 -- the sender's call after a turn of its own, and after one of another party

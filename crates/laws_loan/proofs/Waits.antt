@@ -38,8 +38,8 @@ module _ {T : Type 0} (code : Coding T) (kd : QueueKind)
 
   -- in a queue whose words have others behind them
   waits_in : (c : ℕ) (k : Core ℕ) (zs : List ℕ) → Good 1 words_of_index (cells_of kd c) k → waiting_in code kd c (layout no_roles k ++ zs) ≡ map Index k.waiting
-  waits_in c k zs g =
-      let write = g.write in
+  waits_in c k zs good =
+      let write = good.write in
       let many : k.write - k.read ≡ length k.waiting = omega arith in
       rw many (stored_is c (layout no_roles k ++ zs) k.read k.waiting held)
     where
@@ -50,15 +50,15 @@ module _ {T : Type 0} (code : Coding T) (kd : QueueKind)
       held : (i v : ℕ) → slice_get k.waiting i ≡ Some v → get_or (layout no_roles k ++ zs) (cell_of code kd c (k.read + i)) 0 ≡ v
       held i v e =
           let below = at_below 1 words_of_index n k.waiting i v e in
-          let few = g.few in
+          let few = good.few in
           let some : 0 < n = omega arith in
           let first : cell_of code kd c (k.read + i) ≡ 4 + 1 * ((k.read + i) % n) = ap (λ m. cell_word n m (k.read + i)) one ∙ cell_place n (k.read + i) some in
           let low : (k.read + i) % n < n = omega arith in
-          let all = g.cells in
+          let all = good.cells in
           ap (λ m. get_or (layout no_roles k ++ zs) m 0) first
           ∙ (get_or_append_left (layout no_roles k) zs 0 (4 + 1 * ((k.read + i) % n)) (omega arith)
           ∙ (word_at k.write k.read 1 1 k.cells (4 + 1 * ((k.read + i) % n)) (1 * ((k.read + i) % n) + 0) (omega arith)
-          ∙ g.held i v e 0 (omega arith)))
+          ∙ good.held i v e 0 (omega arith)))
 
 module _ {T : Type 0} (code : Coding T) (slots queue : ℕ) (s : Channel T) (busy : ℕ) (h : Holds slots queue s busy) where
   pub sent_is : sent_in code slots queue (words_in s) ≡ map Index s.submission.waiting
@@ -102,8 +102,8 @@ module _ {T : Type 0} where
 
   -- an index that stands in a list is one of its items
   there : (i : ℕ) (xs : List ℕ) → 1 ≤ times i xs → Contains (items xs) (Index i)
-  there i [] h = absurd (omega arith)
-  there i (x ∷ xs) h = ⊎_elim here (later (there i xs)) (cases_eq x i)
+  there i [] times_at_least = absurd (omega arith)
+  there i (x ∷ xs) times_at_least = ⊎_elim here (later (there i xs)) (cases_eq x i)
     where
       here : x ≡ i → Contains (items (x ∷ xs)) (Index i)
       here e = (0, omega arith, ap (λ (n : ℕ). Index n) e)

@@ -57,7 +57,7 @@ more_steps : (most steps here : ℕ) → steps ≡ here → most < here → most
 more_steps = omega arith
 
 low_there : (bound : Bound) (n c words : ℕ) → n ≡ 2 → c ≡ 1 → words ≡ 1 → bound 2 1 1 < 14 → bound n c words < 14
-low_there bound n c words a b d few = rw (a, b, d) few
+low_there bound n c words a b words_are_one few = rw (a, b, words_are_one) few
 
 -- by no bound that is below 14 for two parties, one slot and values of one word has a loan channel
 -- lock-free runs

@@ -94,16 +94,17 @@ module _ {T : Type 0} where
     recovers_ask : (a : RobustStart) (run : Running Recover ReleaseMode (Unit {0})) (stage : RecoverStage) (old : ℕ)
         → run.call.stage ≡ stage
         → Q {T = T} (asked (starts.Robust a) (flights.Robust (calls.Recover run)) old) (recover_effects p stage old)
-    recovers_ask a run recovers.LoadsCounter old e = tt
-    recovers_ask a run (recovers.LoadsCell index) old e =
+    recovers_ask a run recovers.LoadsCounter old same_stage = tt
+    recovers_ask a run (recovers.LoadsCell index) old same_stage =
         by_bool (old == empty)
         (λ t. rw t tt)
-        (λ t. rw (e, t) ((refl, refl), tt))
-    recovers_ask a run (recovers.Asks index owner) old e = tells T (asked (starts.Robust a) (flights.Robust (calls.Recover run)) old) p index owner old
-    recovers_ask a run (recovers.EmptiesCell index owner) old e = frees T (asked (starts.Robust a) (flights.Robust (calls.Recover run)) old) p index owner old
-    recovers_ask a run (recovers.Raises index raise) old e = tt
-    recovers_ask a run (recovers.Locks index lock) old e = shuts T (asked (starts.Robust a) (flights.Robust (calls.Recover run)) old) p lock old
-    recovers_ask a run recovers.LoadsCounterAgain old e = tt
+        (λ t. rw (same_stage, t) ((refl, refl), tt))
+    recovers_ask a run (recovers.Asks index owner) old same_stage = tells T (asked (starts.Robust a) (flights.Robust (calls.Recover run)) old) p index owner old
+    recovers_ask a run (recovers.EmptiesCell index owner) old same_stage =
+        frees T (asked (starts.Robust a) (flights.Robust (calls.Recover run)) old) p index owner old
+    recovers_ask a run (recovers.Raises index raise) old same_stage = tt
+    recovers_ask a run (recovers.Locks index lock) old same_stage = shuts T (asked (starts.Robust a) (flights.Robust (calls.Recover run)) old) p lock old
+    recovers_ask a run recovers.LoadsCounterAgain old same_stage = tt
 
     set_asks : (a : RobustStart) (flight : RobustFlight) (old : ℕ) → Q {T = T} (asked (starts.Robust a) (flights.Robust flight) old) (effects p flight old)
     set_asks = grind (arith, fills, gives, recovers_ask)

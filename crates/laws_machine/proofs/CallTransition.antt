@@ -15,8 +15,8 @@ module _ {T : Type 0} where
   left_by (Done answer) = None
 
   stands_left : (w : World T) (p : ℕ) (a : After (Flight T) (Answer T)) → StandsAt w p a → flight_in w p ≡ left_by a
-  stands_left w p (GoOn flight) h = h
-  stands_left w p (Done answer) h = h
+  stands_left w p (GoOn flight) stands_at_holds = stands_at_holds
+  stands_left w p (Done answer) stands_at_holds = stands_at_holds
 
   module _ (old new : World T) (p : ℕ) (flight : Flight T) (here : flight_in old p ≡ Some flight) where
     pub next_left : GoesOn old (Next p) new
@@ -45,9 +45,9 @@ module _ {T : Type 0} (F : Family T) (t : Trace T) (s : Sound F t) (p : ℕ) whe
   under_way flight here = go (party_of p t.world.latest) refl here
     where
       by : (x : Party T) → party_of p t.world.latest ≡ Some x → (doing : Doing T) → x.doing ≡ doing → flight_of (Some doing) ≡ Some flight → IsUnderWay flight
-      by x found (Over others) d e = absurd (cc)
-      by x found (Going f since) d e =
-          let same = d ∙ ap (λ g. Going g since) (some_flight f flight e) in
+      by x found (Over others) same_doing e = absurd (cc)
+      by x found (Going f since) same_doing e =
+          let same = same_doing ∙ ap (λ g. Going g since) (some_flight f flight e) in
           record { party = x; since = since; found = found; doing = same; there = stands_there F t s p x since flight found same }
 
       go : (o : Option (Party T)) → party_of p t.world.latest ≡ o → flight_of (doing_of o) ≡ Some flight → IsUnderWay flight

@@ -227,8 +227,8 @@ module _ {T : Type 0} (code : Coding T) (c : ℕ) (ws : List ℕ) (state : Optio
         ≡ 0
 
     either_quiet : (b : Bool) (x y : After (recover_calls.Recover T (buffers.Buffer 128)) ReleaseState) → Quiet x → Quiet y → Quiet (if b then x else y)
-    either_quiet true x y h k = h
-    either_quiet false x y h k = k
+    either_quiet true x y first_quiet second_quiet = first_quiet
+    either_quiet false x y first_quiet second_quiet = second_quiet
 
     raised_quiet : (stage : RecoverStage) (i : ℕ) (m : ReleaseMode) (r : After Raise ReleaseState) → Quiet (recover_raised (recover_call stage) i m r)
     raised_quiet = grind arith

@@ -40,8 +40,8 @@ module _ {T : Type 0} where
   adds_in n e = n + change_in e
 
   effect_none : (turn : Turn T) (e : Event T) → IsEffectOf turn e → change_in e ≡ 0
-  effect_none turn (Finished p start answer) h = absurd h
-  effect_none turn e h = refl
+  effect_none turn (Finished p start answer) is_effect_of_holds = absurd is_effect_of_holds
+  effect_none turn e is_effect_of_holds = refl
 
   -- effects of a turn add nothing to the count of the changes
   effects_count : (turn : Turn T) (es ys : List (Event T)) (n : ℕ) → AllByRecursion (IsEffectOf turn) es → fold adds_in n (es ++ ys) ≡ fold adds_in n ys
@@ -196,9 +196,10 @@ module _ {T : Type 0} where
   -- where owners die, turns are few, so changes are
   few_changes : (t : Trace T) (s : frame.Sound (family t.world.coding t.world.capacity) t) → CountsChanges t → t.world.turns < 2 ^ 64 - 2
       → changes_of t.events < 2 ^ 64 - 1
-  few_changes t s h small =
+  few_changes t s counts_changes_holds small =
       let same = s.fit.words in
-      let now : change_at t.world.capacity s.state.words ≡ changes_of t.events = subst (λ ws. change_at t.world.capacity ws ≡ changes_of t.events) same h in
+      let now : change_at t.world.capacity s.state.words ≡ changes_of t.events =
+      subst (λ ws. change_at t.world.capacity ws ≡ changes_of t.events) same counts_changes_holds in
       let few = s.holds.elements.change refl in
       omega arith
 
@@ -207,23 +208,23 @@ module _ {T : Type 0} where
 
   -- a turn of a reached machine keeps this
   turn_more : (u : Trace T) (turn : Turn T) → refusal_of u.world turn ≡ None → HasCounted u → HasCounted (after_turn u turn)
-  turn_more u turn free h = (
-    reached_more u turn free h.0,
+  turn_more u turn free has_counted = (
+    reached_more u turn free has_counted.0,
     λ same.
         let is = sym (turn_making u.world turn).kind ∙ same in
-        let s = reached_sound shown u is h.0 in
+        let s = reached_sound shown u is has_counted.0 in
         let passed = passes u.world turn free in
-        turn_counts dying u s (few_changes u s (h.1 is) passed.turns) (h.1 is) turn (allowed_by u.world turn passed.on),
+        turn_counts dying u s (few_changes u s (has_counted.1 is) passed.turns) (has_counted.1 is) turn (allowed_by u.world turn passed.on),
   )
 
   -- in every reached machine the number of changes counts the changes
   pub counts_changes : (t : Trace T) → t.world.kind ≡ kinds.Container → IsReached t → CountsChanges t
-  counts_changes t is r =
+  counts_changes t is reached =
       (kept_by_runs HasCounted turn_more t
       (λ queue queued. (
-        record { coded = r.coded; admitted = r.admitted; queue = queue; queued = queued; turns = []; is = refl },
+        record { coded = reached.coded; admitted = reached.admitted; queue = queue; queued = queued; turns = []; is = refl },
         λ same. subst (λ kind. CountsChanges (opened t.world.coding kind t.world.capacity queue t.world.parties)) (sym same)
-            (counts_first t.world.coding t.world.capacity t.world.parties r.coded
-            (subst (λ kind. capacity_error kind t.world.capacity ≡ None) is r.admitted)),
+            (counts_first t.world.coding t.world.capacity t.world.parties reached.coded
+            (subst (λ kind. capacity_error kind t.world.capacity ≡ None) is reached.admitted)),
       ))
-      r).1 is
+      reached).1 is

@@ -33,9 +33,9 @@ use Rattle.laws_machine.proofs.CallTransition.{left_by}
 module _ {T : Type 0} where
   pub right_append : (P : List (Event T) → Event T → Type 0) (before xs ys : List (Event T)) → AreRight P before xs
       → AreRight P (before ++ xs) ys → AreRight P before (xs ++ ys)
-  right_append P before [] ys h k = subst (λ b. AreRight P b ys) (append-nil before) k
-  right_append P before (x ∷ xs) ys h k =
-      (h.0, right_append P (before ++ x ∷ []) xs ys h.1 (subst (λ b. AreRight P b ys) (sym (append_assoc before (x ∷ []) xs)) k))
+  right_append P before [] ys first_right second_right = subst (λ b. AreRight P b ys) (append-nil before) second_right
+  right_append P before (x ∷ xs) ys first_right second_right =
+      (first_right.0, right_append P (before ++ x ∷ []) xs ys first_right.1 (subst (λ b. AreRight P b ys) (sym (append_assoc before (x ∷ []) xs)) second_right))
 
   -- an event of which it is so whatever stands before it
   abbrev pub IsFree : Event T → Type 0

@@ -55,5 +55,5 @@ module _ {T : Type 0} where
     call_later = grind (arith, stage_later)
 
     pub flight_later : (o : Option (Flight T)) → FlightKnows c p o events → FlightKnows c p o (events ++ es)
-    flight_later (Some (flights.Robust call)) h = call_later call h
-    flight_later o h = tt
+    flight_later (Some (flights.Robust call)) flight_knows = call_later call flight_knows
+    flight_later o flight_knows = tt

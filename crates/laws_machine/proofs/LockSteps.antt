@@ -54,26 +54,26 @@ module _ {T : Type 0} (scene : Scene T) (inv : Inv scene) (mode : ReleaseMode) (
   -- where what it has freed is settled, the recovery comes as it should to a cell, or to the
   -- second look at the counter
   comes_to : (stage : RecoverStage) (did : List (Event T)) (index : ℕ) → Settled mode p (events ++ did) → Leads did (recover_comes_to (call_at stage) index)
-  comes_to stage did index h = go (nat_lt index c)
+  comes_to stage did index settled = go (nat_lt index c)
     where
       go : (b : Bool) → StageKnows c mode p (if b then recovers.LoadsCell index else recovers.LoadsCounterAgain) (events ++ did)
-      go true = h
-      go false = h
+      go true = settled
+      go false = settled
 
   calm : Settled mode p events → Settled mode p (events ++ [])
-  calm h = subst (Settled mode p) (sym (append-nil events)) h
+  calm settled = subst (Settled mode p) (sym (append-nil events)) settled
 
   -- it does one thing, and frees nothing by it
   once : (e : Event T) (d : SetAct) → AreOwn p (e ∷ []) → BeginsNone p (e ∷ []) → Lengthens (e ∷ [])
       → set_acts (e ∷ []) ≡ d ∷ [] → ((i owner : ℕ) → d ≢ Frees i owner) → Settled mode p events
       → Settled mode p (events ++ e ∷ [])
-  once e d own none longer is other h =
+  once e d own none longer is other settled =
       settled_then p events (e ∷ []) none
       (λ i owner was. ⊎_elim (λ had. had) (λ now. absurd (other i owner now))
       (was_one (Frees i owner) d (set_acts_of p events)
       (subst (IsOneOf (Frees i owner))
       (set_acts_more scene (Recover mode) here (e ∷ []) own longer ∙ ap (λ ds. set_acts_of p events ++ ds) is) was)))
-      mode h
+      mode settled
 
   -- ---- the lock
 
@@ -123,7 +123,7 @@ module _ {T : Type 0} (scene : Scene T) (inv : Inv scene) (mode : ReleaseMode) (
   -- whether the second look finds the counter locked or not, the recovery's end says what it
   -- should
   again : Settled mode p events → (b : Bool) → (counter_of ws == locked) ≡ b → EndSays mode (if b then states.Locked else Unlocked) p (events ++ [])
-  again h b e = subst (EndSays mode (if b then states.Locked else Unlocked) p) (sym (append-nil events)) (go mode refl b e)
+  again settled b e = subst (EndSays mode (if b then states.Locked else Unlocked) p) (sym (append-nil events)) (go mode refl b e)
     where
       go : (m : ReleaseMode) → mode ≡ m → (b : Bool) → (counter_of ws == locked) ≡ b → EndSays m (if b then states.Locked else Unlocked) p events
       go LockIfLastIndex is true t = tt
@@ -133,7 +133,7 @@ module _ {T : Type 0} (scene : Scene T) (inv : Inv scene) (mode : ReleaseMode) (
           let open_now : counter_of ws ≢ locked = grind (arith, nat_tests) in
           λ index owner freed. ⊎_elim (λ worn. absurd worn) (λ filled. filled)
           (filled_each p owner ⊥ LockIfLastIndex events (unlocked scene inv open_now)
-          (subst (λ n. Settled n p events) is h owner) index freed)
+          (subst (λ n. Settled n p events) is settled owner) index freed)
 
   -- ---- any step
 
@@ -147,13 +147,13 @@ module _ {T : Type 0} (scene : Scene T) (inv : Inv scene) (mode : ReleaseMode) (
   pub decided : (index owner answer : ℕ) → Settled mode p events
       → Leads (recover_effects p (recovers.Asks index owner) answer)
       (recover_takes (call_at (recovers.Asks index owner)) (recovers.Asks index owner) mode answer)
-  decided index owner answer h = go (answer == 0)
+  decided index owner answer settled = go (answer == 0)
     where
       go : (b : Bool) → Leads (if b then [] else Told p index owner ∷ [])
           (if b then recover_comes_to (call_at (recovers.Asks index owner)) (index + 1) else GoOn
           (record { capacity = c; stage = recovers.EmptiesCell index owner }))
-      go true = comes_to (recovers.Asks index owner) [] (index + 1) (calm h)
-      go false = once (Told p index owner) _ (refl, tt) tt (λ start w. refl) refl (λ i o e. absurd (cc)) h
+      go true = comes_to (recovers.Asks index owner) [] (index + 1) (calm settled)
+      go false = once (Told p index owner) _ (refl, tt) tt (λ start w. refl) refl (λ i o e. absurd (cc)) settled
 
   -- each step leads on
   pub steps : (stage : RecoverStage) → Steps stage

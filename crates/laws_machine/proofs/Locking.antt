@@ -231,7 +231,7 @@ module _ {T : Type 0} where
   -- in every reached machine a recovery that may lock and answers Unlocked has met an index filled
   -- since each that it freed
   pub locks : (t : Trace T) → t.world.kind ≡ kinds.Robust → IsReached t → Each LocksRight t.events
-  locks t is r =
+  locks t is reached =
       ((kept_by_runs HasKept
       (λ u turn free h. (
         reached_more u turn free h.0,
@@ -239,7 +239,7 @@ module _ {T : Type 0} where
       ))
       t
       (λ queue queued. (
-        record { coded = r.coded; admitted = r.admitted; queue = queue; queued = queued; turns = []; is = refl },
+        record { coded = reached.coded; admitted = reached.admitted; queue = queue; queued = queued; turns = []; is = refl },
         λ same. record { known = λ p. tt; right = Each-nil LocksRight },
       ))
-      r).1 is).right
+      reached).1 is).right

@@ -174,7 +174,7 @@ module _ {T : Type 0} (code : Coding T) (p : ℕ) (events : List (Event T)) (st 
   )
 
   sees_end : (e : Event T) (s' : Seen) (number : ℕ) → seen_after p now e ≡ s' → Within s' number → Within (seen_by p (events ++ (look_wrote ++ e ∷ []))) number
-  sees_end e s' number is h = subst (λ s. Within s number) (sym (seen_last code p events (Some st) turn mine look old e ∙ is)) h
+  sees_end e s' number is within_holds = subst (λ s. Within s number) (sym (seen_last code p events (Some st) turn mine look old e ∙ is)) within_holds
 
 module _ {T : Type 0} (code : Coding T) (p : ℕ) (events : List (Event T)) (st : ContainerState T) (turn : Turn T)
     (mine : IsParty turn p) (call : Look T) (old : ℕ) where

@@ -155,9 +155,9 @@ module _ {T : Type 0} where
 
   -- an effect leaves what a party has seen
   effect_same : (turn : Turn T) (p : ℕ) (s : Seen) (e : Event T) → IsEffectOf turn e → seen_after p s e ≡ s
-  effect_same turn p s (Begun q start) h = absurd h
-  effect_same turn p s (Finished q start answer) h = absurd h
-  effect_same turn p s e h = ap (λ n. record s { changes = n }) (no_more_changes s.changes)
+  effect_same turn p s (Begun q start) is_effect_of_holds = absurd is_effect_of_holds
+  effect_same turn p s (Finished q start answer) is_effect_of_holds = absurd is_effect_of_holds
+  effect_same turn p s e is_effect_of_holds = ap (λ n. record s { changes = n }) (no_more_changes s.changes)
     where
       no_more_changes : (n : ℕ) → n + 0 ≡ n
       no_more_changes n = omega arith

@@ -28,19 +28,19 @@ module _ {T : Type 0} (value_of : List ℕ → T) (size : ℕ) (s : Seen) (call 
   -- a look that has loaded the number of changes comes out as it should at a next index, or at its
   -- end
   comes_out : (state : ContainerState T) (which : LookOf) (index : ℕ) → HasLoaded which s (Some state) → Out s state which (look_comes_to call index)
-  comes_out state which index h = go (nat_lt index call.capacity)
+  comes_out state which index has_loaded = go (nat_lt index call.capacity)
     where
       go : (b : Bool) → Out s state which (if b then at_look call (stages.LoadsCount index) else Done true)
-      go true = h
-      go false = done_out state which h
+      go true = has_loaded
+      go false = done_out state which has_loaded
 
   -- so it does once it has loaded the number of an index
   finds_out : (state : ContainerState T) (which : LookOf) (index count : ℕ) → HasLoaded which s (Some state) → Out s state which (look_finds call index count)
-  finds_out state which index count h = go (is_even count)
+  finds_out state which index count has_loaded = go (is_even count)
     where
       go : (b : Bool) → Out s state which (if b then look_comes_to call (index + 1) else at_look call (stages.LoadsWord index count 0))
-      go true = comes_out state which (index + 1) h
-      go false = h
+      go true = comes_out state which (index + 1) has_loaded
+      go false = has_loaded
 
   -- what is shown has this number of changes still
   abbrev then_shows : ContainerState T → Showing T → ContainerState T
@@ -62,10 +62,10 @@ module _ {T : Type 0} (value_of : List ℕ → T) (size : ℕ) (s : Seen) (call 
     other_loaded = grind arith
 
     change_out : (which : LookOf) → IsToLoad which s (Some state) → Out s loaded which (if old == state.seen.change then Done false else look_comes_to call 0)
-    change_out which h =
+    change_out which to_load =
         on_bool (λ b. Out s loaded which (if b then Done false else look_comes_to call 0)) (old == state.seen.change)
-        (λ t. let same : old ≡ state.seen.change = grind (arith, nat_tests) in same_out which h same)
-        (λ t. let other : old ≢ state.seen.change = grind (arith, nat_tests) in comes_out loaded which 0 (other_loaded which h other))
+        (λ t. let same : old ≡ state.seen.change = grind (arith, nat_tests) in same_out which to_load same)
+        (λ t. let other : old ≢ state.seen.change = grind (arith, nat_tests) in comes_out loaded which 0 (other_loaded which to_load other))
 
   -- any step
   abbrev Steps : LookStage → ContainerState T → LookOf → ℕ → Type 0
@@ -75,32 +75,32 @@ module _ {T : Type 0} (value_of : List ℕ → T) (size : ℕ) (s : Seen) (call 
   pub step_out : (stage : LookStage) (state : ContainerState T) (which : LookOf) (old : ℕ)
       → LookSees which stage s (Some state) → (stage ≡ stages.LoadsChange → old ≡ s.changes)
       → Steps stage state which old
-  step_out stages.LoadsChange state which old h loads = change_out state old (loads refl) which h
-  step_out (stages.LoadsCount index) state which old h loads = go (old == slice_index_or state.seen.counts index 0)
+  step_out stages.LoadsChange state which old look_sees loads = change_out state old (loads refl) which look_sees
+  step_out (stages.LoadsCount index) state which old look_sees loads = go (old == slice_index_or state.seen.counts index 0)
     where
       go : (b : Bool) → Out s (then_shows state (with_count state.shown index old)) which
           (if b then look_comes_to call (index + 1) else look_finds call index old)
       go true =
           comes_out (then_shows state (with_count state.shown index old)) which (index + 1)
-          (still_loaded state which (with_count state.shown index old) refl h)
+          (still_loaded state which (with_count state.shown index old) refl look_sees)
       go false =
           finds_out (then_shows state (with_count state.shown index old)) which index old
-          (still_loaded state which (with_count state.shown index old) refl h)
-  step_out (stages.LoadsWord index count at) state which old h loads = go (nat_lt (at + 1) size)
+          (still_loaded state which (with_count state.shown index old) refl look_sees)
+  step_out (stages.LoadsWord index count at) state which old look_sees loads = go (nat_lt (at + 1) size)
     where
       go : (b : Bool) → Out s (then_shows state (with_word state.shown at old)) which
           (if b then at_look call (stages.LoadsWord index count (at + 1)) else at_look call
           (stages.ChecksCount index count))
-      go true = still_loaded state which (with_word state.shown at old) refl h
-      go false = still_loaded state which (with_word state.shown at old) refl h
-  step_out (stages.ChecksCount index count) state which old h loads = go (old == count)
+      go true = still_loaded state which (with_word state.shown at old) refl look_sees
+      go false = still_loaded state which (with_word state.shown at old) refl look_sees
+  step_out (stages.ChecksCount index count) state which old look_sees loads = go (old == count)
     where
       go : (b : Bool)
           → Out s (then_shows state (if b then with_value value_of size state.shown index count else with_count state.shown index old))
           which (if b then look_comes_to call (index + 1) else look_finds call index old)
       go true =
           comes_out (then_shows state (with_value value_of size state.shown index count)) which (index + 1)
-          (still_loaded state which (with_value value_of size state.shown index count) refl h)
+          (still_loaded state which (with_value value_of size state.shown index count) refl look_sees)
       go false =
           finds_out (then_shows state (with_count state.shown index old)) which index old
-          (still_loaded state which (with_count state.shown index old) refl h)
+          (still_loaded state which (with_count state.shown index old) refl look_sees)

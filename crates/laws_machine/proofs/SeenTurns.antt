@@ -102,11 +102,11 @@ module _ {T : Type 0} (terms : Terms) (t : Trace T) (s : frame.Sound (family_by 
 
       -- an effect of the turn is of its party
       effect_own : (e : Event T) → IsEffectOf turn e → whose e ≡ Some p
-      effect_own (Begun q start) h = absurd h
-      effect_own (Finished q start answer) h = absurd h
-      effect_own (Acted q start answer) h = absurd h
-      effect_own (Died o) h = absurd h
-      effect_own e h = by_whose (whose e) h refl
+      effect_own (Begun q start) is_effect_of_holds = absurd is_effect_of_holds
+      effect_own (Finished q start answer) is_effect_of_holds = absurd is_effect_of_holds
+      effect_own (Acted q start answer) is_effect_of_holds = absurd is_effect_of_holds
+      effect_own (Died o) is_effect_of_holds = absurd is_effect_of_holds
+      effect_own e is_effect_of_holds = by_whose (whose e) is_effect_of_holds refl
 
   module _ (turn : Turn T) (free : IsAllowed t.world turn) (p : ℕ) (its : IsParty turn p)
       (mine : (q : ℕ) → IsParty turn q → q ≡ p) (still : (q : ℕ) → q ≢ p → is_look_of t.world q turn ≡ false)

@@ -16,8 +16,8 @@ module _ {T : Type 0} where
     pub due : is_question (want_of w.coding flight) ≡ true
 
   due_is : (w : World T) (o : Option (Flight T)) → is_due w.coding o ≡ true → (flight : Flight T) × (o ≡ Some flight)
-  due_is w None e = absurd (cc)
-  due_is w (Some flight) e = (flight, refl)
+  due_is w None is_due_true = absurd (cc)
+  due_is w (Some flight) is_due_true = (flight, refl)
 
   pub decides : (w : World T) (p : ℕ) → is_due w.coding (flight_in w p) ≡ true → IsAsking w p
   decides w p due =
@@ -31,8 +31,8 @@ module _ {T : Type 0} where
   IsTaken w turn = IsAllowed w turn
 
   pub allowed : (w : World T) (turn : Turn T) → IsTaken w turn → IsAllowed w turn
-  allowed w (Begin p start) h = tt
-  allowed w turn h = h
+  allowed w (Begin p start) taken = tt
+  allowed w turn taken = taken
 
   pub taken_by : (w : World T) (turn : Turn T) → call_refusal w turn ≡ None → IsTaken w turn
   taken_by w (Begin p start) e = possible_on w (Begin p start) e

@@ -116,7 +116,7 @@ module _ {T : Type 0} where
 
   -- in every reached machine each update's end has met what it says
   pub meets_changes : (t : Trace T) → t.world.kind ≡ kinds.Container → IsReached t → Each MeetsChanges t.events
-  meets_changes t is r =
+  meets_changes t is reached =
       ((kept_by_runs HasMet
       (λ u turn free h. (
         reached_more u turn free h.0,
@@ -129,8 +129,8 @@ module _ {T : Type 0} where
       ))
       t
       (λ queue queued. (
-        record { coded = r.coded; admitted = r.admitted; queue = queue; queued = queued; turns = []; is = refl },
+        record { coded = reached.coded; admitted = reached.admitted; queue = queue; queued = queued; turns = []; is = refl },
         λ same. subst (λ kind. Extra (opened t.world.coding kind t.world.capacity queue t.world.parties)) (sym same)
             (first_known t.world.coding t.world.capacity t.world.parties),
       ))
-      r).1 is).right
+      reached).1 is).right

@@ -50,7 +50,7 @@ asks_now = refl
 
 -- a recovery that writes that it asks, and goes on as after a no
 pub no_lost_question : AsksAtOnce recovers_it (instead asks_it 1 recover (flights.Robust (recover_at 2 Default recovers.LoadsCounterAgain))) → ⊥
-no_lost_question h = apart (h (Asked 1 0 1 ∷ []) refl).0
+no_lost_question asks_at_once = apart (asks_at_once (Asked 1 0 1 ∷ []) refl).0
   where
     apart : ◌≡◌ {A = Option (ℕ × ℕ)} None (Some (0, 1)) → ⊥
     apart e = cc
@@ -72,14 +72,14 @@ find_asks = refl
 
 -- a find that never asks
 pub no_silent_find : FindsAsking begins_find (Next 1) (instead asks_find 1 find (flights.Robust (find_at 2 1 (finds.LoadsCell 1 1)))) → ⊥
-no_silent_find h = apart (h 1 1 0 refl (refl, tt) refl)
+no_silent_find finds_asking = apart (finds_asking 1 1 0 refl (refl, tt) refl)
   where
     apart : ◌≡◌ {A = Option ℕ} None (Some 0) → ⊥
     apart e = cc
 
 -- a find that asks twice
 pub no_second_question : IsAnswered (Decide 1 true) (instead (after_turn asks_find (Decide 1 true)) 1 find (flights.Robust (find_at 2 1 (finds.Asks 0 1)))) → ⊥
-no_second_question h = apart (h 1 true refl)
+no_second_question answered = apart (answered 1 true refl)
   where
     apart : true ≡ false → ⊥
     apart e = cc
@@ -101,8 +101,8 @@ none_filled : (other : ℕ) → IsFilled other last_freed → ⊥
 none_filled other filled = go (0 == other) filled
   where
     go : (b : Bool) → is_some {T = ℕ} (if b then None else (if b then Some 1 else None)) ≡ true → ⊥
-    go true e = cc
-    go false e = cc
+    go true is_some_true = cc
+    go false is_some_true = cc
 
 -- and none is filled in a part of the events in which the index was freed
 none_since : (other : ℕ) (part rest : List (Event ℕ)) → last_freed ≡ part ++ rest → IsOneOf (Frees 0 1) (set_acts_of 1 part) → IsFilled other part → ⊥
@@ -125,8 +125,8 @@ none_since other (a ∷ b ∷ c ∷ d ∷ more) rest is frees filled = absurd (c
 
 -- a recovery that never locks
 pub no_open_end : LocksRight last_freed unlocked → ⊥
-no_open_end h =
-    let since = h 0 1 (record { before = []; after = []; is = refl }) in
+no_open_end locks_right =
+    let since = locks_right 0 1 (record { before = []; after = []; is = refl }) in
     none_since since.other since.once.part since.once.rest since.once.is since.once.held.0 since.once.held.1
 
 -- one index is left to owner 2
@@ -150,13 +150,13 @@ added = Finished 1 (Container (containers.Add 5 1)) (Index 0)
 
 -- an update that is always true
 pub no_idle_true : MeetsChanges (looked ++ Begun 0 update ∷ []) (Finished 0 update (Truth true)) → ⊥
-no_idle_true h = absurd (omega arith)
+no_idle_true meets_changes = absurd (omega arith)
 
 pub true_by_add : MeetsChanges (looked ++ added ∷ Begun 0 update ∷ []) (Finished 0 update (Truth true))
 true_by_add = omega arith
 
 pub no_false_by_add : MeetsChanges (looked ++ added ∷ Begun 0 update ∷ []) (Finished 0 update (Truth false)) → ⊥
-no_false_by_add h = apart h
+no_false_by_add meets_changes = apart meets_changes
   where
     apart : ◌≡◌ {A = ℕ} 1 0 → ⊥
     apart e = cc

@@ -18,7 +18,7 @@ use Rattle.model.specs.Refusals.{is_due}
 use Rattle.model.specs.World.{World, Trace, flight_in}
 
 -- the index, where it is filled with this owner
-abbrev pub index_if : ℕ → ℕ → Option ℕ → Option ℕ
+abbrev pub index_if : (owner index : ℕ) → Option ℕ → Option ℕ
 index_if owner index None = None
 index_if owner index (Some other) = if other == owner then Some index else None
 
@@ -44,7 +44,7 @@ module _ {T : Type 0} where
       owned_of new.coding (flight_in new p) ≡ Some (index, owner)
   AsksIt new e = Unit {0}
 
-  abbrev pub AsksAtOnce : Trace T → Trace T → Type 0
+  abbrev pub AsksAtOnce : (old new : Trace T) → Type 0
   AsksAtOnce old new =
       (wrote : List (Event T)) → new.events ≡ old.events ++ wrote
       → AllByRecursion (AsksIt new.world) wrote

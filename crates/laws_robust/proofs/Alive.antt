@@ -39,8 +39,8 @@ module _ {T : Type 0} (t : Trace T) where
       where
         go : (doing : Doing T) → x.doing ≡ doing
             → AllByRecursion Leaves (events_of_answer t.world p x (old_of t.world.words (ask_of_doing t.world.coding doing)) doing)
-        go (Over others) d = tt
-        go (Going flight since) d = steps p x since flight (old_of t.world.words (ask_of_doing t.world.coding (Going flight since))) found d
+        go (Over others) same_doing = tt
+        go (Going flight since) same_doing = steps p x since flight (old_of t.world.words (ask_of_doing t.world.coding (Going flight since))) found same_doing
 
     -- what a decision writes leaves alive who lives
     decision_leaves : (p : ℕ) (said : Bool) (o : Option (Party T)) → party_of p t.world.latest ≡ o
@@ -49,8 +49,8 @@ module _ {T : Type 0} (t : Trace T) where
     decision_leaves p said (Some x) found = go x.doing refl
       where
         go : (doing : Doing T) → x.doing ≡ doing → AllByRecursion Leaves (events_of_answer t.world p x (number_of said) doing)
-        go (Over others) d = tt
-        go (Going flight since) d = steps p x since flight (number_of said) found d
+        go (Over others) same_doing = tt
+        go (Going flight since) same_doing = steps p x since flight (number_of said) found same_doing
 
     turn_leaves : (turn : Turn T) → open_refusal t.world turn ≡ None → AllByRecursion Leaves (events_of t.world turn)
     turn_leaves = grind (arith, next_leaves, decision_leaves)

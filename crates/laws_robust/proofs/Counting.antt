@@ -46,7 +46,7 @@ module _ {T : Type 0} (p : ℕ) (P : ℕ → List (Event T) → Type 0) where
 
   -- a count within its bound
   pub count_within : (k number : ℕ) (events : List (Event T)) → IsCount p P k number events → number ≤ k
-  count_within k number events h = let most = count_most h.chosen k in let is = h.is in omega arith
+  count_within k number events count = let most = count_most count.chosen k in let is = count.is in omega arith
 
   -- the count has come to `k` indices
   module _ (k number : ℕ) (events : List (Event T)) (h : IsCount p P k number events) where
@@ -63,22 +63,22 @@ module _ {T : Type 0} (p : ℕ) (P : ℕ → List (Event T) → Type 0) where
     module _ (b : Bool) (new : ℕ) (adds : new ≡ (if b then 1 else 0) + number) (once : b ≡ true → P k events) (not : b ≡ false → P k events → ⊥) where
       -- each index that is counted had what is asked of it at some time of the call
       pub still_once : (i : ℕ) → i < k + 1 → chosen_with h.chosen k b i ≡ true → HeldSometime p (P i) events
-      still_once i below e = ⊎_elim here there (cases_eq i k)
+      still_once i below chosen_with_true = ⊎_elim here there (cases_eq i k)
         where
           here : i ≡ k → HeldSometime p (P i) events
           here same =
-              let chose : b ≡ true = sym (with_here h.chosen k b) ∙ (ap (chosen_with h.chosen k b) (sym same) ∙ e) in
+              let chose : b ≡ true = sym (with_here h.chosen k b) ∙ (ap (chosen_with h.chosen k b) (sym same) ∙ chosen_with_true) in
               subst (λ j. HeldSometime p (P j) events) (sym same) (held_now p (P k) events (once chose))
 
           there : i ≢ k → HeldSometime p (P i) events
-          there ne = h.once i (omega arith) (sym (with_there h.chosen k b i ne) ∙ e)
+          there ne = h.once i (omega arith) (sym (with_there h.chosen k b i ne) ∙ chosen_with_true)
 
       chosen_now : (z : Bool) → b ≡ z → HeldThroughout p (P k) events → z ≡ true
-      chosen_now true e t = refl
-      chosen_now false e t = absurd (not e (through_now p (P k) events t))
+      chosen_now true e held_throughout = refl
+      chosen_now false e held_throughout = absurd (not e (through_now p (P k) events held_throughout))
 
       pub still_through : (i : ℕ) → i < k + 1 → HeldThroughout p (P i) events → chosen_with h.chosen k b i ≡ true
-      still_through i below t = let by_chosen_now = chosen_now in grind arith
+      still_through i below held_throughout = let by_chosen_now = chosen_now in grind arith
 
       -- a count with one index more, which has what is asked and is counted, or has not and is
       -- not

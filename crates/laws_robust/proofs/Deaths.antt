@@ -80,6 +80,6 @@ module _ {T : Type 0} (by : GoneBy) (c : ℕ) (words dead : List ℕ) (events : 
   pub death_known : (q since changes backs : ℕ) (flight : Flight T)
       → Knowing c flight (view by words events q since changes backs)
       → Knowing c flight (view by words (events ++ es) q since changes backs)
-  death_known q since changes backs (flights.Robust flight) h =
-      knows_later by words words events es q since changes changes backs death_goes (death_spares q) (inl (refl, refl)) c flight h
-  death_known q since changes backs flight h = absurd h
+  death_known q since changes backs (flights.Robust flight) knowing =
+      knows_later by words words events es q since changes changes backs death_goes (death_spares q) (inl (refl, refl)) c flight knowing
+  death_known q since changes backs flight knowing = absurd knowing

@@ -133,11 +133,11 @@ module _ {T : Type 0} (code : Coding T) (c : ℕ) (t : Trace T) (s : frame.Sound
       go : (doing : Doing T) → x.doing ≡ doing
           → AllByRecursion (ToldRight t (Next q))
           (events_of_answer t.world q x (old_of t.world.words (ask_of_doing t.world.coding doing)) doing)
-      go (Over others) d = tt
-      go (Going flight since) d =
-          let here : flight_in t.world q ≡ Some flight = ap (λ o. flight_of (doing_of o)) found ∙ ap (λ d. flight_of (Some d)) d in
+      go (Over others) same_doing = tt
+      go (Going flight since) same_doing =
+          let here : flight_in t.world q ≡ Some flight = ap (λ o. flight_of (doing_of o)) found ∙ ap (λ same_doing. flight_of (Some same_doing)) same_doing in
           let asks : is_question (want_of t.world.coding flight) ≡ false = rw here at free in
-          flight_right (Next q) q (old_of t.world.words (ask_of (want_of t.world.coding flight))) x since flight found d (λ due some. absurd (cc))
+          flight_right (Next q) q (old_of t.world.words (ask_of (want_of t.world.coding flight))) x since flight found same_doing (λ due some. absurd (cc))
 
   -- all that a decision writes of what a call is told is right
   decision_right : (q : ℕ) (said : Bool) (o : Option (Party T)) → party_of q t.world.latest ≡ o
@@ -150,8 +150,8 @@ module _ {T : Type 0} (code : Coding T) (c : ℕ) (t : Trace T) (s : frame.Sound
       by false some = absurd (some refl)
 
       go : (doing : Doing T) → x.doing ≡ doing → AllByRecursion (ToldRight t (Decide q said)) (events_of_answer t.world q x (number_of said) doing)
-      go (Over others) d = tt
-      go (Going flight since) d = flight_right (Decide q said) q (number_of said) x since flight found d (λ due some. by said some)
+      go (Over others) same_doing = tt
+      go (Going flight since) same_doing = flight_right (Decide q said) q (number_of said) x since flight found same_doing (λ due some. by said some)
 
   -- no decision is due in a step
   not_due : (q : ℕ) → call_refusal t.world (Next q) ≡ None → is_due t.world.coding (flight_in t.world q) ≡ false

@@ -287,10 +287,10 @@ module _ {T : Type 0} (scene : Scene T) where
       fill_counter = ap counter_of new ∙ counter_stays ws i owner
 
       fill_dead_out : (j o : ℕ) → is_dead o events ≡ true → filled_of j (events ++ fill) ≡ Some o → filled_of j events ≡ Some o
-      fill_dead_out j o d e = let is = filled_then j in grind arith
+      fill_dead_out j o is_dead_true e = let is = filled_then j in grind arith
 
       fill_by : (q j o : ℕ) → IsBy q j o events → IsBy q j o (events ++ fill)
-      fill_by q j o h = let filled = filled_then j in let right = fill_right j in grind arith
+      fill_by q j o is_by_holds = let filled = filled_then j in let right = fill_right j in grind arith
 
       -- a step that fills an empty cell with an owner who may fill it does to the set what it
       -- may

@@ -118,9 +118,9 @@ module _ {T : Type 0} where
     wrote_end : (start : RobustStart) (flight : RobustFlight)
         → Wrote (registries.Owners s.state.dead) (Robust start) (flights.Robust flight)
         → IsEnd q p (Robust start) (Robust (starts.Find owner)) (answer_in (any_call (after {T = T} flight answer))) (Number number)
-    wrote_end start flight e =
+    wrote_end start flight wrote =
         ends_alone turn q p (effects q flight answer) (Robust start) (Robust (starts.Find owner)) _
-        (Number number) (all_effects turn q mine flight answer) e
+        (Number number) (all_effects turn q mine flight answer) wrote
 
     own_end : (start : Start T) (flight : Flight T) → StandsThere (family code c) t s q x since start flight
         → Wrote (registries.Owners s.state.dead) start flight → q ≡ p
@@ -133,14 +133,14 @@ module _ {T : Type 0} where
         → (due ≡ false → answer ≡ old_of s.state.words (ask_of (want_of t.world.coding flight)))
         → Wrote (registries.Owners s.state.dead) start flight
         → IsCount p (IsFilledWith owner) c number t.events
-    counted due told (Robust start) (flights.Robust flight) h asks loads e =
-        let there = is_there Death code c t s q x since found start flight h in
-        let end = wrote_end start flight e in
+    counted due told (Robust start) (flights.Robust flight) stands_there_holds asks loads wrote =
+        let there = is_there Death code c t s q x since found start flight stands_there_holds in
+        let end = wrote_end start flight wrote in
         let at = subst (λ a. At c (all (scene_of Death code c t s q x since)) a flight) (robust_name start owner end.name) there.at in
         subst (λ n. IsCount n (IsFilledWith owner) c number t.events) end.party
         (find_tells (scene_of Death code c t s q x since) (inv_of Death code c t s q x since found small) owner
         number due flight at there.knows asks answer loads told end.done)
-    counted due told start flight h asks loads e = absurd h.at
+    counted due told start flight stands_there_holds asks loads wrote = absurd stands_there_holds.at
 
     -- by the words and what is kept beside them
     module _ (flight : Flight T) (doing : x.doing ≡ Going flight since) (e : Wrote t.world.kept x.start flight) where
@@ -198,16 +198,16 @@ module _ {T : Type 0} where
     next_tells : (q : ℕ) → t.world.turns < 2 ^ 64 - 2 → is_due t.world.coding (flight_in t.world q) ≡ false
         → (o : Option (Party T)) → party_of q t.world.latest ≡ o → Ended (events_of_next t.world q o)
         → IsCount p (IsFilledWith owner) c number t.events
-    next_tells q small free None found e = absurd (cc)
-    next_tells q small free (Some x) found e = go x.doing refl e
+    next_tells q small free None found ended = absurd (cc)
+    next_tells q small free (Some x) found ended = go x.doing refl ended
       where
         go : (doing : Doing T) → x.doing ≡ doing
             → Ended (events_of_answer t.world q x (old_of t.world.words (ask_of_doing t.world.coding doing)) doing)
             → IsCount p (IsFilledWith owner) c number t.events
-        go (Over others) d e = absurd (cc)
-        go (Going flight since) d e =
-            let here : flight_in t.world q ≡ Some flight = ap (λ o. flight_of (doing_of o)) found ∙ ap (λ d. flight_of (Some d)) d in
-            all_counted (handed q small found since (Next q) refl (old_of t.world.words (ask_of (want_of t.world.coding flight)))) flight d e false
+        go (Over others) same_doing ended = absurd (cc)
+        go (Going flight since) same_doing ended =
+            let here : flight_in t.world q ≡ Some flight = ap (λ o. flight_of (doing_of o)) found ∙ ap (λ same_doing. flight_of (Some same_doing)) same_doing in
+            all_counted (handed q small found since (Next q) refl (old_of t.world.words (ask_of (want_of t.world.coding flight)))) flight same_doing ended false
             (λ told. absurd (cc)) (rw here at free) (λ no. refl)
 
     -- a decision that wrote only that the find is done, and that is no no to its party, tells
@@ -216,22 +216,23 @@ module _ {T : Type 0} where
         → is_due t.world.coding (flight_in t.world q) ≡ true → ◌≢◌ {A = Turn T} (Decide q said) (Decide p false)
         → (o : Option (Party T))
         → party_of q t.world.latest ≡ o → Ended (events_of_decision t.world q said o) → IsCount p (IsFilledWith owner) c number t.events
-    decision_tells q said small due ne None found e = absurd (cc)
-    decision_tells q said small due ne (Some x) found e = go x.doing refl e
+    decision_tells q said small due ne None found ended = absurd (cc)
+    decision_tells q said small due ne (Some x) found ended = go x.doing refl ended
       where
         go : (doing : Doing T) → x.doing ≡ doing → Ended (events_of_answer t.world q x (number_of said) doing)
             → IsCount p (IsFilledWith owner) c number t.events
-        go (Over others) d e = absurd (cc)
-        go (Going flight since) d e = by said refl
+        go (Over others) same_doing ended = absurd (cc)
+        go (Going flight since) same_doing ended = by said refl
           where
             by : (b : Bool) → said ≡ b → IsCount p (IsFilledWith owner) c number t.events
             by true is =
-                let here : flight_in t.world q ≡ Some flight = ap (λ o. flight_of (doing_of o)) found ∙ ap (λ d. flight_of (Some d)) d in
-                all_counted (handed q small found since (Decide q said) refl (number_of said)) flight d e true
+                let here : flight_in t.world q ≡ Some flight =
+                ap (λ o. flight_of (doing_of o)) found ∙ ap (λ same_doing. flight_of (Some same_doing)) same_doing in
+                all_counted (handed q small found since (Decide q said) refl (number_of said)) flight same_doing ended true
                 (λ told zero. let one : number_of said ≡ 1 = ap number_of is in absurd (omega arith))
                 (rw here at due) (λ no. absurd (cc))
             by false is =
-                let party = own_party (handed q small found since (Decide q said) refl (number_of said)) flight d e in
+                let party = own_party (handed q small found since (Decide q said) refl (number_of said)) flight same_doing ended in
                 absurd (ne (ap (λ n. Decide n said) party ∙ ap (λ b. Decide p b) is))
 
   -- no decision is due in a step
@@ -243,20 +244,20 @@ module _ {T : Type 0} where
   tells : (code : Coding T) (c : ℕ) (t : Trace T) (turn : Turn T) → refusal_of t.world turn ≡ None → frame.Sound (family code c) t → (p owner number : ℕ)
       → events_of t.world turn ≡ Finished p (Robust (starts.Find owner)) (Number number) ∷ []
       → turn ≢ Decide p false → IsCount p (IsFilledWith owner) c number t.events
-  tells code c t (Begin q start) r s p owner number e ne = absurd (cc)
-  tells code c t (Next q) r s p owner number e ne =
-      next_tells code c t s p owner number q (passes t.world (Next q) r).turns
+  tells code c t (Begin q start) r sound p owner number e ne = absurd (cc)
+  tells code c t (Next q) r sound p owner number e ne =
+      next_tells code c t sound p owner number q (passes t.world (Next q) r).turns
       (not_due t.world q (passes t.world (Next q) r).on) (party_of q t.world.latest) refl e
-  tells code c t (Decide q said) r s p owner number e ne =
-      decision_tells code c t s p owner number q said (passes t.world (Decide q said) r).turns
+  tells code c t (Decide q said) r sound p owner number e ne =
+      decision_tells code c t sound p owner number q said (passes t.world (Decide q said) r).turns
       (frame.is_true (is_due t.world.coding (flight_in t.world q)) (must_be_due t.world q said (passes t.world (Decide q said) r).on))
       ne (party_of q t.world.latest) refl e
-  tells code c t (Die o) r s p owner number e ne = absurd (cc)
+  tells code c t (Die o) r sound p owner number e ne = absurd (cc)
 
   -- each find that ends in a turn that is no no to it has counted over the whole set
   pub finds_all : (code : Coding T) (c : ℕ) (t : Trace T) (turn : Turn T) → refusal_of t.world turn ≡ None
       → frame.Sound (family code c) t → FindsAll t turn (after_turn t turn)
-  finds_all code c t turn r s =
+  finds_all code c t turn r sound =
       λ p owner number is ne.
-      subst (λ n. IsCount p (IsFilledWith owner) n number t.events) (sym s.capacity)
-      (tells code c t turn r s p owner number (append_cancel_left t.events (events_of t.world turn) _ is) ne)
+      subst (λ n. IsCount p (IsFilledWith owner) n number t.events) (sym sound.capacity)
+      (tells code c t turn r sound p owner number (append_cancel_left t.events (events_of t.world turn) _ is) ne)

@@ -78,25 +78,25 @@ module _ {T : Type 0} (scene : Scene T) (inv : Inv scene) (owner : ℕ) (fits : 
     -- else goes to the next index
     loads_step : (k found : ℕ) → k < c → Knows c (find_at c owner (finds.LoadsCell k found)) (now scene)
         → steps ≤ k → StepOf scene (Find owner) (find_at c owner (finds.LoadsCell k found))
-    loads_step k found below h s =
+    loads_step k found below knows s =
         on_bool (λ b. Lead (Some (loads (cell_word k)))
         (if b then GoOn (at_find (call_at (finds.LoadsCell k found)) (finds.Asks k (one_more found))) else
         find_comes_to (call_at (finds.LoadsCell k found)) (k + 1) found))
         (cell ws k == owner)
         (λ t.
         let is : cell ws k ≡ owner = grind (arith, nat_tests) in
-        let paid = h.paid in
+        let paid = knows.paid in
         goes_quietly scene inv (Find owner) (find_at c owner (finds.Asks k (one_more found)))
         (Some (loads (cell_word k))) false here (stays_same scene inv _ (loads_same ws (cell_word k)))
         (omega arith)
         (refl, refl, fits, (below, none))
-        (record { paid = omega arith; scanned = tt; owns = tt; says = one_counts k found below h.says is; gone = tt }))
+        (record { paid = omega arith; scanned = tt; owns = tt; says = one_counts k found below knows.says is; gone = tt }))
         (λ t.
         let other : cell ws k ≢ owner = grind (arith, nat_tests) in
-        let paid = h.paid in
+        let paid = knows.paid in
         comes_to_next (Some (loads (cell_word k))) (loads_same ws (cell_word k)) (omega arith)
         (finds.LoadsCell k found) k found below (omega arith)
-        (none_counts k found below h.says other))
+        (none_counts k found below knows.says other))
 
   -- any answer to a question of a find leads on: a no to its end, and else to the next index
   pub find_decided : IsHere scene (Find owner) → (k found : ℕ)
@@ -104,11 +104,11 @@ module _ {T : Type 0} (scene : Scene T) (inv : Inv scene) (owner : ℕ) (fits : 
       → Knows c (find_at c owner (finds.Asks k found)) (now scene)
       → steps ≤ find_number (finds.Asks k found) → (answer : ℕ)
       → AnswerOf scene (Find owner) (find_at c owner (finds.Asks k found)) None answer
-  find_decided here k found at h s answer = go (answer == 0)
+  find_decided here k found at knows s answer = go (answer == 0)
     where
       go : (b : Bool) → Lead here at.1 None (if b then Done found else find_comes_to (call_at (finds.Asks k found)) (k + 1) found)
-      go true = let paid = h.paid in ends_there here at.1 None refl (omega arith) (finds.Asks k found) k found at.0 (omega arith) h.says
-      go false = let paid = h.paid in comes_to_next here at.1 None refl (omega arith) (finds.Asks k found) k found at.0 (omega arith) h.says
+      go true = let paid = knows.paid in ends_there here at.1 None refl (omega arith) (finds.Asks k found) k found at.0 (omega arith) knows.says
+      go false = let paid = knows.paid in comes_to_next here at.1 None refl (omega arith) (finds.Asks k found) k found at.0 (omega arith) knows.says
 
   pub find_step : IsHere scene (Find owner) → (stage : FindStage) → FindAt c (all scene) stage
       → Knows c (find_at c owner stage) (now scene) → steps ≤ find_number stage
@@ -125,7 +125,7 @@ module _ {T : Type 0} (scene : Scene T) (inv : Inv scene) (owner : ℕ) (fits : 
   pub find_loads_all : (k found : ℕ) → FindAt c (all scene) (finds.LoadsCell k found)
       → Knows c (find_at c owner (finds.LoadsCell k found)) (now scene) → (number : ℕ)
       → find_after (record { capacity = c; stage = finds.LoadsCell k found }) owner (cell scene.set.words k) ≡ Done number → Counted c number
-  find_loads_all k found at h number e = go (cell ws k == owner) refl e
+  find_loads_all k found at knows number e = go (cell ws k == owner) refl e
     where
       go : (b : Bool) → (cell ws k == owner) ≡ b
           → ◌≡◌ {A = After calls.Find ℕ}
@@ -135,13 +135,13 @@ module _ {T : Type 0} (scene : Scene T) (inv : Inv scene) (owner : ℕ) (fits : 
       go true t e = absurd (cc)
       go false t e =
           let other : cell ws k ≢ owner = grind (arith, nat_tests) in
-          comes_to_all k found number (finds.LoadsCell k found) at.0 (none_counts k found at.0 h.says other) e
+          comes_to_all k found number (finds.LoadsCell k found) at.0 (none_counts k found at.0 knows.says other) e
 
   -- a find that ends at an answer other than no has counted over the whole set
   pub find_asks_all : (k found : ℕ) → FindAt c (all scene) (finds.Asks k found)
       → Knows c (find_at c owner (finds.Asks k found)) (now scene) → (answer number : ℕ) → answer ≢ 0
       → find_after (record { capacity = c; stage = finds.Asks k found }) owner answer ≡ Done number → Counted c number
-  find_asks_all k found at h answer number yes_told e = go (answer == 0) refl e
+  find_asks_all k found at knows answer number yes_told e = go (answer == 0) refl e
     where
       go : (b : Bool) → (answer == 0) ≡ b
           → ◌≡◌ {A = After calls.Find ℕ}
@@ -149,4 +149,4 @@ module _ {T : Type 0} (scene : Scene T) (inv : Inv scene) (owner : ℕ) (fits : 
           (Done number)
           → Counted c number
       go true t e = let zero : answer ≡ 0 = grind (arith, nat_tests) in absurd (yes_told zero)
-      go false t e = comes_to_all k found number (finds.Asks k found) at.0 h.says e
+      go false t e = comes_to_all k found number (finds.Asks k found) at.0 knows.says e

@@ -25,10 +25,10 @@ pub record IsFirst (T : Type 0) (by : GoneBy) (c : ℕ) (words : List ℕ) (even
   pub knows : Knows c flight (view by words (events ++ Begun p (Robust start) ∷ []) p changes changes 0)
 
 none_of : {A : Type 0} (one : SetAct) (done : List SetAct) → done ≡ [] → IsOneOf one done → A
-none_of one done none h = absurd (no_more h.before one h.after (sym none ∙ h.is))
+none_of one done none is_one_of_holds = absurd (no_more is_one_of_holds.before one is_one_of_holds.after (sym none ∙ is_one_of_holds.is))
 
 is_below : (owner : ℕ) → is_owner owner ≡ true → owner < empty
-is_below owner t = grind (arith, nat_tests)
+is_below owner is_owner_true = grind (arith, nat_tests)
 
 -- party `p` begins a call on a set of capacity `c`
 module _ {T : Type 0} (by : GoneBy) (c : ℕ) (words : List ℕ) (events : List (Event T)) (p changes : ℕ)

@@ -16,8 +16,8 @@ or_true true = refl
 or_true false = refl
 
 was_false : (b : Bool) → (b ≡ true → true ≡ false) → b ≡ false
-was_false true h = h refl
-was_false false h = refl
+was_false true same_true = same_true refl
+was_false false same_true = refl
 
 module _ {T : Type 0} where
   -- ---- who is gone
@@ -55,11 +55,11 @@ module _ {T : Type 0} where
   -- ---- honest runs
 
   pub honest_less : (by : GoneBy) (events es : List (Event T)) → IsHonestBy by (events ++ es) → IsHonestBy by events
-  honest_less Death events es h = tt
-  honest_less Word events es h = Each-less ActsForRight events es h
+  honest_less Death events es is_honest_by_holds = tt
+  honest_less Word events es is_honest_by_holds = Each-less ActsForRight events es is_honest_by_holds
 
   pub calm_less : (by : GoneBy) (events es : List (Event T)) → IsCalm by (events ++ es) → IsCalm by events
-  calm_less by events es h = (Each-less FreesRight events es h.0, honest_less by events es h.1)
+  calm_less by events es calm = (Each-less FreesRight events es calm.0, honest_less by events es calm.1)
 
   -- an index is granted for an owner who lives
   pub lives_granted : (by : GoneBy) (p index owner : ℕ) (events : List (Event T)) → is_dead owner events ≡ false
@@ -105,15 +105,15 @@ module _ {T : Type 0} where
   -- ---- answers, in the words of a machine whose owners die
 
   ask_right : (before : List (Event T)) (e : Event T) → AsksBy Death before e → AsksRight before e
-  ask_right before (Told p i o) h = h
-  ask_right before e h = h
+  ask_right before (Told p i o) asks_by_holds = asks_by_holds
+  ask_right before e asks_by_holds = asks_by_holds
 
   pub asks_right : (events : List (Event T)) → Each (AsksBy Death) events → Each AsksRight events
   asks_right events asks before after e is = ask_right before e (asks before after e is)
 
   module _ (worn worn' : Type 0) (on : worn → worn') where
     still_right : (by : GoneBy) (c : ℕ) (before : List (Event T)) (e : Event T) → AnswersBy by worn c before e → AnswersBy by worn' c before e
-    still_right by c before e h = grind arith
+    still_right by c before e answers_by_holds = grind arith
 
     -- a counter that was at its end still is
     pub answers_on : (by : GoneBy) (c : ℕ) (events : List (Event T)) → Each (AnswersBy by worn c) events → Each (AnswersBy by worn' c) events
@@ -123,11 +123,13 @@ module _ {T : Type 0} where
     -- in an honest run whose counter is not at its end an answer is right as on a machine whose
     -- owners die
     answer_right : (by : GoneBy) (c : ℕ) (before : List (Event T)) (e : Event T) → IsHonestBy by before → AnswersBy by worn c before e → AnswersRight c before e
-    answer_right by c before (Finished p (Robust (Acquire owner)) (NoIndex OutOfIndices)) honest h = (h.0, ⊎_elim (λ w. absurd (not_worn w)) (λ k. k) h.1)
-    answer_right by c before (Finished p (Robust (Release index owner LockIfLastIndex)) (State Unlocked)) honest h =
-        (h.0, ⊎_elim (λ w. absurd (not_worn w)) (λ k. k) h.1)
-    answer_right by c before (Finished p (Robust (Recover mode)) (State Unlocked)) honest h = (h.0, record { gone = h.1.gone honest; asked = h.1.asked })
-    answer_right by c before e honest h = h
+    answer_right by c before (Finished p (Robust (Acquire owner)) (NoIndex OutOfIndices)) honest answers_by_holds =
+        (answers_by_holds.0, ⊎_elim (λ w. absurd (not_worn w)) (λ k. k) answers_by_holds.1)
+    answer_right by c before (Finished p (Robust (Release index owner LockIfLastIndex)) (State Unlocked)) honest answers_by_holds =
+        (answers_by_holds.0, ⊎_elim (λ w. absurd (not_worn w)) (λ k. k) answers_by_holds.1)
+    answer_right by c before (Finished p (Robust (Recover mode)) (State Unlocked)) honest answers_by_holds =
+        (answers_by_holds.0, record { gone = answers_by_holds.1.gone honest; asked = answers_by_holds.1.asked })
+    answer_right by c before e honest answers_by_holds = answers_by_holds
 
     pub answers_right : (by : GoneBy) (c : ℕ) (events : List (Event T)) → IsHonestBy by events
         → Each (AnswersBy by worn c) events → Each (AnswersRight c) events

@@ -167,22 +167,22 @@ module _ {T : Type 0} (scene : Scene T) (inv : Inv scene) (owner : ℕ) (fits : 
         (acquire_goes_back (acquires.ChecksCounter number) (counter_of ws)) []
         (acquire_takes (call_at (acquires.ChecksCounter number))
         (acquires.ChecksCounter number) (counter_of ws))
-    checks_step number none s k =
+    checks_step number none s knows =
         on_bool (λ b. Lead (Some (exchanges 0 number number)) (not b) []
         (if b then Done (Err failures.OutOfIndices) else acquire_sees (call_at (acquires.ChecksCounter number)) (counter_of ws)))
         (counter_of ws == number)
         (λ t.
         let is : counter_of ws ≡ number = grind (arith, nat_tests) in
-        let paid_now = paid_of scene (counter_of ws ≡ number) k.paid.paid in
+        let paid_now = paid_of scene (counter_of ws ≡ number) knows.paid.paid in
         let same : words_after ws (Some (exchanges 0 number number)) ≡ ws =
         exchange_sets ws 0 number number is ∙ (ap (set ws 0) (sym is) ∙ set-get_or ws 0 0) in
         caller.fails failures.OutOfIndices (Some (exchanges 0 number number)) false same
-        (unlocked scene inv (λ shut. let end = k.paid.before_end in absurd (omega arith)), inr k.says, none) (omega arith) (omega arith))
+        (unlocked scene inv (λ shut. let end = knows.paid.before_end in absurd (omega arith)), inr knows.says, none) (omega arith) (omega arith))
         (λ t.
         let other : counter_of ws ≢ number = grind (arith, nat_tests) in
         finds (acquires.ChecksCounter number) (Some (exchanges 0 number number)) true
         (fails_same ws 0 number number other) none (omega arith)
-        (paid_back scene number (Some (exchanges 0 number number)) events other k.paid))
+        (paid_back scene number (Some (exchanges 0 number number)) events other knows.paid))
 
     -- ---- the raise of the counter
 
@@ -228,10 +228,10 @@ module _ {T : Type 0} (scene : Scene T) (inv : Inv scene) (owner : ℕ) (fits : 
     -- any step of an acquire that stands at its stage leads to what the caller makes of it
     pub held_step : (stage : AcquireStage) → AcquireAt c owner (all scene) stage
         → Knows c (acquire_at c owner stage) (now scene) → steps ≤ extra + acquire_number c stage backs → StepAt stage
-    held_step acquires.LoadsCounter at k s =
-        finds acquires.LoadsCounter (Some (loads 0)) false (loads_same ws 0) at (omega arith) (let paid = k.paid in omega arith)
-    held_step (acquires.FillsCell number i) at k s = fills_step number i at.0 at.1 s k
-    held_step (acquires.ChecksCounter number) at k s = checks_step number at s k
-    held_step (acquires.Raises i raises.LoadsCounter) at k s = raises_step i raises.LoadsCounter at.0 at.1 s k
-    held_step (acquires.Raises i (raises.ExchangesCounter number)) at k s =
-        raises_step i (raises.ExchangesCounter number) at.0 at.1 s k
+    held_step acquires.LoadsCounter at knows s =
+        finds acquires.LoadsCounter (Some (loads 0)) false (loads_same ws 0) at (omega arith) (let paid = knows.paid in omega arith)
+    held_step (acquires.FillsCell number i) at knows s = fills_step number i at.0 at.1 s knows
+    held_step (acquires.ChecksCounter number) at knows s = checks_step number at s knows
+    held_step (acquires.Raises i raises.LoadsCounter) at knows s = raises_step i raises.LoadsCounter at.0 at.1 s knows
+    held_step (acquires.Raises i (raises.ExchangesCounter number)) at knows s =
+        raises_step i (raises.ExchangesCounter number) at.0 at.1 s knows

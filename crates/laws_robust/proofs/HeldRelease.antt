@@ -98,7 +98,7 @@ module _ {T : Type 0} (scene : Scene T) (inv : Inv scene) (index owner : ℕ) (m
       owns_it = grind (arith, calm_less)
 
       mine : IsCalm by (events ++ FreedOf p index owner ∷ []) → (q : ℕ) → q ≢ p → (o : ℕ) → is_gone by o events ≡ false → IsBy q index o events → ⊥
-      mine calm q ne o lives h = ne (one_party _ p q (owns_it calm).right h.right)
+      mine calm q ne o lives is_by_holds = ne (one_party _ p q (owns_it calm).right is_by_holds.right)
 
       unsettled : IsCalm by (events ++ FreedOf p index owner ∷ []) → (o : ℕ) → is_gone by o events ≡ false → settled_of index events ≡ Some o → ⊥
       unsettled = grind (arith, calm_less, owns_it, right_of)
@@ -235,22 +235,22 @@ module _ {T : Type 0} (scene : Scene T) (inv : Inv scene) (index owner : ℕ) (m
     pub held_step : (stage : ReleaseStage) → ReleaseAt c index owner mode (all scene) stage
         → Knows c (release_at c index owner mode stage) (now scene) → steps ≤ extra + release_number c mode stage backs
         → StepAt stage
-    held_step releases.EmptiesCell at k s = empties_step at (omega arith) k
-    held_step (releases.Raises raises.LoadsCounter) at k s = raises_step raises.LoadsCounter at (omega arith) k
-    held_step (releases.Raises (raises.ExchangesCounter number)) at k s =
-        raises_step (raises.ExchangesCounter number) at (omega arith) k
-    held_step (releases.Locks lock) at k s =
-        go lock at.0 at.1 at.2 (subst (λ m. steps ≤ extra + release_number c m (releases.Locks lock) backs) at.0 s) k
+    held_step releases.EmptiesCell at knows s = empties_step at (omega arith) knows
+    held_step (releases.Raises raises.LoadsCounter) at knows s = raises_step raises.LoadsCounter at (omega arith) knows
+    held_step (releases.Raises (raises.ExchangesCounter number)) at knows s =
+        raises_step (raises.ExchangesCounter number) at (omega arith) knows
+    held_step (releases.Locks lock) at knows s =
+        go lock at.0 at.1 at.2 (subst (λ m. steps ≤ extra + release_number c m (releases.Locks lock) backs) at.0 s) knows
       where
         -- a lock under way does so
         go : (l : Lock) → mode ≡ LockIfLastIndex → LockAt c l → all scene ≡ Frees index owner ∷ []
             → steps ≤ extra + (3 + lock_number c l + backs * (c + 3))
             → Knows c (release_at c index owner mode (releases.Locks l)) (now scene)
             → StepAt (releases.Locks l)
-        go (parts.Counts counts.LoadsCounter) is at done s k =
-            locks_step (parts.Counts counts.LoadsCounter) is at done s k
-        go (parts.Counts (counts.LoadsCell number j filled)) is at done s k =
-            locks_step (parts.Counts (counts.LoadsCell number j filled)) is at done s k
-        go (parts.Counts (counts.ExchangesCounter number filled)) is at done s k =
-            locks_step (parts.Counts (counts.ExchangesCounter number filled)) is at done s k
-        go (parts.ExchangesCounter number) is at done s k = locks_step (parts.ExchangesCounter number) is at done s k
+        go (parts.Counts counts.LoadsCounter) is at done s knows =
+            locks_step (parts.Counts counts.LoadsCounter) is at done s knows
+        go (parts.Counts (counts.LoadsCell number j filled)) is at done s knows =
+            locks_step (parts.Counts (counts.LoadsCell number j filled)) is at done s knows
+        go (parts.Counts (counts.ExchangesCounter number filled)) is at done s knows =
+            locks_step (parts.Counts (counts.ExchangesCounter number filled)) is at done s knows
+        go (parts.ExchangesCounter number) is at done s knows = locks_step (parts.ExchangesCounter number) is at done s knows

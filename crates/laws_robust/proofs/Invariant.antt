@@ -182,7 +182,7 @@ module _ {T : Type 0} where
   -- a call stands there by what its party has written
   pub at_written : (c : ℕ) (w w' : List (Event T)) (start : Start T) (flight : Flight T) → w' ≡ w
       → FlightAt c (set_acts w) start flight → FlightAt c (set_acts w') start flight
-  at_written c w w' start flight same h = subst (λ x. FlightAt c (set_acts x) start flight) (sym same) h
+  at_written c w w' start flight same flight_at_holds = subst (λ x. FlightAt c (set_acts x) start flight) (sym same) flight_at_holds
 
   module _ (scene : Scene T) (words' : List ℕ) (from : Span T) (y : Party T) (es : List (Event T)) (changes' : ℕ) (s : Shows scene words' from y es changes')
       (h : Holds scene.by scene.capacity scene.set scene.latest scene.events scene.turns)

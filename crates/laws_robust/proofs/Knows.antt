@@ -144,7 +144,7 @@ LockSays c Says (locks.Counts count) = CountSays c Says count
 LockSays c Says (locks.ExchangesCounter counter) = Unit {0}
 
 count_says : (c : ℕ) (P Q : ℕ → ℕ → Type 0) → ((k n : ℕ) → P k n → Q k n) → (count : Count) → CountSays c P count → CountSays c Q count
-count_says c h k follows count m = grind arith
+count_says c h k follows count count_says_holds = grind arith
 
 lock_says : (c : ℕ) (P Q : ℕ → ℕ → Type 0) → ((k n : ℕ) → P k n → Q k n) → (lock : Lock) → LockSays c P lock → LockSays c Q lock
 lock_says = grind (arith, count_says)
@@ -330,19 +330,19 @@ module _ {T : Type 0} where
     later = record { by = by; words = words'; events = events ++ es; party = q; since = since; changes = changes'; backs = backs }
 
     pub held_paid : (held : Option ℕ) → Paid held before → Paid held later
-    held_paid held h = grind arith
+    held_paid held paid_holds = grind arith
 
     -- what a scan knows of the cells that it found is so after another party's turn
     pub still_scanned : (s : Option Scan) → Scanned s before → Scanned s later
-    still_scanned None h = tt
-    still_scanned (Some s) h =
-        let low = h.0 in
+    still_scanned None scanned_holds = tt
+    still_scanned (Some s) scanned_holds =
+        let low = scanned_holds.0 in
         let grows = goes.grows in (
           omega arith,
-          λ end. goes.stuck (h.1 end),
+          λ end. goes.stuck (scanned_holds.1 end),
           λ less none is calm i below.
               let same : counter_of words' ≡ counter_of words = omega arith in
-              goes.grants same (omega arith) i (h.2 less none (sym same ∙ is) (calm_less by events es calm) i below),
+              goes.grants same (omega arith) i (scanned_holds.2 less none (sym same ∙ is) (calm_less by events es calm) i below),
         )
 
     acquire_owns : (owner : ℕ) (stage : AcquireStage) → AcquireOwns owner stage before → AcquireOwns owner stage later
@@ -350,13 +350,13 @@ module _ {T : Type 0} where
 
     -- a release that may give its index back may do so after another party's turn
     release_owns : (index owner : ℕ) (stage : ReleaseStage) → ReleaseOwns index owner stage before → ReleaseOwns index owner stage later
-    release_owns index owner releases.EmptiesCell h =
+    release_owns index owner releases.EmptiesCell release_owns_holds =
         λ calm alive settled.
         let lives = gone_less by owner events es alive in
         spares.owned calm index owner lives
-        (h (calm_less by events es calm) lives
+        (release_owns_holds (calm_less by events es calm) lives
         (since_less q (λ part. settled_of index part ≡ Some owner) events es spares.none settled))
-    release_owns index owner stage h = tt
+    release_owns index owner stage release_owns_holds = tt
 
     still_owns : (flight : RobustFlight) → Owns flight before → Owns flight later
     still_owns = grind (arith, acquire_owns, release_owns)
@@ -382,13 +382,14 @@ module _ {T : Type 0} where
 
     -- what a recovery knows of moments is so after another party's turn
     recover_says : (c : ℕ) (stage : RecoverStage) → RecoverSays c stage before → RecoverSays c stage later
-    recover_says c recovers.LoadsCounter h = tt
-    recover_says c (recovers.LoadsCell index) h = (once_later IsUnlocked h.0, asked_later index h.1)
-    recover_says c (recovers.Asks index owner) h = (once_later IsUnlocked h.0, asked_later (index + 1) h.1)
-    recover_says c (recovers.EmptiesCell index owner) h = (once_later IsUnlocked h.0, asked_later (index + 1) h.1)
-    recover_says c (recovers.Raises index raise) h = (once_later IsUnlocked h.0, asked_later (index + 1) h.1)
-    recover_says c (recovers.Locks index lock) h = (once_later IsUnlocked h.0, asked_later (index + 1) h.1)
-    recover_says c recovers.LoadsCounterAgain h = asked_later c h
+    recover_says c recovers.LoadsCounter recover_says_holds = tt
+    recover_says c (recovers.LoadsCell index) recover_says_holds = (once_later IsUnlocked recover_says_holds.0, asked_later index recover_says_holds.1)
+    recover_says c (recovers.Asks index owner) recover_says_holds = (once_later IsUnlocked recover_says_holds.0, asked_later (index + 1) recover_says_holds.1)
+    recover_says c (recovers.EmptiesCell index owner) recover_says_holds =
+        (once_later IsUnlocked recover_says_holds.0, asked_later (index + 1) recover_says_holds.1)
+    recover_says c (recovers.Raises index raise) recover_says_holds = (once_later IsUnlocked recover_says_holds.0, asked_later (index + 1) recover_says_holds.1)
+    recover_says c (recovers.Locks index lock) recover_says_holds = (once_later IsUnlocked recover_says_holds.0, asked_later (index + 1) recover_says_holds.1)
+    recover_says c recovers.LoadsCounterAgain recover_says_holds = asked_later c recover_says_holds
 
     still_says : (c : ℕ) (flight : RobustFlight) → Says c flight before → Says c flight later
     still_says = grind (arith, acquire_says, release_says, find_says, recover_says, count_says, count_later)
@@ -403,8 +404,8 @@ module _ {T : Type 0} where
         )
 
     still_gone : (flight : RobustFlight) → Gone flight before → Gone flight later
-    still_gone (Recover run) h = gone_later (FreesNow run.call.stage) h
-    still_gone flight h = tt
+    still_gone (Recover run) gone_holds = gone_later (FreesNow run.call.stage) gone_holds
+    still_gone flight gone_holds = tt
 
     pub knows_later : (c : ℕ) (flight : RobustFlight) → Knows c flight before → Knows c flight later
     knows_later = grind (arith, held_paid, still_scanned, still_owns, still_says, still_gone)

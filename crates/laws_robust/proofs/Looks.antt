@@ -74,13 +74,13 @@ module _ {T : Type 0} (scene : Scene T) (inv : Inv scene) where
   pub borrowed_step : IsHere scene BorrowedIndices → (count : Count) → CountAt c count → all scene ≡ []
       → Knows c (borrowed_at c count) (now scene) → steps ≤ count_number c count + backs * (c + 2)
       → StepOf scene BorrowedIndices (borrowed_at c count)
-  borrowed_step here counts.LoadsCounter at done k s = count_moves here counts.LoadsCounter at done k s
-  borrowed_step here (counts.LoadsCell number i filled) at done k s = count_moves here (counts.LoadsCell number i filled) at done k s
-  borrowed_step here (counts.ExchangesCounter number filled) at done k s =
-      count_moves here (counts.ExchangesCounter number filled) at done k s
+  borrowed_step here counts.LoadsCounter at done knows s = count_moves here counts.LoadsCounter at done knows s
+  borrowed_step here (counts.LoadsCell number i filled) at done knows s = count_moves here (counts.LoadsCell number i filled) at done knows s
+  borrowed_step here (counts.ExchangesCounter number filled) at done knows s =
+      count_moves here (counts.ExchangesCounter number filled) at done knows s
 
   pub looks_step : IsHere scene IsLocked → all scene ≡ [] → Knows c looking (now scene) → steps ≤ 0 → StepOf scene IsLocked looking
-  looks_step here done k s =
+  looks_step here done knows s =
       ends_quietly scene inv IsLocked (Truth (counter_of ws == locked)) (Some (loads 0)) false here
       (stays_same scene inv _ (loads_same ws 0)) (λ i o. refl) (λ i r. refl) inv.good.lock done (omega arith)
-      (let paid = k.paid in omega arith)
+      (let paid = knows.paid in omega arith)

@@ -67,26 +67,26 @@ module _ {T : Type 0} (code : Coding T) (c : ℕ) where
   -- ---- any turn
 
   goes_by_rows : (t : Trace T) (turn : Turn T) → call_refusal t.world turn ≡ None → Sound t → Sound (after_turn t turn)
-  goes_by_rows t turn r s = frame.turn_sound (family_by Word code c) (λ u turn. Unit {0}) (laws_by Word code c) t turn r tt s
+  goes_by_rows t turn r sound = frame.turn_sound (family_by Word code c) (λ u turn. Unit {0}) (laws_by Word code c) t turn r tt sound
 
   -- no call of a container begins on it
   no_container : {A : Type 0} (t : Trace T) → Sound t → (p owner : ℕ) (mode : ReleaseMode)
       → open_refusal t.world (Begin p (Container (Recover owner mode))) ≡ None → A
-  no_container t s p owner mode e = grind arith
+  no_container t sound p owner mode e = grind arith
 
   -- a turn that an open run does not refuse leaves the machine sound
   pub open_turn_sound : (t : Trace T) (turn : Turn T) → open_refusal t.world turn ≡ None → Sound t → Sound (after_turn t turn)
-  open_turn_sound t (Begin p (Container (Recover owner mode))) e s = no_container t s p owner mode e
-  open_turn_sound t (Begin p start) e s = goes_by_rows t (Begin p start) e s
-  open_turn_sound t (Next p) e s = goes_by_rows t (Next p) e s
-  open_turn_sound t (Die owner) e s = absurd (cc)
-  open_turn_sound t (Decide p said) e s =
-      let due : is_due code (flight_in t.world p) ≡ true = subst (λ y. is_due y (flight_in t.world p) ≡ true) s.coding (may_decide_open t.world p said e) in
+  open_turn_sound t (Begin p (Container (Recover owner mode))) e sound = no_container t sound p owner mode e
+  open_turn_sound t (Begin p start) e sound = goes_by_rows t (Begin p start) e sound
+  open_turn_sound t (Next p) e sound = goes_by_rows t (Next p) e sound
+  open_turn_sound t (Die owner) e sound = absurd (cc)
+  open_turn_sound t (Decide p said) e sound =
+      let due : is_due code (flight_in t.world p) ≡ true = subst (λ y. is_due y (flight_in t.world p) ≡ true) sound.coding (may_decide_open t.world p said e) in
       let F = family_by Word code c in
-      frame.decision_sound F t p said s (λ x flight since u.
-      decides_from F t s p x since said s.state.words (registries.Owners s.state.dead) flight s.fit.words s.fit.kept
-      (decides Word code c t s p x since u.found tt said x.start flight (may_decide t s p x since u.found flight said)
-      (subst (λ o. is_due code o ≡ true) u.is due) (stands_there F t s p x since flight u.found u.doing)))
+      frame.decision_sound F t p said sound (λ x flight since u.
+      decides_from F t sound p x since said sound.state.words (registries.Owners sound.state.dead) flight sound.fit.words sound.fit.kept
+      (decides Word code c t sound p x since u.found tt said x.start flight (may_decide t sound p x since u.found flight said)
+      (subst (λ o. is_due code o ≡ true) u.is due) (stands_there F t sound p x since flight u.found u.doing)))
       (party_of p t.world.latest) refl
 
 -- ---- whole runs
@@ -95,35 +95,35 @@ module _ {T : Type 0} where
   -- whatever the order of the turns, and however many there were
   pub reached_open_sound : (t : Trace T) → t.world.kind ≡ kinds.Robust → IsReachedOpen t
       → frame.Sound (family_by Word t.world.coding t.world.capacity) t
-  reached_open_sound t is r =
+  reached_open_sound t is reached_open =
       let w = t.world in
       kept_by open_refusal (frame.Sound (family_by Word w.coding w.capacity))
       (λ u turn e s. open_turn_sound w.coding w.capacity u turn e s) t
-      (opening_there (outline Word) (May Word) (all_turns Word) t is r.coded r.admitted) r
+      (opening_there (outline Word) (May Word) (all_turns Word) t is reached_open.coded reached_open.admitted) reached_open
 
   -- and nobody dies
   pub reached_open_lives : (t : Trace T) → t.world.kind ≡ kinds.Robust → IsReachedOpen t → AllLive t.events
-  reached_open_lives t is r =
+  reached_open_lives t is reached_open =
       let code = t.world.coding in
       let c = t.world.capacity in
       (kept_by open_refusal (λ u. frame.Sound (family_by Word code c) u × AllLive u.events)
       (λ u turn e h. (open_turn_sound code c u turn e h.0, all_live_on u (steps_leave code c u h.0) turn e h.1)) t
-      (opening_there (outline Word) (May Word) (all_turns Word) t is r.coded r.admitted, λ owner. refl) r).1
+      (opening_there (outline Word) (May Word) (all_turns Word) t is reached_open.coded reached_open.admitted, λ owner. refl) reached_open).1
 
   open_kept : (code : Coding T) (t : Trace T) → frame.Sound (family_by Word code t.world.capacity) t → AllLive t.events → IsOpenSet t
-  open_kept code t s lives =
-      let kept = s.fit.kept in
-      let words = s.fit.words in
+  open_kept code t sound lives =
+      let kept = sound.fit.kept in
+      let words = sound.fit.words in
       grind arith
 
   pub reached_open_kept : (t : Trace T) → t.world.kind ≡ kinds.Robust → IsReachedOpen t → IsOpenSet t
-  reached_open_kept t is r = open_kept t.world.coding t (reached_open_sound t is r) (reached_open_lives t is r)
+  reached_open_kept t is reached_open = open_kept t.world.coding t (reached_open_sound t is reached_open) (reached_open_lives t is reached_open)
 
   -- In an honest run whose counter is not at its end the answers are those of a machine whose owners die.
   pub open_answers : (t : Trace T) → IsOpenSet t → IsHonest t.events → slice_index t.world.words 0 ≢ greatest → Each (AnswersRight t.world.capacity) t.events
-  open_answers t h honest other = answers_right (slice_index t.world.words 0 ≡ greatest) other Word t.world.capacity t.events honest h.answers
+  open_answers t open_set honest other = answers_right (slice_index t.world.words 0 ≡ greatest) other Word t.world.capacity t.events honest open_set.answers
 
   -- ---- one turn more
 
   pub reached_open_more : (t : Trace T) (turn : Turn T) → open_refusal t.world turn ≡ None → IsReachedOpen t → IsReachedOpen (after_turn t turn)
-  reached_open_more t turn e r = reached_by_more open_refusal t turn e r
+  reached_open_more t turn e reached_open = reached_by_more open_refusal t turn e reached_open

@@ -45,7 +45,7 @@ more_if n t = grind arith
 
 -- where the counter is at its end none locks
 none_locks : {X : Type 0} (P : X → Type 0) (a b : X) (zero last : Bool) → last ≡ true → P b → P (if zero && not last then a else b)
-none_locks h a b zero last e k = grind arith
+none_locks h a b zero last last_is_true k = grind arith
 
 module _ {T : Type 0} (scene : Scene T) (inv : Inv scene) where
   open scene use {by as by, capacity as c, party as p, steps as steps, backs as backs, turns as turns, events as events}
@@ -66,7 +66,7 @@ module _ {T : Type 0} (scene : Scene T) (inv : Inv scene) where
 
   -- the counter has a number that was held, so it is before its end
   pub before_end : (number : ℕ) → counter_of ws ≡ number → Holding number (now scene) → counter_of ws < greatest
-  before_end number is h = let less = h.before_end in omega arith
+  before_end number is holding = let less = holding.before_end in omega arith
 
   -- the exchange of the counter for the next number
   pub raised : (number : ℕ) → counter_of ws ≡ number → Holding number (now scene)
@@ -131,11 +131,11 @@ module _ {T : Type 0} (scene : Scene T) (inv : Inv scene) where
   -- ---- the counter that a count has loaded, which it holds unless that is at its end
 
   still_paid : (number : ℕ) → Paid (unless_last number) (now scene) → IsPaid (now scene)
-  still_paid number h = grind arith
+  still_paid number paid = grind arith
 
   still_held : (number : ℕ) (ask : Option Ask) → counter_of (words_after ws ask) ≡ counter_of ws
       → Paid (unless_last number) (now scene) → Paid (unless_last number) (sees scene ask false)
-  still_held number ask same h = grind arith
+  still_held number ask same paid = grind arith
 
   holds_one : (number : ℕ) → number ≢ greatest → Paid (unless_last number) (now scene) → Holding number (now scene)
   holds_one = grind (arith, now, ne_eqb, greatest)

@@ -14,19 +14,19 @@ module _ {T : Type 0} (p : ℕ) where
   through_so P Q events follows h part rest is within = follows part (h part rest is within)
 
   pub through_now : (P : List (Event T) → Type 0) (events : List (Event T)) → HeldThroughout p P events → P events
-  through_now P events h = h events [] (sym (append-nil events)) tt
+  through_now P events held_throughout = held_throughout events [] (sym (append-nil events)) tt
 
   -- ---- as it began
 
   begins_one : (before : List (Event T)) (start : Start T) (since : List (Event T)) → BeginsNone p (before ++ Begun p start ∷ since) → ⊥
-  begins_one [] start since h = h.0 refl
-  begins_one (Begun q s ∷ bs) start since h = begins_one bs start since h.1
-  begins_one (e ∷ bs) start since h = begins_one bs start since h
+  begins_one [] start since begins_none = begins_none.0 refl
+  begins_one (Begun q s ∷ bs) start since begins_none = begins_one bs start since begins_none.1
+  begins_one (e ∷ bs) start since begins_none = begins_one bs start since begins_none
 
   begins_none_less : (es more : List (Event T)) → BeginsNone p (es ++ more) → BeginsNone p es
-  begins_none_less [] more h = tt
-  begins_none_less (Begun q s ∷ es) more h = (h.0, begins_none_less es more h.1)
-  begins_none_less (e ∷ es) more h = begins_none_less es more h
+  begins_none_less [] more begins_none = tt
+  begins_none_less (Begun q s ∷ es) more begins_none = (begins_none.0, begins_none_less es more begins_none.1)
+  begins_none_less (e ∷ es) more begins_none = begins_none_less es more begins_none
 
   -- the call began in these events, with this behind it, and the party has begun none since
   pub record BeganIn (events before : List (Event T)) (start : Start T) : Type 0 where

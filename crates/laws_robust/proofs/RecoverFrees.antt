@@ -233,16 +233,16 @@ module _ {T : Type 0} (scene : Scene T) (inv : Inv scene) (mode : ReleaseMode) (
   pub loads_again : FreedWereAsked done → steps ≤ 1 + c * for_index c mode + backs * for_back c mode
       → Knows c (recover_at c mode recovers.LoadsCounterAgain) (now scene)
       → StepOf scene (Recover mode) (recover_at c mode recovers.LoadsCounterAgain)
-  loads_again freed s k =
+  loads_again freed s knows =
       on_bool (λ b. Lead (Some (loads 0)) false [] (Done (if b then states.Locked else states.Unlocked))) (counter_of ws == locked)
       (λ t.
       let shut : counter_of ws ≡ locked = grind (arith, nat_tests) in
-      let paid = k.paid in
+      let paid = knows.paid in
       (ends_so scene inv mode here) states.Locked (Some (loads 0)) false (stays_same scene inv _ (loads_same ws 0))
       (is_shut scene inv shut) (omega arith) (omega arith))
       (λ t.
       let other : counter_of ws ≢ locked = grind (arith, nat_tests) in
-      let paid = k.paid in
+      let paid = knows.paid in
       (ends_so scene inv mode here) states.Unlocked (Some (loads 0)) false (stays_same scene inv _ (loads_same ws 0))
       (unlocked scene inv other, recovered) (omega arith) (omega arith))
     where
@@ -251,9 +251,9 @@ module _ {T : Type 0} (scene : Scene T) (inv : Inv scene) (mode : ReleaseMode) (
       recovered : HasRecoveredBy by p events
       recovered =
           record {
-            gone = λ honest i owner told. ⊎_elim (λ gone. gone) (λ never. absurd never) ((k.gone i owner told).1 honest);
+            gone = λ honest i owner told. ⊎_elim (λ gone. gone) (λ never. absurd never) ((knows.gone i owner told).1 honest);
             asked = λ i owner through.
-                ⊎_elim (λ below. k.says i owner below through)
+                ⊎_elim (λ below. knows.says i owner below through)
                 (λ beyond. ⊎_elim (λ filled. some_none (filled_of i events) owner (none_beyond scene inv i beyond) filled)
                 (λ was_freed. freed i owner was_freed) (through_now p (StillToFree p owner i) events through))
                 (cases_lt i c);

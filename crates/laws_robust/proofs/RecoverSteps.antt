@@ -127,26 +127,26 @@ module _ {T : Type 0} (scene : Scene T) (inv : Inv scene) (mode : ReleaseMode) (
   pub recover_step : (stage : RecoverStage) → RecoverAt c mode (all scene) stage
       → Knows c (recover_at c mode stage) (now scene) → steps ≤ recover_number c mode stage backs
       → StepOf scene (Recover mode) (recover_at c mode stage)
-  recover_step recovers.LoadsCounter at k s = loads_counter scene inv mode here at s k
-  recover_step (recovers.LoadsCell index) at k s = loads_cell scene inv mode here index at s k
-  recover_step (recovers.Asks index owner) at k s = decided scene inv mode here index owner at k s 0 (λ other. absurd (other refl))
-  recover_step (recovers.EmptiesCell index owner) at k s = empties_cell scene inv mode here index owner at s k
-  recover_step (recovers.Raises index raises.LoadsCounter) at k s =
-      raises_step scene inv mode here index raises.LoadsCounter at.0 at.1 s k
-  recover_step (recovers.Raises index (raises.ExchangesCounter number)) at k s =
-      raises_step scene inv mode here index (raises.ExchangesCounter number) at.0 at.1 s k
-  recover_step (recovers.Locks index (parts.Counts counts.LoadsCounter)) at k s =
-      locks_step index (parts.Counts counts.LoadsCounter) at.0 at.1 at.2 at.3 s k
-  recover_step (recovers.Locks index (parts.Counts (counts.LoadsCell number i filled))) at k s = locks_step index
-      (parts.Counts (counts.LoadsCell number i filled)) at.0 at.1 at.2 at.3 s k
-  recover_step (recovers.Locks index (parts.Counts (counts.ExchangesCounter number filled))) at k s = locks_step index
-      (parts.Counts (counts.ExchangesCounter number filled)) at.0 at.1 at.2 at.3 s k
-  recover_step (recovers.Locks index (parts.ExchangesCounter number)) at k s =
-      locks_step index (parts.ExchangesCounter number) at.0 at.1 at.2 at.3 s k
-  recover_step recovers.LoadsCounterAgain at k s = loads_again scene inv mode here at s k
+  recover_step recovers.LoadsCounter at knows s = loads_counter scene inv mode here at s knows
+  recover_step (recovers.LoadsCell index) at knows s = loads_cell scene inv mode here index at s knows
+  recover_step (recovers.Asks index owner) at knows s = decided scene inv mode here index owner at knows s 0 (λ other. absurd (other refl))
+  recover_step (recovers.EmptiesCell index owner) at knows s = empties_cell scene inv mode here index owner at s knows
+  recover_step (recovers.Raises index raises.LoadsCounter) at knows s =
+      raises_step scene inv mode here index raises.LoadsCounter at.0 at.1 s knows
+  recover_step (recovers.Raises index (raises.ExchangesCounter number)) at knows s =
+      raises_step scene inv mode here index (raises.ExchangesCounter number) at.0 at.1 s knows
+  recover_step (recovers.Locks index (parts.Counts counts.LoadsCounter)) at knows s =
+      locks_step index (parts.Counts counts.LoadsCounter) at.0 at.1 at.2 at.3 s knows
+  recover_step (recovers.Locks index (parts.Counts (counts.LoadsCell number i filled))) at knows s = locks_step index
+      (parts.Counts (counts.LoadsCell number i filled)) at.0 at.1 at.2 at.3 s knows
+  recover_step (recovers.Locks index (parts.Counts (counts.ExchangesCounter number filled))) at knows s = locks_step index
+      (parts.Counts (counts.ExchangesCounter number filled)) at.0 at.1 at.2 at.3 s knows
+  recover_step (recovers.Locks index (parts.ExchangesCounter number)) at knows s =
+      locks_step index (parts.ExchangesCounter number) at.0 at.1 at.2 at.3 s knows
+  recover_step recovers.LoadsCounterAgain at knows s = loads_again scene inv mode here at s knows
 
   pub recover_decided : (index owner : ℕ) → RecoverAt c mode (all scene) (recovers.Asks index owner)
       → Knows c (recover_at c mode (recovers.Asks index owner)) (now scene)
       → steps ≤ recover_number c mode (recovers.Asks index owner) backs → (answer : ℕ) → (answer ≢ 0 → MayBeTold scene.by owner events)
       → AnswerOf scene (Recover mode) (recover_at c mode (recovers.Asks index owner)) None answer
-  recover_decided index owner at k s answer may = decided scene inv mode here index owner at k s answer may
+  recover_decided index owner at knows s answer may = decided scene inv mode here index owner at knows s answer may

@@ -137,14 +137,15 @@ module _ {T : Type 0} (scene : Scene T) (inv : Inv scene) (mode : ReleaseMode) (
   module _ (d : SetAct) (es : List (Event T)) (words' : List ℕ) (begins : BeginsNone p es)
       (more : set_acts_of p (events ++ es) ≡ done ++ d ∷ []) (does : Does scene words' es) where
     pub open_then : WasOpen (now scene) → HeldSometime p IsUnlocked (events ++ es)
-    open_then h = held_later p IsUnlocked events es begins h
+    open_then was_open = held_later p IsUnlocked events es begins was_open
 
     still_one_then : (one : SetAct) → IsOneOf one done → IsOneOf one (set_acts_of p (events ++ es))
-    still_one_then one h = subst (IsOneOf one) (sym more) (still_one one d done h)
+    still_one_then one is_one_of_holds = subst (IsOneOf one) (sym more) (still_one one d done is_one_of_holds)
 
     pub asked_then : (k : ℕ) → AskedBelow k (now scene) → (i owner : ℕ) → i < k
         → HeldThroughout p (StillToFree p owner i) (events ++ es) → IsOneOf (Asks i owner) (set_acts_of p (events ++ es))
-    asked_then k h i owner below through = still_one_then (Asks i owner) (h i owner below (through_less p (StillToFree p owner i) events es begins through))
+    asked_then k asked_below i owner below through =
+        still_one_then (Asks i owner) (asked_below i owner below (through_less p (StillToFree p owner i) events es begins through))
 
     -- what a recovery knows of those it was told to free, once it has done one thing more
     pub gone_then : (Was Now : ℕ → ℕ → Type 0) → GoneBut Was (now scene)
@@ -153,10 +154,10 @@ module _ {T : Type 0} (scene : Scene T) (inv : Inv scene) (mode : ReleaseMode) (
         → (i owner : ℕ) → IsOneOf (Yes i owner) (set_acts_of p (events ++ es))
         → (is_gone by owner (events ++ es) ≡ true)
         × (IsHonestBy by (events ++ es) → (filled_of i (events ++ es) ≢ Some owner) ⊎ Now i owner)
-    gone_then Was Now h was new i owner told =
+    gone_then Was Now gone_but was new i owner told =
         ⊎_elim
         (λ earlier.
-        let k = h i owner earlier in (
+        let k = gone_but i owner earlier in (
           gone_more by owner events es k.0,
           λ honest. ⊎_elim (λ gone. inl (λ e. gone (stays_lost by events es does.goes.fills i owner honest k.0 e)))
               (λ exempt. was i owner exempt) (k.1 (honest_less by events es honest)),
@@ -171,18 +172,18 @@ module _ {T : Type 0} (scene : Scene T) (inv : Inv scene) (mode : ReleaseMode) (
   pub loads_counter : done ≡ [] → steps ≤ 0
       → Knows c (recover_at c mode recovers.LoadsCounter) (now scene)
       → StepOf scene (Recover mode) (recover_at c mode recovers.LoadsCounter)
-  loads_counter none s k =
+  loads_counter none s knows =
       on_bool
       (λ b. Lead (Some (loads 0)) false [] (if b then Done states.Locked else recover_comes_to (call_at recovers.LoadsCounter) 0))
       (counter_of ws == locked)
       (λ t.
       let shut : counter_of ws ≡ locked = grind (arith, nat_tests) in
-      let paid = k.paid in
+      let paid = knows.paid in
       ends_so states.Locked (Some (loads 0)) false (stays_same scene inv _ (loads_same ws 0))
       (is_shut scene inv shut) (omega arith) (omega arith))
       (λ t.
       let open_now : counter_of ws ≢ locked = grind (arith, nat_tests) in
-      let paid = k.paid in
+      let paid = knows.paid in
       let some = g.some in
       by_test (λ s. Lead (Some (loads 0)) false [] (GoOn (at_recover (call_at recovers.LoadsCounter) s)))
       (nat_lt 0 c) (recovers.LoadsCell 0) recovers.LoadsCounterAgain
@@ -203,7 +204,7 @@ module _ {T : Type 0} (scene : Scene T) (inv : Inv scene) (mode : ReleaseMode) (
         scanned = tt;
         owns = tt;
         says = (held_now p IsUnlocked events (unlocked scene inv open_now), λ i owner below. absurd (omega arith));
-        gone = k.gone;
+        gone = knows.gone;
       }))
       (λ u. let nothing : c ≤ 0 = grind (arith, nat_tests) in absurd (omega arith)))
 

@@ -136,6 +136,6 @@ module _ {T : Type 0} (scene : Scene T) (inv : Inv scene) (index owner : ℕ) (f
     pub release_step : (stage : ReleaseStage) → ReleaseAt c index owner mode (all scene) stage
         → Knows c (release_at c index owner mode stage) (now scene) → steps ≤ release_number c mode stage backs
         → StepOf scene (Release index owner mode) (release_at c index owner mode stage)
-    release_step releases.EmptiesCell at k s = held releases.EmptiesCell at k (omega arith)
-    release_step (releases.Raises raise) at k s = held (releases.Raises raise) at k (omega arith)
-    release_step (releases.Locks lock) at k s = held (releases.Locks lock) at k (omega arith)
+    release_step releases.EmptiesCell at knows s = held releases.EmptiesCell at knows (omega arith)
+    release_step (releases.Raises raise) at knows s = held (releases.Raises raise) at knows (omega arith)
+    release_step (releases.Locks lock) at knows s = held (releases.Locks lock) at knows (omega arith)

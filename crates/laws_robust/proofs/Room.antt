@@ -244,19 +244,19 @@ module _ (c n new : ℕ) where
 
   -- a lock whose count has a step less has one less itself, or the counter has less room
   counted_to : (count : Count) (a : After Count Counted) → CountTo count a → LockTo (locks.Counts count) (lock_counted a)
-  counted_to count (GoOn next) h = inl h
-  counted_to count (Done ends.Locked) h = h
-  counted_to count (Done (ends.Filled filled counter)) h = go (filled == 0) refl (counter == greatest) refl h
+  counted_to count (GoOn next) count_to_holds = inl count_to_holds
+  counted_to count (Done ends.Locked) count_to_holds = count_to_holds
+  counted_to count (Done (ends.Filled filled counter)) count_to_holds = go (filled == 0) refl (counter == greatest) refl count_to_holds
     where
       go : (z : Bool) → (filled == 0) ≡ z → (g : Bool) → (counter == greatest) ≡ g
           → (((new ≡ n) × ((counter == greatest) ≡ true)) ⊎ (room new + 1 ≤ room n))
           → LockTo (locks.Counts count) (lock_counted (Done (ends.Filled filled counter)))
-      go false z g e (inl h) = rw z (inl h.0)
-      go false z g e (inr h) = rw z (inr h)
-      go true z true g (inl h) = rw (z, g) (inl h.0)
-      go true z true g (inr h) = rw (z, g) (inr h)
-      go true z false g (inl h) = let both : false ≡ true = sym g ∙ h.1 in absurd (cc)
-      go true z false g (inr h) = rw (z, g) (inr h)
+      go false z g e (inl count_to_holds) = rw z (inl count_to_holds.0)
+      go false z g e (inr count_to_holds) = rw z (inr count_to_holds)
+      go true z true g (inl count_to_holds) = rw (z, g) (inl count_to_holds.0)
+      go true z true g (inr count_to_holds) = rw (z, g) (inr count_to_holds)
+      go true z false g (inl count_to_holds) = let both : false ≡ true = sym g ∙ count_to_holds.1 in absurd (cc)
+      go true z false g (inr count_to_holds) = rw (z, g) (inr count_to_holds)
 
   -- a step of a lock takes one of its own or leaves less room
   pub lock_to : (lock : Lock) (cell : ℕ) → LockAt lock → new ≡ lock_then lock n → LockTo lock (lock_after c lock (lock_old lock n cell))
@@ -293,9 +293,9 @@ module _ (c n new : ℕ) where
 
   acquire_raises : (call : acquiring.Acquire) (index : ℕ) (raise : Raise) (a : After Raise ReleaseState) → RaiseTo raise a
       → AcquireTo (raise_left n raise) (acquire_raised call index a)
-  acquire_raises call index raise (GoOn next) h = inl h
-  acquire_raises call index raise (Done states.Locked) h = tt
-  acquire_raises call index raise (Done states.Unlocked) h = tt
+  acquire_raises call index raise (GoOn next) raise_to_holds = inl raise_to_holds
+  acquire_raises call index raise (Done states.Locked) raise_to_holds = tt
+  acquire_raises call index raise (Done states.Unlocked) raise_to_holds = tt
 
   -- a step of an acquire takes one of its own or leaves less room
   pub acquire_to : (call : acquiring.Acquire) (stage : AcquireStage) (cell : ℕ) → call.capacity ≡ c → AcquireAt stage → new ≡ acquire_then stage n
@@ -326,14 +326,14 @@ module _ (c n new : ℕ) where
 
   release_raises : (call : releasing.Release) (mode : ReleaseMode) (raise : Raise) (a : After Raise ReleaseState) → RaiseTo raise a
       → ReleaseTo (raise_left n raise + (c - 1 + 3)) (release_raised call mode a)
-  release_raises call mode raise (GoOn next) h = inl (h.0, (let le = h.1 in omega arith))
-  release_raises call Default raise (Done state) h = tt
-  release_raises call LockIfLastIndex raise (Done state) h = less_by 1 (raise_left n raise + (c - 1 + 3)) (c - 1 + 2) (omega arith) h
+  release_raises call mode raise (GoOn next) raise_to_holds = inl (raise_to_holds.0, (let le = raise_to_holds.1 in omega arith))
+  release_raises call Default raise (Done state) raise_to_holds = tt
+  release_raises call LockIfLastIndex raise (Done state) raise_to_holds = less_by 1 (raise_left n raise + (c - 1 + 3)) (c - 1 + 2) (omega arith) raise_to_holds
 
   release_locks : (call : releasing.Release) (lock : Lock) (a : After Lock ReleaseState) → LockTo lock a
       → ReleaseTo (lock_left c n lock) (release_locked call a)
-  release_locks call lock (GoOn next) h = h
-  release_locks call lock (Done state) h = tt
+  release_locks call lock (GoOn next) lock_to_holds = lock_to_holds
+  release_locks call lock (Done state) lock_to_holds = tt
 
   -- a step of a release takes one of its own or leaves less room
   pub release_to : (call : releasing.Release) (stage : ReleaseStage) (given : GiveBack) (cell : ℕ) → call.capacity ≡ c → ReleaseAt stage
@@ -358,29 +358,30 @@ module _ (c n new : ℕ) where
   -- less room
   recover_comes : (call : recovering.Recover) (index steps was : ℕ) → call.capacity ≡ c → rest c index + steps ≤ was → StaysOrMoves
       → RecoverTo steps was (recover_comes_to call (index + 1))
-  recover_comes call index steps was cap enough h =
+  recover_comes call index steps was cap enough stays_or_moves =
       by_bool (nat_lt (index + 1) call.capacity)
       (λ t.
       let less : index + 2 ≤ c = grind (arith, nat_tests) in
       let paid = up (c - (index + 1 + 1)) (c - (index + 1)) (c - 1 + 7) (omega (arith, less)) in
-      rw t (less_by steps was (rest c (index + 1) + (c - 1 + 7)) (omega (arith, paid, enough)) h))
-      (λ t. rw t (less_by steps was 0 (omega (arith, enough)) h))
+      rw t (less_by steps was (rest c (index + 1) + (c - 1 + 7)) (omega (arith, paid, enough)) stays_or_moves))
+      (λ t. rw t (less_by steps was 0 (omega (arith, enough)) stays_or_moves))
 
   -- a recovery whose raise has a step less has one less itself, or the counter has less room
   recover_raises : (call : recovering.Recover) (index : ℕ) (mode : ReleaseMode) (raise : Raise) (a : After Raise ReleaseState) → call.capacity ≡ c
       → RaiseTo raise a → RecoverTo 1 (rest c index + (c - 1 + 4) + raise_left n raise) (recover_raised call index mode a)
-  recover_raises call index mode raise (GoOn next) cap h = inl (h.0, (let le = h.1 in omega arith))
-  recover_raises call index mode raise (Done states.Locked) cap h = tt
-  recover_raises call index Default raise (Done states.Unlocked) cap h =
-      recover_comes call index 1 (rest c index + (c - 1 + 4) + raise_left n raise) cap (omega arith) h
-  recover_raises call index LockIfLastIndex raise (Done states.Unlocked) cap h =
-      less_by 1 (rest c index + (c - 1 + 4) + raise_left n raise) (rest c index + 1 + (c - 1 + 2)) (omega arith) h
+  recover_raises call index mode raise (GoOn next) cap raise_to_holds = inl (raise_to_holds.0, (let le = raise_to_holds.1 in omega arith))
+  recover_raises call index mode raise (Done states.Locked) cap raise_to_holds = tt
+  recover_raises call index Default raise (Done states.Unlocked) cap raise_to_holds =
+      recover_comes call index 1 (rest c index + (c - 1 + 4) + raise_left n raise) cap (omega arith) raise_to_holds
+  recover_raises call index LockIfLastIndex raise (Done states.Unlocked) cap raise_to_holds =
+      less_by 1 (rest c index + (c - 1 + 4) + raise_left n raise) (rest c index + 1 + (c - 1 + 2)) (omega arith) raise_to_holds
 
   recover_locks : (call : recovering.Recover) (index : ℕ) (lock : Lock) (a : After Lock ReleaseState) → call.capacity ≡ c → LockTo lock a
       → RecoverTo 1 (rest c index + 1 + lock_left c n lock) (recover_locked call index a)
   recover_locks call index lock (GoOn next) cap (inl h) = inl (h.0, (let le = h.1 in omega arith))
   recover_locks call index lock (GoOn next) cap (inr h) = inr h
-  recover_locks call index lock (Done state) cap h = recover_comes call index 1 (rest c index + 1 + lock_left c n lock) cap (omega arith) h
+  recover_locks call index lock (Done state) cap lock_to_holds =
+      recover_comes call index 1 (rest c index + 1 + lock_left c n lock) cap (omega arith) lock_to_holds
 
   -- a step of a recovery takes one of its own, but for a question, or leaves less room
   pub recover_to : (call : recovering.Recover) (stage : RecoverStage) (mode : ReleaseMode) (cell : ℕ) → call.capacity ≡ c → RecoverAt stage
@@ -443,9 +444,9 @@ module _ (c n new : ℕ) where
 
   borrows : (call : counting.BorrowedIndices) (count : Count) (a : After Count Counted) → CountTo count a
       → BorrowedTo (count_left c n count) (borrowed_counted call a)
-  borrows call count (GoOn next) h = inl h
-  borrows call count (Done ends.Locked) h = tt
-  borrows call count (Done (ends.Filled filled counter)) h = tt
+  borrows call count (GoOn next) count_to_holds = inl count_to_holds
+  borrows call count (Done ends.Locked) count_to_holds = tt
+  borrows call count (Done (ends.Filled filled counter)) count_to_holds = tt
 
   pub borrowed_to : (call : counting.BorrowedIndices) (cell : ℕ) → call.capacity ≡ c → CountAt call.count → new ≡ count_then call.count n
       → BorrowedTo (count_left c n call.count) (borrowed_counted call (count_after call.capacity call.count (count_old call.count n cell)))

@@ -144,28 +144,28 @@ module _ (T : Type 0) (c n new : ℕ) where
 
   acquires_so : (owner : ℕ) (was : ℕ) (a : After acquiring.Acquire Acquired) → AcquireTo c n new was a
       → CallTo 1 was (as_call calls.Acquire acquire_answer (went_on as_it_is owner tt a))
-  acquires_so owner was (GoOn next) h = h
-  acquires_so owner was (Done result) h = tt
+  acquires_so owner was (GoOn next) acquire_to_holds = acquire_to_holds
+  acquires_so owner was (Done result) acquire_to_holds = tt
 
   releases_so : (given : GiveBack) (was : ℕ) (a : After releasing.Release Released) → ReleaseTo c n new was a
       → CallTo 1 was (as_call calls.Release release_answer (went_on as_it_is given tt a))
-  releases_so given was (GoOn next) h = h
-  releases_so given was (Done result) h = tt
+  releases_so given was (GoOn next) release_to_holds = release_to_holds
+  releases_so given was (Done result) release_to_holds = tt
 
   finds_so : (owner steps was : ℕ) (a : After finding.Find ℕ) → FindTo c n new steps was a
       → CallTo steps was (as_call calls.Find answers.Number (went_on as_it_is owner tt a))
-  finds_so owner steps was (GoOn next) h = h
-  finds_so owner steps was (Done result) h = tt
+  finds_so owner steps was (GoOn next) find_to_holds = find_to_holds
+  finds_so owner steps was (Done result) find_to_holds = tt
 
   recovers_so : (mode : ReleaseMode) (steps was : ℕ) (a : After recovering.Recover ReleaseState) → RecoverTo c n new steps was a
       → CallTo steps was (as_call calls.Recover answers.State (went_on as_it_is mode tt a))
-  recovers_so mode steps was (GoOn next) h = h
-  recovers_so mode steps was (Done result) h = tt
+  recovers_so mode steps was (GoOn next) recover_to_holds = recover_to_holds
+  recovers_so mode steps was (Done result) recover_to_holds = tt
 
   borrows_so : (was : ℕ) (a : After counting.BorrowedIndices ℕ) → BorrowedTo c n new was a
       → CallTo 1 was (as_call calls.BorrowedIndices answers.Number (went_on as_it_is tt tt a))
-  borrows_so was (GoOn next) h = h
-  borrows_so was (Done result) h = tt
+  borrows_so was (GoOn next) borrowed_to_holds = borrowed_to_holds
+  borrows_so was (Done result) borrowed_to_holds = tt
 
   -- a step of any call takes one of its own, but for a question, or leaves the counter less
   -- room
@@ -249,7 +249,7 @@ module _ {T : Type 0} (code : Coding T) (c : ℕ) (some : 1 ≤ c) where
     to_falls steps s flight (GoOn next) low one (inr h) =
         let less = moves h (flights.Robust flight) (flights.Robust next) in
         inr (omega (arith, low, one), inl (moved_by h, omega arith))
-    to_falls steps s flight (Done answer) low one h = tt
+    to_falls steps s flight (Done answer) low one call_to_holds = tt
 
   -- each step of any call that may stand there falls
   call_falls : (words : List ℕ) (flight : RobustFlight) → CallAt c flight → 0 < length words
@@ -315,28 +315,28 @@ module _ {T : Type 0} (code : Coding T) (c : ℕ) where
 
     acquire_goes : (owner : ℕ) (a : After acquiring.Acquire Acquired) → AcquireThen c a
         → Goes (as_call calls.Acquire acquire_answer (went_on as_it_is owner tt a))
-    acquire_goes owner (GoOn next) h = h
-    acquire_goes owner (Done result) h = tt
+    acquire_goes owner (GoOn next) acquire_then_holds = acquire_then_holds
+    acquire_goes owner (Done result) acquire_then_holds = tt
 
     release_goes : (given : GiveBack) (a : After releasing.Release Released) → ReleaseThen c a
         → Goes (as_call calls.Release release_answer (went_on as_it_is given tt a))
-    release_goes given (GoOn next) h = h
-    release_goes given (Done result) h = tt
+    release_goes given (GoOn next) release_then_holds = release_then_holds
+    release_goes given (Done result) release_then_holds = tt
 
     find_goes : (owner : ℕ) (a : After finding.Find ℕ) → FindThen c a
         → Goes (as_call calls.Find answers.Number (went_on as_it_is owner tt a))
-    find_goes owner (GoOn next) h = h
-    find_goes owner (Done result) h = tt
+    find_goes owner (GoOn next) find_then_holds = find_then_holds
+    find_goes owner (Done result) find_then_holds = tt
 
     recover_goes : (mode : ReleaseMode) (a : After recovering.Recover ReleaseState) → RecoverThen c a
         → Goes (as_call calls.Recover answers.State (went_on as_it_is mode tt a))
-    recover_goes mode (GoOn next) h = h
-    recover_goes mode (Done result) h = tt
+    recover_goes mode (GoOn next) recover_then_holds = recover_then_holds
+    recover_goes mode (Done result) recover_then_holds = tt
 
     borrow_goes : (a : After counting.BorrowedIndices ℕ) → BorrowThen c a
         → Goes (as_call calls.BorrowedIndices answers.Number (went_on as_it_is tt tt a))
-    borrow_goes (GoOn next) h = h
-    borrow_goes (Done result) h = tt
+    borrow_goes (GoOn next) borrow_then_holds = borrow_then_holds
+    borrow_goes (Done result) borrow_then_holds = tt
 
     -- a call that goes on stands where it may stand
     call_goes : (flight : RobustFlight) (old : ℕ) → CallAt c flight → Goes (after flight old)

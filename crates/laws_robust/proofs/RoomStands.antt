@@ -148,9 +148,9 @@ LockThen (Done state) = Unit {0}
 
 -- a count that goes on, or ends, within a lock leaves the lock where it may stand
 counted_then : (a : After Count Counted) → CountThen a → LockThen (lock_counted a)
-counted_then (GoOn next) h = h
-counted_then (Done ends.Locked) h = tt
-counted_then (Done (ends.Filled filled counter)) h = go (filled == 0) refl (counter == greatest) refl
+counted_then (GoOn next) count_then_holds = count_then_holds
+counted_then (Done ends.Locked) count_then_holds = tt
+counted_then (Done (ends.Filled filled counter)) count_then_holds = go (filled == 0) refl (counter == greatest) refl
   where
     go : (z : Bool) → (filled == 0) ≡ z → (g : Bool) → (counter == greatest) ≡ g
         → LockThen (lock_counted (Done (ends.Filled filled counter)))

@@ -12,15 +12,15 @@ pub last_one : (d : SetAct) (all : List SetAct) → IsOneOf d (all ++ d ∷ [])
 last_one d all = record { before = all; after = []; is = refl }
 
 pub by_latest : (one : SetAct) (all : List SetAct) → IsLatest one all → IsOneOf one all
-by_latest one all h = record { before = h.before; after = []; is = h.is }
+by_latest one all latest = record { before = latest.before; after = []; is = latest.is }
 
 -- one of them is one of the earlier ones, or the last
 pub was_one : (one d : SetAct) (all : List SetAct) → IsOneOf one (all ++ d ∷ []) → IsOneOf one all ⊎ (d ≡ one)
-was_one one d all h = go (split_last all d h.before one h.after h.is)
+was_one one d all is_one_of_holds = go (split_last all d is_one_of_holds.before one is_one_of_holds.after is_one_of_holds.is)
   where
-    go : SplitAt all d h.before one h.after → IsOneOf one all ⊎ (d ≡ one)
+    go : SplitAt all d is_one_of_holds.before one is_one_of_holds.after → IsOneOf one all ⊎ (d ≡ one)
     go (Last p q) = inr q
-    go (Earlier rest p) = inl (record { before = h.before; after = rest; is = p })
+    go (Earlier rest p) = inl (record { before = is_one_of_holds.before; after = rest; is = p })
 
 -- ---- the indices that were asked about
 

@@ -116,7 +116,7 @@ module _ {T : Type 0} (scene : Scene T) (inv : Inv scene) where
   may_tell : (b : GoneBy) (said : Bool) (mode : ReleaseMode) (index owner : ℕ)
       → MayDecide b scene.set.dead (recover_at c mode (recovers.Asks index owner)) said → number_of said ≢ 0
       → MayBeTold b owner events
-  may_tell b said mode index owner e ne = grind arith
+  may_tell b said mode index owner may_decide ne = grind arith
 
   find_decides : (said : Bool) (owner : ℕ) → owner < empty → IsHere scene (starts.Find owner)
       → (stage : FindStage) → FindAt c (all scene) stage
@@ -205,7 +205,7 @@ module _ {T : Type 0} (by : GoneBy) (code : Coding T) (c : ℕ) (t : Trace T) (s
     pub is_there : (start : RobustStart) (flight : RobustFlight)
         → StandsThere (family_by by code c) t s p x since (Robust start) (flights.Robust flight)
         → IsThere start flight
-    is_there start flight h = grind arith
+    is_there start flight stands_there = grind arith
 
     -- the rows that it has passed
     pub passes : (flight : RobustFlight) (said : Option Bool)
@@ -228,8 +228,8 @@ module _ {T : Type 0} (by : GoneBy) (code : Coding T) (c : ℕ) (t : Trace T) (s
         → first_row (going_rows code (registries.Owners s.state.dead) (Some flight) None) ≡ None
         → StandsThere (family_by by code c) t s p x since start flight
         → ComesFrom (family_by by code c) t s p x since code s.state.words (registries.Owners s.state.dead) start flight
-    comes room (Robust start) (flights.Robust flight) r h =
-        let there = is_there start flight h in
+    comes room (Robust start) (flights.Robust flight) r stands_there =
+        let there = is_there start flight stands_there in
         let moves = step_moves (scene_of p x since) (inv_with room) start flight there.here there.at (passes flight None r).0 there.steps there.knows in
         record {
           state = _;
@@ -237,7 +237,7 @@ module _ {T : Type 0} (by : GoneBy) (code : Coding T) (c : ℕ) (t : Trace T) (s
           holds = holds_more (scene_of p x since) _ (Open (Robust start) (wrote_of p t.events)) _ _ _ moves s.holds s.inv;
           owes = owes (scene_of p x since) _ (Open (Robust start) (wrote_of p t.events)) _ _ _ moves s.holds s.inv there.here;
         }
-    comes room start flight r h = absurd h.at
+    comes room start flight r stands_there = absurd stands_there.at
 
     -- ---- a decision
 
@@ -251,16 +251,18 @@ module _ {T : Type 0} (by : GoneBy) (code : Coding T) (c : ℕ) (t : Trace T) (s
         → MayDecideIn flight said → is_question (want_of code flight) ≡ true
         → StandsThere (family_by by code c) t s p x since start flight
         → DecidesFrom (family_by by code c) t s p x since code (number_of said) s.state.words (registries.Owners s.state.dead) start flight
-    decides room said (Robust start) (flights.Robust flight) r asks h =
-        let there = is_there start flight h in
-        let moves = decision_moves (scene_of p x since) (inv_with room) said start flight there.here there.at r asks there.steps there.knows in
+    decides room said (Robust start) (flights.Robust flight) may_decide_in_holds asks stands_there =
+        let there = is_there start flight stands_there in
+        let moves =
+        decision_moves (scene_of p x since) (inv_with room) said start flight there.here there.at
+        may_decide_in_holds asks there.steps there.knows in
         record {
           state = _;
           fit = record { kept = refl; words = refl };
           holds = holds_more (scene_of p x since) _ (Open (Robust start) (wrote_of p t.events)) _ _ _ moves s.holds s.inv;
           owes = owes (scene_of p x since) _ (Open (Robust start) (wrote_of p t.events)) _ _ _ moves s.holds s.inv there.here;
         }
-    decides room said start flight r asks h = absurd h.at
+    decides room said start flight may_decide_in_holds asks stands_there = absurd stands_there.at
 
     -- one that passes the machine's rows may
     pub passes_in : (flight : Flight T) (said : Bool)

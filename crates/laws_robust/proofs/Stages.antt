@@ -135,19 +135,19 @@ module _ {T : Type 0} (scene : Scene T) where
   -- ---- what a step leaves of what the call knows of the counts
 
   pub paid_of : (P : Type 0) → PaidUnless P now → IsPaid now
-  paid_of P h = ⊎_elim (λ k. k.1) (λ k. omega arith) h
+  paid_of P paid_unless = ⊎_elim (λ k. k.1) (λ k. omega arith) paid_unless
 
   pub paid_then : (ask : Option Ask) (later : List (Event T)) → IsPaid now → IsPaid (seen ask false later)
-  paid_then ask later h = omega arith
+  paid_then ask later paid = omega arith
 
   -- a number that the counter does not have any more pays for a turn back
   pub paid_back : (number : ℕ) (ask : Option Ask) (later : List (Event T)) → counter_of ws ≢ number → Holding number now → IsPaid (seen ask true later)
-  paid_back number ask later other h = ⊎_elim (λ k. absurd (other k.0)) (λ k. omega arith) h.paid
+  paid_back number ask later other holding = ⊎_elim (λ k. absurd (other k.0)) (λ k. omega arith) holding.paid
 
   -- a step that leaves the counter leaves what is known of it
   pub holds_on : (number : ℕ) (ask : Option Ask) (later : List (Event T))
       → counter_of (words_after ws ask) ≡ counter_of ws → Holding number now → Holding number (seen ask false later)
-  holds_on number ask later same h = grind arith
+  holds_on number ask later same holding = grind arith
 
   -- ---- what the party has written
 

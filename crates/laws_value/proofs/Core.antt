@@ -71,23 +71,23 @@ module _ (size : ℕ) where
 
   -- a word stored in the version's cell
   pub fills : (k : Core) (at word : ℕ) → at < size → Good k → Good (filled k at word)
-  fills k at word below g =
-      let some = g.some in
+  fills k at word below good =
+      let some = good.some in
       record {
-        some = g.some;
-        sized = g.sized;
-        cells = length-set k.cells (size * (k.version % 2) + at) word ∙ g.cells;
+        some = good.some;
+        sized = good.sized;
+        cells = length-set k.cells (size * (k.version % 2) + at) word ∙ good.cells;
         held = λ i is.
             let other : (k.version - 1) % 2 ≢ k.version % 2 = λ e. absurd (omega arith) in
             let place : size * ((k.version - 1) % 2) + i ≢ size * (k.version % 2) + at =
             cells_apart size ((k.version - 1) % 2) (k.version % 2) i at is below other in
-            get_or-set_other k.cells (size * (k.version % 2) + at) (size * ((k.version - 1) % 2) + i) word 0 place ∙ g.held i is;
+            get_or-set_other k.cells (size * (k.version % 2) + at) (size * ((k.version - 1) % 2) + i) word 0 place ∙ good.held i is;
       }
 
   -- the words stored so far, and one more
   pub one_filled : (k : Core) (words : List ℕ) (at : ℕ) → at < size → Good k → IsFilled k words at → IsFilled (filled k at (get_or words at 0)) words (at + 1)
-  one_filled k words at below g so_far =
-      let cells = g.cells in
+  one_filled k words at below good so_far =
+      let cells = good.cells in
       let low = cell_within size k.version at below in
       one_more (λ i. size * (k.version % 2) + i) k.cells words at (get_or words at 0) (λ i h e. absurd (omega arith))
       (omega arith) refl so_far

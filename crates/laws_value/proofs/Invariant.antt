@@ -101,27 +101,27 @@ module _ {T : Type 0} where
   pub holds_more : (scene : Scene T Value) (s' : Value) (es : List (Event T)) (changes' : ℕ) → Preserves scene s' es changes'
       → Holds scene.coding scene.state.holder scene.state.core scene.events scene.turns
       → Holds scene.coding s'.holder s'.core (scene.events ++ es) (scene.turns + 1)
-  holds_more scene s' es changes' s h =
+  holds_more scene s' es changes' preserves h =
       let code = scene.coding in
       let more = flat_map-append acts scene.events es in
-      let reached = s.reached in
+      let reached = preserves.reached in
       record {
         coded = h.coded;
-        good = s.good;
+        good = preserves.good;
         stand =
             ap (standing (value_of_zeros code)) more
-            ∙ standing_more (value_of_zeros code) (moments scene.events) (moments es) _ _ h.stand s.goes;
+            ∙ standing_more (value_of_zeros code) (moments scene.events) (moments es) _ _ h.stand preserves.goes;
         legal =
             subst (IsLegal (value_of_zeros code)) (sym more)
-            (legal_more (value_of_zeros code) (moments scene.events) (moments es) _ h.legal h.stand s.answers);
-        answers = Each-append (AnswersRight code) scene.events es h.answers s.right;
-        holders = fold-append holder_after None scene.events es ∙ (ap (λ o. fold holder_after o es) h.holders ∙ s.holders);
-        grants = Each-append GrantsRight scene.events es h.grants s.grants;
+            (legal_more (value_of_zeros code) (moments scene.events) (moments es) _ h.legal h.stand preserves.answers);
+        answers = Each-append (AnswersRight code) scene.events es h.answers preserves.right;
+        holders = fold-append holder_after None scene.events es ∙ (ap (λ o. fold holder_after o es) h.holders ∙ preserves.holders);
+        grants = Each-append GrantsRight scene.events es h.grants preserves.grants;
         reached = reached;
-        within = s.within;
+        within = preserves.within;
         counted =
             (let a = h.counted in
-            let b = s.counted in
+            let b = preserves.counted in
             let c : length (stored (scene.events ++ es)) ≡ length (stored scene.events) + length (stored es) =
             ap length (flat_map-append stores scene.events es) ∙ length-append (stored scene.events) (stored es) in
             omega arith);

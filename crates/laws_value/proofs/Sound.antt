@@ -40,14 +40,14 @@ use Rattle.laws_value.proofs.Stages.{told_after}
 
 -- the words of the version's cell
 cell_is : (size : ℕ) (holder : Option ℕ) (k : Core) → Good size k → cell_in size (layout holder k) ≡ k.now
-cell_is size holder k g =
+cell_is size holder k good =
     let place : cell_word size (k.version - 1) ≡ suc (suc (size * ((k.version - 1) % 2))) = omega arith in
     let step : size * ((k.version - 1) % 2 + 1) ≤ size * 2 = mul-le-mul_left size (omega arith) in
     let long = length-drop (size * ((k.version - 1) % 2)) k.cells in
-    let cells = g.cells in
+    let cells = good.cells in
     ap (λ n. take size (drop n (layout holder k))) place
-    ∙ same_words size (drop (size * ((k.version - 1) % 2)) k.cells) k.now g.sized (omega arith)
-    (λ i below. get_or-drop (size * ((k.version - 1) % 2)) k.cells i 0 ∙ g.held i below)
+    ∙ same_words size (drop (size * ((k.version - 1) % 2)) k.cells) k.now good.sized (omega arith)
+    (λ i below. get_or-drop (size * ((k.version - 1) % 2)) k.cells i 0 ∙ good.held i below)
 
 module _ {T : Type 0} where
   all_act : (p : ℕ) (start : AtomicStart T) (outcome : Option (Answer T)) → AllByRecursion IsAct (acted p start outcome)
@@ -180,8 +180,8 @@ module _ {T : Type 0} where
       }
 
   few : (code : Coding T) (c : ℕ) (t : Trace T) (turn : Turn T) → frame.Sound (family code c) t → t.world.turns < 2 ^ 64 - 2 → IsFreshTurn t turn
-  few z c t (Next p) s small = few_turns z c t s small p
-  few z c t turn s small = tt
+  few z c t (Next p) sound small = few_turns z c t sound small p
+  few z c t turn sound small = tt
 
   all_turns : AllTurns {T = T} outline IsFreshTurn
   all_turns = record { opens = λ code c coded admitted. opens code c coded; turns = λ code c coded admitted. turns code c; few = few }
@@ -199,17 +199,17 @@ module _ {T : Type 0} where
   -- where turns have no bound, and no store finds the last version
   pub sound_on : (t : Trace T) → t.world.kind ≡ kinds.Atomic → IsCoding t.world.coding → IsFreshRun t
       → frame.Sound (family t.world.coding t.world.capacity) t
-  sound_on t is coded r =
+  sound_on t is coded fresh_run =
       let w = t.world in
       let F = family w.coding w.capacity in
-      subst (frame.Sound F) (sym r.is)
-      (run_sound F IsFreshTurn (fresh_laws w.coding w.capacity) r.turns (opening w.coding w.kind w.capacity w.parties) r.fresh
+      subst (frame.Sound F) (sym fresh_run.is)
+      (run_sound F IsFreshTurn (fresh_laws w.coding w.capacity) fresh_run.turns (opening w.coding w.kind w.capacity w.parties) fresh_run.fresh
       (subst (λ kind. frame.Sound F (opening w.coding kind w.capacity w.parties)) (sym is) (opening_sound w.coding w.capacity w.parties coded)))
 
   -- a value's machine whose run is fresh keeps what is promised
   pub kept_on : (t : Trace T) → t.world.kind ≡ kinds.Atomic → IsCoding t.world.coding → IsFreshRun t → IsKept t
-  kept_on t is coded r =
-      let s = sound_on t is coded r in
+  kept_on t is coded fresh_run =
+      let s = sound_on t is coded fresh_run in
       subst (λ P. IsKeptBy P t) (sym (ap (promise_of {T = T}) is))
       (record {
         spans = s.inv.spans;

@@ -35,14 +35,14 @@ module _ {T : Type 0} (scene : Scene T Value) (inv : Inv outline scene) where
       → scene.steps ≤ number_of code.size flight scene.backs
       → KnowsFlight k scene.since scene.changes scene.backs flight
       → IsFreshCall k.version (flights.Atomic flight) → StepOf scene start flight
-  step_moves AcquireProducer (calls.Acquire run) at s b fresh = grind arith
-  step_moves ReleaseProducer (calls.Release run) at s b fresh = grind arith
-  step_moves (Store value) (calls.Store run) at s b fresh =
-      subst (λ v. StepOf scene (Store value) (store_at v run.call.stage)) (sym at.1) (store_step scene inv value at.0 b run.call.stage fresh at.2 s)
-  step_moves Load (calls.Load run) at s b fresh = load_step scene inv inv.holds.within run.room run.call.stage at b s
-  step_moves HasProducer (calls.Look run) at s b fresh = grind arith
-  step_moves Version (calls.Version run) at s b fresh = grind arith
-  step_moves start flight at s b fresh = absurd at
+  step_moves AcquireProducer (calls.Acquire run) at s knows_flight fresh = grind arith
+  step_moves ReleaseProducer (calls.Release run) at s knows_flight fresh = grind arith
+  step_moves (Store value) (calls.Store run) at s knows_flight fresh =
+      subst (λ v. StepOf scene (Store value) (store_at v run.call.stage)) (sym at.1) (store_step scene inv value at.0 knows_flight run.call.stage fresh at.2 s)
+  step_moves Load (calls.Load run) at s knows_flight fresh = load_step scene inv inv.holds.within run.room run.call.stage at knows_flight s
+  step_moves HasProducer (calls.Look run) at s knows_flight fresh = grind arith
+  step_moves Version (calls.Version run) at s knows_flight fresh = grind arith
+  step_moves start flight at s knows_flight fresh = absurd at
 
 -- ---- a store that is to load the version finds another than the last
 

@@ -12,12 +12,12 @@ module _ {T : Type 0} where
 
   -- the state that the party's looks have written into, and before its first look one that shows
   -- nothing; none where there is no such party
-  abbrev pub IsFound : ℕ → ℕ → Option (ContainerState T) → Option (ContainerState T) → Type 0
+  abbrev pub IsFound : (parties p : ℕ) → Option (ContainerState T) → Option (ContainerState T) → Type 0
   IsFound parties p found (Some state) = found ≡ Some state
   IsFound parties p found None = (p < parties → ShowsNothing found) × (parties ≤ p → found ≡ None)
 
   -- in what a machine of so many parties keeps; other kinds have no states
-  abbrev pub IsStateIn : Registry T → ℕ → ℕ → Option (ContainerState T) → Type 0
+  abbrev pub IsStateIn : Registry T → (parties p : ℕ) → Option (ContainerState T) → Type 0
   IsStateIn (registries.Container dead states) parties p found =
       IsFound parties p found (state_of p states)
   IsStateIn kept parties p found = found ≡ None

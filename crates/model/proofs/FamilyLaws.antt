@@ -246,16 +246,16 @@ module _ {T : Type 0} (K : Outline T) where
     -- a turn that writes what the family says writes its events in order
     in_order : (t : Trace T) (turn : Turn T) (p : ℕ) → IsParty turn p → (start : Start T) (step : Step (Flight T) (Registry T) T) → Writes t turn step
         → WritesInOrder K.promise t turn (t.events ++ events_of_step p start step)
-    in_order t turn p mine start step w =
+    in_order t turn p mine start step writes_holds =
         record {
-          effects = w.effects;
-          acts = w.acts;
+          effects = writes_holds.effects;
+          acts = writes_holds.acts;
           ends = ending_of p start (answer_in step.after);
-          is = ap (λ es. t.events ++ (es ++ ending_of p start (answer_in step.after))) w.is;
-          are_effects = w.are_effects;
-          are_acts = w.are_acts;
+          is = ap (λ es. t.events ++ (es ++ ending_of p start (answer_in step.after))) writes_holds.is;
+          are_effects = writes_holds.are_effects;
+          are_acts = writes_holds.are_acts;
           are_ends = ends_end turn p start (answer_in step.after) mine;
-          right = w.right;
+          right = writes_holds.right;
         }
 
     -- every turn of a machine that keeps the invariant writes its events in order
@@ -278,8 +278,9 @@ module _ {T : Type 0} (K : Outline T) where
 
     -- each call under way has taken no more steps than its promise grants
     pub progress : Owed code c → (t : Trace T) → Sound F t → (p : ℕ) → Progresses K.promise c code.size (span_of p t.events) (progress_in t.world p)
-    progress L t s p =
-        frame.progresses F L.bounds s.state p t.events t.world.changes (party_of p t.world.latest) (span_of p t.events) (s.inv.calls p) (s.inv.knows p)
+    progress L t sound p =
+        frame.progresses F L.bounds sound.state p t.events t.world.changes (party_of p t.world.latest)
+        (span_of p t.events) (sound.inv.calls p) (sound.inv.knows p)
 
   -- ---- every run
 
@@ -304,18 +305,18 @@ module _ {T : Type 0} (K : Outline T) where
 
     -- every machine of the kind that turns have reached keeps the invariant
     pub reached_sound : (t : Trace T) → t.world.kind ≡ K.kind → IsReached t → Sound (family K t.world.coding t.world.capacity) t
-    reached_sound t is r =
+    reached_sound t is reached =
         let F = family K t.world.coding t.world.capacity in
         frame.reached_sound F
-        (frame.laws_with F (λ u turn s small. all.few t.world.coding t.world.capacity u turn s small) (laws_there t is r.coded r.admitted)) t
-        (ap is_loan is ∙ K.no_loan) (opening_there t is r.coded r.admitted) r
+        (frame.laws_with F (λ u turn s small. all.few t.world.coding t.world.capacity u turn s small) (laws_there t is reached.coded reached.admitted)) t
+        (ap is_loan is ∙ K.no_loan) (opening_there t is reached.coded reached.admitted) reached
 
   -- the same where neither turns nor parties have a bound, nor turns another premise
   pub reached_on_sound : (all : AllTurns (λ t turn. Unit {0})) (t : Trace T) → t.world.kind ≡ K.kind → IsReachedOn t
       → Sound (family K t.world.coding t.world.capacity) t
-  reached_on_sound all t is r =
-      frame.reached_on_sound (family K t.world.coding t.world.capacity) (laws_there (λ t turn. Unit {0}) all t is r.coded r.admitted) t
-      (opening_there (λ t turn. Unit {0}) all t is r.coded r.admitted) r
+  reached_on_sound all t is reached_on =
+      frame.reached_on_sound (family K t.world.coding t.world.capacity) (laws_there (λ t turn. Unit {0}) all t is reached_on.coded reached_on.admitted) t
+      (opening_there (λ t turn. Unit {0}) all t is reached_on.coded reached_on.admitted) reached_on
 
   -- what it owes of its promises at every such capacity
   abbrev pub OwesAll : Type 1
@@ -327,9 +328,9 @@ module _ {T : Type 0} (K : Outline T) where
       owed_there = owes t.world.coding t.world.capacity coded (admits May all t is coded admitted)
 
       pub kept_by : Sound (family K t.world.coding t.world.capacity) t → K.promise.holds t → IsKept t
-      kept_by s promised =
+      kept_by sound promised =
           subst (λ P. IsKeptBy P t) (sym (ap (promise_of {T = T}) is ∙ owed_there.promise))
-          (record { spans = s.inv.spans; progress = progress t.world.coding t.world.capacity owed_there t s; promised = promised })
+          (record { spans = sound.inv.spans; progress = progress t.world.coding t.world.capacity owed_there t sound; promised = promised })
 
     -- the kind keeps what it promises in every run
     pub keeps : Keeps T K.kind

@@ -125,29 +125,30 @@ module _ {T : Type 0} (F : Family T) where
       → F.At s' q start flight × (F.written s' q flight ≡ F.written s q flight)) where
     -- what another party is doing fits its span as before
     doing_fits : (x : Party T) (doing : Doing T) (span : Span T) → FitsDoing s q x doing span → FitsDoing s' q x doing span
-    doing_fits x (Going flight since) span h =
-        let both = others x.start flight h.at in
+    doing_fits x (Going flight since) span fits_doing =
+        let both = others x.start flight fits_doing.at in
         record {
-          span = h.span ∙ ap (λ es. Open x.start es) (sym both.1);
-          steps = subst (λ es. x.steps ≤ F.number es flight x.backs) (sym both.1) h.steps;
+          span = fits_doing.span ∙ ap (λ es. Open x.start es) (sym both.1);
+          steps = subst (λ es. x.steps ≤ F.number es flight x.backs) (sym both.1) fits_doing.steps;
           at = both.0;
         }
-    doing_fits x (Over others) span h = record { answer = h.answer; wrote = h.wrote; span = h.span; steps = h.steps }
+    doing_fits x (Over others) span fits_doing =
+        record { answer = fits_doing.answer; wrote = fits_doing.wrote; span = fits_doing.span; steps = fits_doing.steps }
 
     pub still_fits : (o : Option (Party T)) (span : Span T) → Fits s q o span → Fits s' q o span
-    still_fits None span h = h
-    still_fits (Some x) span h = doing_fits x x.doing span h
+    still_fits None span fits = fits
+    still_fits (Some x) span fits = doing_fits x x.doing span fits
 
   module _ (s s' : F.State) (q : ℕ) (events es : List (Event T)) (changes changes' : ℕ)
       (others : (since backs : ℕ) (flight : Flight T) → F.Knows s q events since changes backs flight
       → F.Knows s' q (events ++ es) since changes' backs flight) where
     doing_knows : (backs : ℕ) (doing : Doing T) → KnowsDoing s q events changes backs doing → KnowsDoing s' q (events ++ es) changes' backs doing
-    doing_knows backs (Going flight since) h = others since backs flight h
-    doing_knows backs (Over others) h = h
+    doing_knows backs (Going flight since) knows_doing = others since backs flight knows_doing
+    doing_knows backs (Over others) knows_doing = knows_doing
 
     pub still_knows : (o : Option (Party T)) → KnowsParty s q events changes o → KnowsParty s' q (events ++ es) changes' o
-    still_knows None h = tt
-    still_knows (Some x) h = doing_knows x.backs x.doing h
+    still_knows None knows_party = tt
+    still_knows (Some x) knows_party = doing_knows x.backs x.doing knows_party
 
   -- a turn that writes events of its own party alone owes nothing else to the others
   pub owes : (s s' : F.State) (from : Span T) (p : ℕ) (y : Party T) (latest : List (ℕ × Party T))
@@ -168,24 +169,24 @@ module _ {T : Type 0} (F : Family T) where
 
   -- a party without a call under way has a span that is shut
   pub shut : (s : F.State) (p : ℕ) (o : Option (Party T)) (seen : Span T) → flight_of (doing_of o) ≡ None → Fits s p o seen → IsShut seen
-  shut s p None seen e h = subst IsShut (sym h) tt
-  shut s p (Some x) seen e h = go x.doing e h
+  shut s p None seen e fits = subst IsShut (sym fits) tt
+  shut s p (Some x) seen e fits = go x.doing e fits
     where
       go : (doing : Doing T) → flight_of (Some doing) ≡ None → FitsDoing s p x doing seen → IsShut seen
-      go (Going flight since) e h = absurd (cc)
-      go (Over others) e h = subst IsShut (sym h.span) tt
+      go (Going flight since) e fits = absurd (cc)
+      go (Over others) e fits = subst IsShut (sym fits.span) tt
 
   pub under_way : (s : F.State) (p : ℕ) (x : Party T) (doing : Doing T) (flight : Flight T) (since : ℕ) (seen : Span T)
       → doing ≡ Going flight since → FitsDoing s p x doing seen → IsUnderWay s p x flight seen
-  under_way s p x doing flight since seen e h = subst (λ d. FitsDoing s p x d seen) e h
+  under_way s p x doing flight since seen e fits_doing = subst (λ d. FitsDoing s p x d seen) e fits_doing
 
   -- what is known of a call under way, from what is known of its party
   pub knows_now : (s : F.State) (p : ℕ) (events : List (Event T)) (changes : ℕ) (o : Option (Party T)) (x : Party T)
       (flight : Flight T) (since : ℕ)
       → o ≡ Some x → x.doing ≡ Going flight since → KnowsParty s p events changes o
       → F.Knows s p events since changes x.backs flight
-  knows_now s p events changes o x flight since found doing h =
-      subst (KnowsDoing s p events changes x.backs) doing (subst (KnowsParty s p events changes) found h)
+  knows_now s p events changes o x flight since found doing knows_party =
+      subst (KnowsDoing s p events changes x.backs) doing (subst (KnowsParty s p events changes) found knows_party)
 
   -- ---- every turn
 
@@ -242,26 +243,26 @@ module _ {T : Type 0} (F : Family T) where
             record t.world { kept = kept; words = words; latest = put p y t.world.latest; changes = changes; turns = t.world.turns + 1 };
         events = t.events ++ es;
       }
-  comes_sound t p kept words y es changes s comes =
+  comes_sound t p kept words y es changes sound comes =
       record {
-        coding = s.coding;
-        kind = s.kind;
-        capacity = s.capacity;
+        coding = sound.coding;
+        kind = sound.kind;
+        capacity = sound.capacity;
         state = comes.state;
         fit = comes.fit;
         holds = comes.holds;
-        inv = advance s.state comes.state p y t.world.latest t.events es t.world.changes changes s.inv comes.owes;
+        inv = advance sound.state comes.state p y t.world.latest t.events es t.world.changes changes sound.inv comes.owes;
       }
 
   same : (t : Trace T) → Sound t → Sound record { world = t.world; events = t.events ++ [] }
-  same t s = subst (λ es. Sound record { world = t.world; events = es }) (sym (append-nil t.events)) s
+  same t sound = subst (λ es. Sound record { world = t.world; events = es }) (sym (append-nil t.events)) sound
 
   -- a call that goes on from this answer; one that is done stays
   answered : (t : Trace T) (p : ℕ) (x : Party T) (ask : Option Ask) (answer : ℕ) (doing : Doing T) → Sound t
       → ((flight : Flight T) (since : ℕ) → doing ≡ Going flight since → ComesByStep t p x flight since ask answer)
       → Sound record { world = after_answer t.world p x ask answer doing; events = t.events ++ events_of_answer t.world p x answer doing }
-  answered t p x ask answer (Going flight since) s comes = comes_sound t p _ _ _ _ _ s (comes flight since refl)
-  answered t p x ask answer (Over others) s comes = same t s
+  answered t p x ask answer (Going flight since) sound comes = comes_sound t p _ _ _ _ _ sound (comes flight since refl)
+  answered t p x ask answer (Over others) sound comes = same t sound
 
   -- the party has this call under way
   pub record IsUnder (t : Trace T) (p : ℕ) (x : Party T) (flight : Flight T) (since : ℕ) : Type 0 where
@@ -279,10 +280,10 @@ module _ {T : Type 0} (F : Family T) where
       → ComesByStep t p x flight since (ask_of (want_of t.world.coding flight)) (old_of t.world.words (ask_of (want_of t.world.coding flight))))
       → (o : Option (Party T)) → party_of p t.world.latest ≡ o
       → Sound record { world = after_next t.world p o; events = t.events ++ events_of_next t.world p o }
-  next_sound t p s comes None e = same t s
-  next_sound t p s comes (Some x) e =
+  next_sound t p sound comes None e = same t sound
+  next_sound t p sound comes (Some x) e =
       let ask : Doing T → Option Ask = ask_of_doing t.world.coding in
-      answered t p x (ask x.doing) (old_of t.world.words (ask x.doing)) x.doing s (λ flight since d.
+      answered t p x (ask x.doing) (old_of t.world.words (ask x.doing)) x.doing sound (λ flight since d.
       subst (λ a. ComesByStep t p x flight since a (old_of t.world.words a)) (sym (ap ask d)) (comes x flight since (under t p x flight since e d)))
 
   -- so does an answer to a question of a call
@@ -290,9 +291,9 @@ module _ {T : Type 0} (F : Family T) where
       → ((x : Party T) (flight : Flight T) (since : ℕ) → IsUnder t p x flight since → ComesByStep t p x flight since None (number_of said))
       → (o : Option (Party T)) → party_of p t.world.latest ≡ o
       → Sound record { world = after_decision t.world p said o; events = t.events ++ events_of_decision t.world p said o }
-  decision_sound t p said s comes None e = same t s
-  decision_sound t p said s comes (Some x) e =
-      answered t p x None (number_of said) x.doing s (λ flight since d. comes x flight since (under t p x flight since e d))
+  decision_sound t p said sound comes None e = same t sound
+  decision_sound t p said sound comes (Some x) e =
+      answered t p x None (number_of said) x.doing sound (λ flight since d. comes x flight since (under t p x flight since e d))
 
   -- so does a begin
   pub begin_sound : (t : Trace T) (p : ℕ) (start : Start T) → is_none (first_of t.world.kind t.world.capacity start t.world.kept) ≡ false → Sound t
@@ -301,10 +302,10 @@ module _ {T : Type 0} (F : Family T) where
       (party_at_begin start flight t.world.changes) (Begun p start ∷ []) t.world.changes)
       → (o : Option (Flight T)) → first_of t.world.kind t.world.capacity start t.world.kept ≡ o
       → Sound record { world = after_begin t.world p start o; events = t.events ++ Begun p start ∷ [] }
-  begin_sound t p start call s comes None e =
+  begin_sound t p start call sound comes None e =
       let none = rw e at call in
       absurd (cc)
-  begin_sound t p start call s comes (Some flight) e = comes_sound t p _ _ _ _ _ s (comes flight e)
+  begin_sound t p start call sound comes (Some flight) e = comes_sound t p _ _ _ _ _ sound (comes flight e)
 
   -- what a family owes, of a call that passes its rows, in a turn that may be taken
   pub record LawsWhere (May : Trace T → Turn T → Type 0) : Type 0 where
@@ -326,46 +327,46 @@ module _ {T : Type 0} (F : Family T) where
   module _ (May : Trace T → Turn T → Type 0) (laws : LawsWhere May) where
     -- so does the death of an owner
     death_sound : (t : Trace T) (owner : ℕ) → MayDie t.world owner → Sound t → Sound (after_turn t (Die owner))
-    death_sound t owner may s =
+    death_sound t owner may sound =
         let w = t.world in
         let es = Died owner ∷ [] in
-        let comes = laws.death t owner s may in
+        let comes = laws.death t owner sound may in
         record {
-          coding = s.coding;
-          kind = s.kind;
-          capacity = s.capacity;
+          coding = sound.coding;
+          kind = sound.kind;
+          capacity = sound.capacity;
           state = comes.state;
           fit = comes.fit;
           holds = comes.holds;
           inv =
               record {
-                spans = Each-append (StandsRight F.promise F.capacity) t.events es s.inv.spans (tt, tt);
+                spans = Each-append (StandsRight F.promise F.capacity) t.events es sound.inv.spans (tt, tt);
                 calls = λ q.
                     subst (λ a. Fits comes.state q (party_of q w.latest) a) (sym (span_of-death q t.events owner))
-                    (still_fits s.state comes.state q (comes.calls q) (party_of q w.latest) (span_of q t.events) (s.inv.calls q));
+                    (still_fits sound.state comes.state q (comes.calls q) (party_of q w.latest) (span_of q t.events) (sound.inv.calls q));
                 knows =
-                    λ q. still_knows s.state comes.state q t.events es w.changes w.changes (comes.calls_know q)
-                    (party_of q w.latest) (s.inv.knows q);
+                    λ q. still_knows sound.state comes.state q t.events es w.changes w.changes (comes.calls_know q)
+                    (party_of q w.latest) (sound.inv.knows q);
               };
         }
 
     -- so does every turn that is not refused
     pub turn_sound : (t : Trace T) (turn : Turn T) → call_refusal t.world turn ≡ None → May t turn → Sound t → Sound (after_turn t turn)
-    turn_sound t (Begin p start) e may s =
+    turn_sound t (Begin p start) e may sound =
         let begins = may_begin t.world p start e in
-        begin_sound t p start begins.call s (λ flight is. laws.begin t p start flight s may begins is)
+        begin_sound t p start begins.call sound (λ flight is. laws.begin t p start flight sound may begins is)
         (first_of t.world.kind t.world.capacity start t.world.kept) refl
-    turn_sound t (Next p) e may s =
-        next_sound t p s (λ x flight since u. laws.step t p x flight since s may
+    turn_sound t (Next p) e may sound =
+        next_sound t p sound (λ x flight since u. laws.step t p x flight since sound may
         (subst (λ o. first_row (going_rows t.world.coding t.world.kept o None) ≡ None) u.is (next_passes t.world p e)) u.found u.doing)
         (party_of p t.world.latest) refl
-    turn_sound t (Decide p said) e may s =
+    turn_sound t (Decide p said) e may sound =
         let due = is_true (is_due t.world.coding (flight_in t.world p)) (must_be_due t.world p said e) in
-        decision_sound t p said s (λ x flight since u. laws.decision t p x flight since said s may
+        decision_sound t p said sound (λ x flight since u. laws.decision t p x flight since said sound may
         (subst (λ o. first_row (going_rows t.world.coding t.world.kept o (Some said)) ≡ None) u.is (decision_passes t.world p said e)) u.found u.doing
         (subst (λ o. is_due t.world.coding o ≡ true) u.is due))
         (party_of p t.world.latest) refl
-    turn_sound t (Die owner) e may s = death_sound t owner (may_die t.world owner e) s
+    turn_sound t (Die owner) e may sound = death_sound t owner (may_die t.world owner e) sound
 
   -- the laws of a machine that can take a turn more
   abbrev pub Laws : Type 0
@@ -380,20 +381,20 @@ module _ {T : Type 0} (F : Family T) where
       → ((queue : ℕ) → queue_error t.world.kind queue ≡ None
       → Sound (opened t.world.coding t.world.kind t.world.capacity queue t.world.parties))
       → IsReached t → Sound t
-  reached_from laws t first r =
+  reached_from laws t first reached =
       kept_by_runs Sound (λ u turn e h. turn_sound (λ t turn. t.world.turns < 2 ^ 64 - 2) laws u turn (passes u.world turn e).on
       (passes u.world turn e).turns h)
-      t first r
+      t first reached
 
   -- where there is none
   pub reached_sound : Laws → (t : Trace T) → is_loan t.world.kind ≡ false
       → Sound (opening t.world.coding t.world.kind t.world.capacity t.world.parties) → IsReached t → Sound t
-  reached_sound laws t other first r =
+  reached_sound laws t other first reached =
       let w = t.world in
-      reached_from laws t (λ queue admitted. subst Sound (sym (opened_others w.coding w.kind w.capacity queue w.parties other)) first) r
+      reached_from laws t (λ queue admitted. subst Sound (sym (opened_others w.coding w.kind w.capacity queue w.parties other)) first) reached
 
   pub reached_on_sound : LawsOn → (t : Trace T) → Sound (opening t.world.coding t.world.kind t.world.capacity t.world.parties) → IsReachedOn t → Sound t
-  reached_on_sound laws t first r = kept_by_runs_on Sound (λ u turn e h. turn_sound (λ t turn. Unit {0}) laws u turn e tt h) t first r
+  reached_on_sound laws t first reached_on = kept_by_runs_on Sound (λ u turn e h. turn_sound (λ t turn. Unit {0}) laws u turn e tt h) t first reached_on
 
   -- laws of the turns that may be taken are laws of fewer turns
   pub laws_with : {May Fewer : Trace T → Turn T → Type 0} → ((t : Trace T) (turn : Turn T) → Sound t → Fewer t turn → May t turn)
@@ -421,14 +422,14 @@ module _ {T : Type 0} (F : Family T) where
   pub progresses : Bounds → (s : F.State) (p : ℕ) (events : List (Event T)) (changes : ℕ) (o : Option (Party T)) (seen : Span T)
       → Fits s p o seen → KnowsParty s p events changes o
       → Progresses F.promise F.capacity F.coding.size seen (progress_after changes o)
-  progresses bounds s p events changes None seen h knows = subst (λ a. Progresses {T = T} F.promise F.capacity F.coding.size a None) (sym h) tt
-  progresses bounds s p events changes (Some x) seen h knows = go x.doing refl h knows
+  progresses bounds s p events changes None seen fits knows = subst (λ a. Progresses {T = T} F.promise F.capacity F.coding.size a None) (sym fits) tt
+  progresses bounds s p events changes (Some x) seen fits knows = go x.doing refl fits knows
     where
       go : (doing : Doing T) → x.doing ≡ doing → FitsDoing s p x doing seen
           → KnowsDoing s p events changes x.backs doing
           → Progresses F.promise F.capacity F.coding.size seen (progress_after changes (Some x))
-      go (Going flight since) e h knows =
-          let most = bounds.most s p x.backs x.start flight h.at in
-          let steps = h.steps in
-          rw (h.span, e) (record { steps = omega arith; backs = bounds.paid s p events since changes x.backs flight knows }, refl)
-      go (Over others) e h knows = rw (h.span, e) (record { steps = h.steps; backs = knows }, refl)
+      go (Going flight since) same_doing fits knows =
+          let most = bounds.most s p x.backs x.start flight fits.at in
+          let steps = fits.steps in
+          rw (fits.span, same_doing) (record { steps = omega arith; backs = bounds.paid s p events since changes x.backs flight knows }, refl)
+      go (Over others) same_doing fits knows = rw (fits.span, same_doing) (record { steps = fits.steps; backs = knows }, refl)

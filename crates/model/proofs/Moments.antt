@@ -6,9 +6,10 @@ use Rattle.model.proofs.Readings.{AreOwn}
 
 module _ {T : Type 0} where
   pub begins_none_more : (p : ℕ) (es more : List (Event T)) → BeginsNone p es → BeginsNone p more → BeginsNone p (es ++ more)
-  begins_none_more p [] more h m = m
-  begins_none_more p (Begun q start ∷ es) more h m = (h.0, begins_none_more p es more h.1 m)
-  begins_none_more p (e ∷ es) more h m = begins_none_more p es more h m
+  begins_none_more p [] more first_begins_none second_begins_none = second_begins_none
+  begins_none_more p (Begun q start ∷ es) more first_begins_none second_begins_none =
+      (first_begins_none.0, begins_none_more p es more first_begins_none.1 second_begins_none)
+  begins_none_more p (e ∷ es) more first_begins_none second_begins_none = begins_none_more p es more first_begins_none second_begins_none
 
   -- the events of another party begin none of this party's calls
   pub others_begin_none : (p q : ℕ) (es : List (Event T)) → p ≢ q → AreOwn q es → BeginsNone p es

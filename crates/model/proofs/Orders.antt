@@ -48,8 +48,8 @@ module _ {T : Type 0} (F : Family T) where
         go : (doing : Doing T) → x.doing ≡ doing
             → WritesInOrder F.promise t (Next p)
             (t.events ++ events_of_answer t.world p x (old_of t.world.words (ask_of_doing t.world.coding doing)) doing)
-        go (Over others) d = nothing t (Next p)
-        go (Going flight since) d = orders.step t p x flight since s small e d
+        go (Over others) same_doing = nothing t (Next p)
+        go (Going flight since) same_doing = orders.step t p x flight since s small e same_doing
 
     -- an answer to a question of a call writes its events in order
     decision_in_order : (said : Bool) → is_due t.world.coding (flight_in t.world p) ≡ true → (o : Option (Party T))
@@ -59,33 +59,35 @@ module _ {T : Type 0} (F : Family T) where
     decision_in_order said due (Some x) e = go x.doing refl
       where
         go : (doing : Doing T) → x.doing ≡ doing → WritesInOrder F.promise t (Decide p said) (t.events ++ events_of_answer t.world p x (number_of said) doing)
-        go (Over others) d = nothing t (Decide p said)
-        go (Going flight since) d =
-            let here : flight_in t.world p ≡ Some flight = ap (λ o. flight_of (doing_of o)) e ∙ ap (λ d. flight_of (Some d)) d in
-            orders.decision t p x flight since said s small e d (rw here at due)
+        go (Over others) same_doing = nothing t (Decide p said)
+        go (Going flight since) same_doing =
+            let here : flight_in t.world p ≡ Some flight = ap (λ o. flight_of (doing_of o)) e ∙ ap (λ same_doing. flight_of (Some same_doing)) same_doing in
+            orders.decision t p x flight since said s small e same_doing (rw here at due)
 
   -- a turn writes down what it did, in order
   writes_down : Orders → (t : Trace T) (turn : Turn T) → refusal_of t.world turn ≡ None → Sound F t → WritesDown F.promise t turn (after_turn t turn)
-  writes_down orders t (Begin p start) e s = refl
-  writes_down orders t (Next p) e s = next_in_order orders t s (passes t.world (Next p) e).turns p (party_of p t.world.latest) refl
-  writes_down orders t (Decide p said) e s =
-      decision_in_order orders t s (passes t.world (Decide p said) e).turns p said
+  writes_down orders t (Begin p start) e sound = refl
+  writes_down orders t (Next p) e sound = next_in_order orders t sound (passes t.world (Next p) e).turns p (party_of p t.world.latest) refl
+  writes_down orders t (Decide p said) e sound =
+      decision_in_order orders t sound (passes t.world (Decide p said) e).turns p said
       (is_true (is_due t.world.coding (flight_in t.world p)) (must_be_due t.world p said (passes t.world (Decide p said) e).on))
       (party_of p t.world.latest) refl
-  writes_down orders t (Die owner) e s = refl
+  writes_down orders t (Die owner) e sound = refl
 
   -- every turn of a reached machine does what the turn says, and writes that down
   pub turn_is : Orders → (t : Trace T) (turn : Turn T) → refusal_of t.world turn ≡ None → IsReached t → Sound F t
       → IsTurnBy F.promise t turn (after_turn t turn)
-  turn_is orders t turn e r s =
+  turn_is orders t turn e reached sound =
       record {
         later = one_turn_later t.world turn (passes t.world turn e).on;
         word = writes_one_word t.world turn;
-        call = goes_on t.world turn (λ p x flight since answer found doing. orders.after t p x flight since answer s found doing) (passes t.world turn e).on;
+        call =
+            goes_on t.world turn (λ p x flight since answer found doing. orders.after t p x flight since answer sound found doing)
+            (passes t.world turn e).on;
         counts = counts_turn t.world turn (passes t.world turn e).on;
-        others = counts_others t.world turn (reached_small t r);
-        events = writes_down orders t turn e s;
-        tells = orders.tells t turn e s;
+        others = counts_others t.world turn (reached_small t reached);
+        events = writes_down orders t turn e sound;
+        tells = orders.tells t turn e sound;
       }
 
 -- ---- what a kind's family proves of every run
@@ -96,15 +98,15 @@ pub record Keeps (T : Type 0) (kind : Kind) : Type 0 where
 
 module _ {T : Type 0} (laws : (kind : Kind) → Keeps T kind) where
   pub reached_kept : (t : Trace T) → IsReached t → IsKept t
-  reached_kept t r = (laws t.world.kind).kept t refl r
+  reached_kept t reached = (laws t.world.kind).kept t refl reached
 
   reached_turn : (t : Trace T) (turn : Turn T) → refusal_of t.world turn ≡ None → IsReached t → IsTurn t turn (after_turn t turn)
-  reached_turn t turn e r = (laws t.world.kind).turn t turn refl e r
+  reached_turn t turn e reached = (laws t.world.kind).turn t turn refl e reached
 
   pub reached_turns : (t : Trace T) (turns : List (Turn T)) → IsReached t → AreAllowed t turns → AreTurns t turns
-  reached_turns t [] r all = tt
-  reached_turns t (turn ∷ turns) r all =
-      (reached_turn t turn all.0 r, reached_turns (after_turn t turn) turns (reached_more t turn all.0 r) all.1)
+  reached_turns t [] reached all = tt
+  reached_turns t (turn ∷ turns) reached all =
+      (reached_turn t turn all.0 reached, reached_turns (after_turn t turn) turns (reached_more t turn all.0 reached) all.1)
 
   -- the same of a machine that is seen as `now`
   pub step_turn : (inside now new : Trace T) (turn : Turn T) → inside ≡ now → IsReached inside

@@ -58,34 +58,36 @@ module _ {T : Type 0} where
 
     -- a machine that turns have reached, and one turn more that is not refused
     pub reached_by_more : (t : Trace T) (turn : Turn T) → refuses t.world turn ≡ None → IsReachedBy refuses t → IsReachedBy refuses (after_turn t turn)
-    reached_by_more t turn e r =
+    reached_by_more t turn e is_reached_by_holds =
         let making = turn_making t.world turn in
-        let more : after_turn t turn ≡ run_by refuses (r.turns ++ turn ∷ []) (opening t.world.coding t.world.kind t.world.capacity t.world.parties) =
-        leads_on r.turns turn t (opening t.world.coding t.world.kind t.world.capacity t.world.parties) e r.is in
+        let more : after_turn t turn
+        ≡ run_by refuses (is_reached_by_holds.turns ++ turn ∷ [])
+        (opening t.world.coding t.world.kind t.world.capacity t.world.parties) =
+        leads_on is_reached_by_holds.turns turn t (opening t.world.coding t.world.kind t.world.capacity t.world.parties) e is_reached_by_holds.is in
         record {
-          coded = rw making.coding r.coded;
-          admitted = rw (making.kind, making.capacity) r.admitted;
-          turns = r.turns ++ turn ∷ [];
+          coded = rw making.coding is_reached_by_holds.coded;
+          admitted = rw (making.kind, making.capacity) is_reached_by_holds.admitted;
+          turns = is_reached_by_holds.turns ++ turn ∷ [];
           is = rw (making.coding, making.kind, making.capacity, making.parties) more;
         }
 
   -- the same of the machine's own refusals
   pub reached_more : (t : Trace T) (turn : Turn T) → refusal_of t.world turn ≡ None → IsReached t → IsReached (after_turn t turn)
-  reached_more t turn e r =
+  reached_more t turn e reached =
       let making = turn_making t.world turn in
-      let more : after_turn t turn ≡ run (r.turns ++ turn ∷ []) (opened t.world.coding t.world.kind t.world.capacity r.queue t.world.parties) =
-      leads_on refusal_of r.turns turn t (opened t.world.coding t.world.kind t.world.capacity r.queue t.world.parties) e r.is in
+      let more : after_turn t turn ≡ run (reached.turns ++ turn ∷ []) (opened t.world.coding t.world.kind t.world.capacity reached.queue t.world.parties) =
+      leads_on refusal_of reached.turns turn t (opened t.world.coding t.world.kind t.world.capacity reached.queue t.world.parties) e reached.is in
       record {
-        coded = rw making.coding r.coded;
-        admitted = rw (making.kind, making.capacity) r.admitted;
-        queue = r.queue;
-        queued = rw making.kind r.queued;
-        turns = r.turns ++ turn ∷ [];
+        coded = rw making.coding reached.coded;
+        admitted = rw (making.kind, making.capacity) reached.admitted;
+        queue = reached.queue;
+        queued = rw making.kind reached.queued;
+        turns = reached.turns ++ turn ∷ [];
         is = rw (making.coding, making.kind, making.capacity, making.parties) more;
       }
 
   pub reached_on_more : (t : Trace T) (turn : Turn T) → call_refusal t.world turn ≡ None → IsReachedOn t → IsReachedOn (after_turn t turn)
-  reached_on_more t turn e r = reached_by_more call_refusal t turn e r
+  reached_on_more t turn e reached_on = reached_by_more call_refusal t turn e reached_on
 
   -- a machine that has just been opened is reached, by no turn
   pub reached_opening : (code : Coding T) (kind : Kind) (capacity parties : ℕ) → IsCoding code
@@ -115,7 +117,7 @@ module _ {T : Type 0} where
       }
 
   pub reached_is : (t u : Trace T) → t ≡ u → IsReached u → IsReached t
-  reached_is t u e r = subst IsReached (sym e) r
+  reached_is t u e reached = subst IsReached (sym e) reached
 
   -- ---- the turns that were taken
 
@@ -156,7 +158,9 @@ module _ {T : Type 0} where
     run_keeps (turn ∷ turns) t h = run_keeps turns (attempt_by refuses t turn) (attempt_keeps t turn (refuses t.world turn) refl h)
 
     pub kept_by : (t : Trace T) → P (opening t.world.coding t.world.kind t.world.capacity t.world.parties) → IsReachedBy refuses t → P t
-    kept_by t first r = subst P (sym r.is) (run_keeps r.turns (opening t.world.coding t.world.kind t.world.capacity t.world.parties) first)
+    kept_by t first is_reached_by_holds =
+        subst P (sym is_reached_by_holds.is)
+        (run_keeps is_reached_by_holds.turns (opening t.world.coding t.world.kind t.world.capacity t.world.parties) first)
 
   module _ (P : Trace T → Type 0) (keeps : (t : Trace T) (turn : Turn T) → refusal_of t.world turn ≡ None → P t → P (after_turn t turn)) where
     -- what holds when a machine is opened, and is kept by each turn that is taken, holds of every
@@ -165,16 +169,16 @@ module _ {T : Type 0} where
         → ((queue : ℕ) → queue_error t.world.kind queue ≡ None
         → P (opened t.world.coding t.world.kind t.world.capacity queue t.world.parties))
         → IsReached t → P t
-    kept_by_runs t first r =
-        subst P (sym r.is)
-        (run_keeps refusal_of P keeps r.turns (opened t.world.coding t.world.kind t.world.capacity r.queue t.world.parties)
-        (first r.queue r.queued))
+    kept_by_runs t first reached =
+        subst P (sym reached.is)
+        (run_keeps refusal_of P keeps reached.turns (opened t.world.coding t.world.kind t.world.capacity reached.queue t.world.parties)
+        (first reached.queue reached.queued))
 
   -- where neither turns nor parties have a bound
   pub kept_by_runs_on : (P : Trace T → Type 0)
       → ((t : Trace T) (turn : Turn T) → call_refusal t.world turn ≡ None → P t → P (after_turn t turn)) → (t : Trace T)
       → P (opening t.world.coding t.world.kind t.world.capacity t.world.parties) → IsReachedOn t → P t
-  kept_by_runs_on P keeps t first r = kept_by call_refusal P keeps t first r
+  kept_by_runs_on P keeps t first reached_on = kept_by call_refusal P keeps t first reached_on
 
   pub reached_on_opening : (code : Coding T) (kind : Kind) (capacity parties : ℕ) → IsCoding code
       → capacity_error kind capacity ≡ None → IsReachedOn (opening code kind capacity parties)

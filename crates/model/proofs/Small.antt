@@ -40,16 +40,16 @@ module _ {T : Type 0} where
 
   -- after a begin the counts are still no more than the number of turns
   begin_small : (w : World T) (p : ℕ) (start : Start T) (flight : Option (Flight T)) → w.turns < 2 ^ 64 - 2 → IsSmall w → IsSmall (after_begin w p start flight)
-  begin_small w p start None below h = h
-  begin_small w p start (Some flight) below h =
-      let changes = h.changes in
+  begin_small w p start None below small = small
+  begin_small w p start (Some flight) below small =
+      let changes = small.changes in
       let same : w.changes + 0 ≡ w.changes = omega arith in
       let y : Party T = party_at_begin start flight w.changes in
       let here : HasSmallCounts (w.turns + 1) (w.changes + 0) y = record { steps = omega arith; backs = omega arith; doing = omega arith } in
       record {
         turns = omega arith;
         changes = omega arith;
-        latest = subst (λ n. AllSmall (w.turns + 1) n (put p y w.latest)) same (all_put w.turns w.changes 0 p y w.latest here h.latest);
+        latest = subst (λ n. AllSmall (w.turns + 1) n (put p y w.latest)) same (all_put w.turns w.changes 0 p y w.latest here small.latest);
       }
 
   doing_small : (changes since change : ℕ) (after : After (Flight T) (Answer T)) → since ≤ changes
@@ -60,11 +60,11 @@ module _ {T : Type 0} where
   step_small : (w : World T) (p : ℕ) (x : Party T) (since : ℕ) (ask : Option Ask) (s : Step (Flight T) (Registry T) T)
       → w.turns < 2 ^ 64 - 2 → x.steps ≤ w.turns → x.backs ≤ w.turns → since ≤ w.changes → IsSmall w
       → IsSmall (after_step w p x since ask s)
-  step_small w p x since ask s below steps backs begun h =
+  step_small w p x since ask s below steps backs begun small =
       let few = back_small s.back in
       let one = change_small w.words ask in
       let step = steps_small ask in
-      let changes = h.changes in
+      let changes = small.changes in
       let y : Party T = party_after x since w.changes (step_count ask) (change_of w.words ask) s in
       record {
         turns = omega arith;
@@ -72,21 +72,21 @@ module _ {T : Type 0} where
         latest =
             all_put w.turns w.changes (change_of w.words ask) p y w.latest
             (record { steps = omega arith; backs = omega arith; doing = doing_small w.changes since (change_of w.words ask) s.after begun })
-            h.latest;
+            small.latest;
       }
 
   answer_small : (w : World T) (p : ℕ) (x : Party T) (ask : Option Ask) (answer : ℕ) (doing : Doing T)
       → w.turns < 2 ^ 64 - 2 → x.steps ≤ w.turns → x.backs ≤ w.turns → HasSmallCount w.changes doing → IsSmall w
       → IsSmall (after_answer w p x ask answer doing)
-  answer_small w p x ask answer (Over others) below steps backs small h = h
-  answer_small w p x ask answer (Going flight since) below steps backs small h =
-      step_small w p x since ask (step_in w p x flight answer) below steps backs small h
+  answer_small w p x ask answer (Over others) below steps backs small is_small = is_small
+  answer_small w p x ask answer (Going flight since) below steps backs small is_small =
+      step_small w p x since ask (step_in w p x flight answer) below steps backs small is_small
 
   next_small : (w : World T) (p : ℕ) (o : Option (Party T)) → party_of p w.latest ≡ o → w.turns < 2 ^ 64 - 2 → IsSmall w → IsSmall (after_next w p o)
-  next_small w p None e below h = h
-  next_small w p (Some x) e below h =
-      let here = h.latest p x e in
-      answer_small w p x (ask_of_doing w.coding x.doing) (old_of w.words (ask_of_doing w.coding x.doing)) x.doing below here.steps here.backs here.doing h
+  next_small w p None e below small = small
+  next_small w p (Some x) e below small =
+      let here = small.latest p x e in
+      answer_small w p x (ask_of_doing w.coding x.doing) (old_of w.words (ask_of_doing w.coding x.doing)) x.doing below here.steps here.backs here.doing small
 
   decision_small : (w : World T) (p : ℕ) (said : Bool) (o : Option (Party T)) → party_of p w.latest ≡ o
       → w.turns < 2 ^ 64 - 2 → IsSmall w → IsSmall (after_decision w p said o)
@@ -96,13 +96,13 @@ module _ {T : Type 0} where
   death_small = grind (arith, later)
 
   turn_small : (w : World T) (turn : Turn T) → refusal_of w turn ≡ None → IsSmall w → IsSmall (world_after w turn)
-  turn_small w (Begin p start) e h = begin_small w p start (first_of w.kind w.capacity start w.kept) (passes w (Begin p start) e).turns h
-  turn_small w (Next p) e h = next_small w p (party_of p w.latest) refl (passes w (Next p) e).turns h
-  turn_small w (Decide p said) e h = decision_small w p said (party_of p w.latest) refl (passes w (Decide p said) e).turns h
-  turn_small w (Die owner) e h = death_small w owner (passes w (Die owner) e).turns h
+  turn_small w (Begin p start) e small = begin_small w p start (first_of w.kind w.capacity start w.kept) (passes w (Begin p start) e).turns small
+  turn_small w (Next p) e small = next_small w p (party_of p w.latest) refl (passes w (Next p) e).turns small
+  turn_small w (Decide p said) e small = decision_small w p said (party_of p w.latest) refl (passes w (Decide p said) e).turns small
+  turn_small w (Die owner) e small = death_small w owner (passes w (Die owner) e).turns small
 
   pub reached_small : (t : Trace T) → IsReached t → IsSmall t.world
-  reached_small t r =
+  reached_small t reached =
       kept_by_runs (λ t. IsSmall t.world) (λ t turn e h. turn_small t.world turn e h) t
       (λ queue admitted. record { turns = omega arith; changes = omega arith; latest = λ p x found. absurd (cc) })
-      r
+      reached

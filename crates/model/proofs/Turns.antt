@@ -36,8 +36,8 @@ pub kept_words : (words : List ℕ) (at value : ℕ) → get_or (set words at va
 kept_words words at value e = ⊎_elim within past (cases_lt at (length words))
   where
     within : at < length words → set words at value ≡ words
-    within h =
-        let now : value ≡ get_or words at 0 = sym (get_or-set_same words at value 0 h) ∙ e in
+    within at_below =
+        let now : value ≡ get_or words at 0 = sym (get_or-set_same words at value 0 at_below) ∙ e in
         ap (set words at) now ∙ set-get_or words at 0
 
     past : length words ≤ at → set words at value ≡ words
@@ -74,8 +74,8 @@ module _ {T : Type 0} where
   same_but_turns = grind (arith, turn_making)
 
   begin_turns : (w : World T) (p : ℕ) (start : Start T) (o : Option (Flight T)) → is_none o ≡ false → (after_begin w p start o).turns ≡ w.turns + 1
-  begin_turns w p start None e = absurd (cc)
-  begin_turns w p start (Some flight) e = refl
+  begin_turns w p start None is_none_false = absurd (cc)
+  begin_turns w p start (Some flight) is_none_false = refl
 
   answer_turns : (w : World T) (p : ℕ) (x : Party T) (ask : Option Ask) (answer : ℕ) (flight : Flight T) (doing : Doing T)
       → flight_of (Some doing) ≡ Some flight → (after_answer w p x ask answer doing).turns ≡ w.turns + 1
@@ -152,10 +152,10 @@ module _ {T : Type 0} where
           → IfSome (flight_of (Some doing))
           (λ flight. StandsAt (after_answer w p x (ask_of_doing w.coding doing) (old_of w.words (ask_of_doing w.coding doing)) doing)
           p (goes_of w.coding p flight (old_of w.words (ask_of (want_of w.coding flight))) w.kept))
-      go (Over others) e = tt
-      go (Going flight since) e =
+      go (Over others) same_doing = tt
+      go (Going flight since) same_doing =
           let old = old_of w.words (ask_of (want_of w.coding flight)) in
-          goes w p x flight since (ask_of (want_of w.coding flight)) old (tells p x flight since old found e)
+          goes w p x flight since (ask_of (want_of w.coding flight)) old (tells p x flight since old found same_doing)
 
   -- after an answer its call goes on as the table says
   decision_goes : (w : World T) (p : ℕ) (said : Bool) → GoesAsTold w → (o : Option (Party T))
@@ -168,8 +168,8 @@ module _ {T : Type 0} where
       go : (doing : Doing T) → x.doing ≡ doing
           → IfSome (flight_of (Some doing))
           (λ flight. StandsAt (after_answer w p x None (number_of said) doing) p (goes_of w.coding p flight (number_of said) w.kept))
-      go (Over others) e = tt
-      go (Going flight since) e = goes w p x flight since None (number_of said) (tells p x flight since (number_of said) found e)
+      go (Over others) same_doing = tt
+      go (Going flight since) same_doing = goes w p x flight since None (number_of said) (tells p x flight since (number_of said) found same_doing)
 
   begin_goes : (w : World T) (p : ℕ) (start : Start T) (o : Option (Flight T)) → is_none o ≡ false → flight_in (after_begin w p start o) p ≡ o
   begin_goes = grind (arith, party_put_same)
@@ -233,8 +233,9 @@ module _ {T : Type 0} where
           (flight_in (after_answer w p x (ask_of_doing w.coding doing) (old_of w.words (ask_of_doing w.coding doing)) doing) p))
           (progress_in w p)
           (progress_in (after_answer w p x (ask_of_doing w.coding doing) (old_of w.words (ask_of_doing w.coding doing)) doing) p))
-      go (Over others) e = tt
-      go (Going flight since) e = counted w p x flight since (ask_of (want_of w.coding flight)) (old_of w.words (ask_of (want_of w.coding flight))) found e
+      go (Over others) same_doing = tt
+      go (Going flight since) same_doing =
+          counted w p x flight since (ask_of (want_of w.coding flight)) (old_of w.words (ask_of (want_of w.coding flight))) found same_doing
 
   -- an answer counts no step
   decision_counts : (w : World T) (p : ℕ) (said : Bool) (o : Option (Party T)) → party_of p w.latest ≡ o
@@ -248,8 +249,8 @@ module _ {T : Type 0} where
           → IfSome (flight_of (Some doing))
           (λ flight. BothGoOn false (is_none (flight_in (after_answer w p x None (number_of said) doing) p))
           (progress_in w p) (progress_in (after_answer w p x None (number_of said) doing) p))
-      go (Over others) e = tt
-      go (Going flight since) e = counted w p x flight since None (number_of said) found e
+      go (Over others) same_doing = tt
+      go (Going flight since) same_doing = counted w p x flight since None (number_of said) found same_doing
 
   begin_counts : (w : World T) (p : ℕ) (start : Start T) (o : Option (Flight T)) → is_none o ≡ false
       → progress_in (after_begin w p start o) p ≡ Some record { steps = 0; backs = 0; others = 0; finished = false }
@@ -275,8 +276,8 @@ module _ {T : Type 0} where
     where
       go : (doing : Doing T) → x.doing ≡ doing → HasSmallCount old.changes doing
           → BothSee old new (progress_after old.changes (Some x)) (progress_after new.changes (Some x))
-      go (Going flight since) e h =
-          rw e
+      go (Going flight since) same_doing small_count =
+          rw same_doing
           (record {
             steps = refl;
             backs = refl;
@@ -284,7 +285,7 @@ module _ {T : Type 0} where
             same = λ s. ap (λ n. n - since) (tells.same s);
             changed = λ ne. let more = tells.changed ne in omega arith;
           })
-      go (Over others) e h = rw e (record { steps = refl; backs = refl; finished = refl; same = λ s. refl; changed = λ ne. refl })
+      go (Over others) same_doing small_count = rw same_doing (record { steps = refl; backs = refl; finished = refl; same = λ s. refl; changed = λ ne. refl })
 
   seen : (old new : World T) (q : ℕ) (o : Option (Party T)) → party_of q old.latest ≡ o → party_of q new.latest ≡ o
       → Tells old new → IsSmall old → BothSee old new (progress_in old q) (progress_in new q)

@@ -29,29 +29,29 @@ ask_of word op = Some (record { word = word; op = op })
 
 -- a push that acts as it stores its cell
 pub no_early_push : queues.ActsRight IndexQueue fresh (ask_of 4 (ops.Store 5)) (λ q. q ≡ 0) (Acted 0 (Queues (PushIndex 5)) (Truth true)) → ⊥
-no_early_push h = same_is_more 0 h.1
+no_early_push acts_right = same_is_more 0 acts_right.1
 
 -- a pop that acts as it loads its cell
 pub no_early_pop : queues.ActsRight IndexQueue fresh (ask_of 4 ops.Load) (λ q. q ≡ 1) (Acted 1 (Queues Pop) (PoppedIndex 5)) → ⊥
-no_early_pop h = same_is_more 0 h.1
+no_early_pop acts_right = same_is_more 0 acts_right.1
 
 -- a push that acts as another party publishes
 pub no_push_by_another : queues.ActsRight IndexQueue fresh (ask_of 0 (ops.Store 1)) (λ q. q ≡ 1) (Acted 0 (Queues (PushIndex 5)) (Truth true)) → ⊥
-no_push_by_another h = let his = h.0 in absurd (cc)
+no_push_by_another acts_right = let his = acts_right.0 in absurd (cc)
 
 -- an overflowing push that acts with the value that leaves where its exchange fails
 pub no_failed_exchange : queues.ActsRight Overflow fresh (ask_of 1 (ops.Exchange 7 8)) (λ q. q ≡ 0)
     (Acted 0 (Queues (PushIndex 5)) (PoppedIndex 3))
     → ⊥
-no_failed_exchange h = same_is_more 0 h.1
+no_failed_exchange acts_right = same_is_more 0 acts_right.1
 
 -- another call
 pub no_act_of_len : (kind : QueueKind) (t : Trace ℕ) (ask : Option Ask) → queues.ActsRight kind t ask (λ q. q ≡ 0) (Acted 0 (Queues Len) Done) → ⊥
-no_act_of_len kind t ask h = h
+no_act_of_len kind t ask acts_right = acts_right
 
 pub no_act_of_role : (t : Trace ℕ) (ask : Option Ask)
     → values.ActsRight t ask (λ q. q ≡ 0) (Acted 0 (Atomic atomic_starts.AcquireProducer) (Truth true)) → ⊥
-no_act_of_role t ask h = h
+no_act_of_role t ask acts_right = acts_right
 
 -- ---- decisions: an owner holds an index
 
@@ -60,15 +60,15 @@ held = ran one_word kinds.Robust 2 2 (begins 0 (Robust (Acquire 7)) 4 ++ begins 
 
 -- a find that a no does not end
 pub no_deaf_find : FindsUpTo held (Decide 0 false) held → ⊥
-no_deaf_find h = same_is_more 5 (ap length (h 0 7 refl (refl, tt)).ends)
+no_deaf_find finds_up_to_holds = same_is_more 5 (ap length (finds_up_to_holds 0 7 refl (refl, tt)).ends)
 
 abbrev asked : Trace ℕ
 asked = ran one_word kinds.Robust 2 2 (begins 0 (Robust (Acquire 7)) 4 ++ Die 7 ∷ begins 1 (Robust (Recover Default)) 2)
 
 -- a recovery that is told nothing by a yes
 pub no_deaf_recovery : YesTells asked (Decide 1 true) asked → ⊥
-no_deaf_recovery h = same_is_more 7 (ap length (h 1 Default refl (refl, tt)).is)
+no_deaf_recovery yes_tells = same_is_more 7 (ap length (yes_tells 1 Default refl (refl, tt)).is)
 
 -- and one that is told by its next step
 pub no_late_told : ToldRight asked (Next 1) (Told 1 0 7) → ⊥
-no_late_told h = let turn = h.0 in absurd (cc)
+no_late_told told_right = let turn = told_right.0 in absurd (cc)

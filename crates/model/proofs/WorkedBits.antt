@@ -218,16 +218,16 @@ with_events kind words events =
 
 -- a bit that stands and that nobody set, and one that is lost
 stands_unset : IsBitSet (with_events kinds.Bits (0 ∷ 1 ∷ []) []) → ⊥
-stands_unset k = let e = k.conserved 0 in cc
+stands_unset bit_set = let e = bit_set.conserved 0 in cc
 
 bit_lost : IsBitSet (with_events kinds.Bits (0 ∷ 0 ∷ []) (told.Set 0 1 ∷ [])) → ⊥
-bit_lost k = let e = k.conserved 1 in cc
+bit_lost bit_set = let e = bit_set.conserved 1 in cc
 
 set_twice : IsBitSet (with_events kinds.Bits (0 ∷ 2 ∷ []) (told.Set 0 1 ∷ told.Set 1 1 ∷ [])) → ⊥
-set_twice k = let e = k.conserved 1 in cc
+set_twice bit_set = let e = bit_set.conserved 1 in cc
 
 set_past_the_capacity : IsBitSet (with_events kinds.Bits (0 ∷ 4 ∷ []) (told.Set 0 2 ∷ [])) → ⊥
-set_past_the_capacity k = let e = k.within 2 (omega arith) in cc
+set_past_the_capacity bit_set = let e = bit_set.within 2 (omega arith) in cc
 
 -- a bit that was set in none of the events stood at no moment
 never_stood : (p b : ℕ) (events : List (Event ℕ)) → sets b events ≡ 0 → HeldSometime p (λ part. standing b part ≡ 1) events → ⊥
@@ -239,18 +239,18 @@ false_set =
     Begun 0 (Bits (Set 1)) ∷ Finished 0 (Bits (Set 1)) (Truth false) ∷ []
 
 false_without_bit : IsBitSet (with_events kinds.Bits (0 ∷ 0 ∷ []) false_set) → ⊥
-false_without_bit k = never_stood 0 1 (Begun 0 (Bits (Set 1)) ∷ []) refl (k.answers (Begun 0 (Bits (Set 1)) ∷ []) [] _ refl)
+false_without_bit bit_set = never_stood 0 1 (Begun 0 (Bits (Set 1)) ∷ []) refl (bit_set.answers (Begun 0 (Bits (Set 1)) ∷ []) [] _ refl)
 
 -- a set that answers true and sets nothing, or the bit beside its own
 true_without_event : BitsWrote {T = ℕ} 2 (Bits (Set 1)) (Truth true) [] → ⊥
-true_without_event w = let e = w.0 in cc
+true_without_event bits_wrote = let e = bits_wrote.0 in cc
 
 other_bit : BitsWrote {T = ℕ} 2 (Bits (Set 1)) (Truth true) (told.Set 0 0 ∷ []) → ⊥
-other_bit w = let e = w.1 in cc
+other_bit bits_wrote = let e = bits_wrote.1 in cc
 
 -- a reset of the next bit that answers another one than it has cleared
 other_answer : BitsWrote {T = ℕ} 2 (Bits ResetNext) (Reset 1) (Cleared 0 0 ∷ []) → ⊥
-other_answer w = let e = w.1 in cc
+other_answer bits_wrote = let e = bits_wrote.1 in cc
 
 -- a reset of the next bit that answers the second of two that stand, though the position is the first
 abbrev skipping : List (Event ℕ)
@@ -263,12 +263,12 @@ Leave [] = Unit {0}
 Leave (e ∷ es) = ((n : ℕ) → position_after n e ≡ n) × Leave es
 
 leave_part : (xs ys : List (Event ℕ)) → Leave (xs ++ ys) → Leave xs
-leave_part [] ys h = tt
-leave_part (x ∷ xs) ys h = (h.0, leave_part xs ys h.1)
+leave_part [] ys leave = tt
+leave_part (x ∷ xs) ys leave = (leave.0, leave_part xs ys leave.1)
 
 left_there : (n : ℕ) (xs : List (Event ℕ)) → Leave xs → fold position_after n xs ≡ n
-left_there n [] h = refl
-left_there n (x ∷ xs) h = left_there (position_after n x) xs h.1 ∙ h.0 n
+left_there n [] leave = refl
+left_there n (x ∷ xs) leave = left_there (position_after n x) xs leave.1 ∙ leave.0 n
 
 first_stood : (part rest : List (Event ℕ)) → skipping ≡ part ++ rest → BeginsNone 0 rest → standing 0 part ≡ 0 → ⊥
 first_stood [] rest is within clear = let none = subst (BeginsNone 0) (sym is) within in absurd (none.0 refl)
@@ -314,10 +314,10 @@ left_standing cleared = let e = cleared 1 (omega arith) refl in absurd (omega ar
 
 -- a count that nobody counted, and one of which too much was taken out
 counts_uncounted : IsCountingSet (with_events kinds.Counts (1 ∷ 0 ∷ []) []) → ⊥
-counts_uncounted k = let e = k.conserved 0 in cc
+counts_uncounted counting_set = let e = counting_set.conserved 0 in cc
 
 taken_too_much : IsCountingSet (with_events kinds.Counts (0 ∷ 0 ∷ []) (Counted 0 1 ∷ TakenOut 1 1 2 ∷ [])) → ⊥
-taken_too_much k = let e = k.conserved 1 in cc
+taken_too_much counting_set = let e = counting_set.conserved 1 in cc
 
 -- a set that answers the count after it
 abbrev late_count : List (Event ℕ)
@@ -325,10 +325,10 @@ late_count =
     Begun 0 (Bits (Set 1)) ∷ Counted 0 1 ∷ Finished 0 (Bits (Set 1)) (Number 1) ∷ []
 
 count_after : IsCountingSet (with_events kinds.Counts (0 ∷ 1 ∷ []) late_count) → ⊥
-count_after k = go right.before right.is right.count
+count_after counting_set = go right.before right.is right.count
   where
     right : AnswersCount {T = ℕ} 0 1 1 (Begun 0 (Bits (Set 1)) ∷ Counted 0 1 ∷ [])
-    right = k.answers (Begun 0 (Bits (Set 1)) ∷ Counted 0 1 ∷ []) [] _ refl
+    right = counting_set.answers (Begun 0 (Bits (Set 1)) ∷ Counted 0 1 ∷ []) [] _ refl
 
     go : (before : List (Event ℕ)) → Begun 0 (Bits (Set 1)) ∷ Counted 0 1 ∷ [] ≡ before ++ Counted 0 1 ∷ [] → 1 ≡ count_at 1 before → ⊥
     go [] is e = cc

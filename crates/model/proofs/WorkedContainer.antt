@@ -317,25 +317,25 @@ same_is_more n e = absurd (omega arith)
 
 -- a find that a no does not end
 pub no_deaf_find : FindsUpTo (ran_on 1 question) (Decide 1 false) (ran_on 1 question) → ⊥
-no_deaf_find h = same_is_more 7 (ap length (h 1 1 refl (refl, tt)).ends)
+no_deaf_find finds_up_to_holds = same_is_more 7 (ap length (finds_up_to_holds 1 1 refl (refl, tt)).ends)
 
 abbrev copying : Trace ℕ
 copying = ran_on 1 (begins 0 (add 5 1) 9 ++ begins 1 (find 1) 4)
 
 -- one that copies a value and does not ask about it
 pub no_silent_find : WritesRight copying (Next 1) copying (Copied 1 0 5) → ⊥
-no_silent_find h = let asks = h.1 in absurd (cc)
+no_silent_find writes_right = let asks = writes_right.1 in absurd (cc)
 
 abbrev asking : Trace ℕ
 asking = ran_on 1 (begins 0 (add 5 1) 9 ++ Die 1 ∷ begins 1 (recover 1) 6)
 
 -- a recovery that is told nothing by a yes
 pub no_deaf_recovery : YesTells asking (Decide 1 true) asking → ⊥
-no_deaf_recovery h = same_is_more 9 (ap length (h 1 1 Default refl (refl, tt)).is)
+no_deaf_recovery yes_tells = same_is_more 9 (ap length (yes_tells 1 1 Default refl (refl, tt)).is)
 
 -- and one that is told by its next step
 pub no_late_told : WritesRight asking (Next 1) asking (Told 1 0 1) → ⊥
-no_late_told h = absurd (cc)
+no_late_told writes_right = absurd (cc)
 
 -- ---- refusals, and what is none
 

@@ -153,11 +153,11 @@ held = Claimed 0 1 ∷ []
 
 -- an index that is claimed twice
 no_second_holder : HoldsRight 2 held (Claimed 1 1) → ⊥
-no_second_holder h = let held = h.1 in cc
+no_second_holder holds_right = let held = holds_right.1 in cc
 
 -- a lock while an index is held
 no_lock_over_a_holder : HoldsRight 2 held (Locked 1) → ⊥
-no_lock_over_a_holder h = let free = h.0 1 in cc
+no_lock_over_a_holder holds_right = let free = holds_right.0 1 in cc
 
 -- OutOfIndices of a set that nobody uses
 no_empty_set : AnswersRight 1 (Begun 0 acquire ∷ []) (Finished 0 acquire (NoIndex failures.OutOfIndices)) → ⊥
@@ -179,8 +179,8 @@ claimed_in (Some d) = get_or d.claimed 0 0
 
 -- a release that ends and has freed nothing
 no_silent_release : Stands (promise_of kinds.Indices) 1 (Finished 0 (release 0) (State states.Unlocked)) (Open (release 0) []) → ⊥
-no_silent_release h = let none = ap freed_in h.1 in cc
+no_silent_release stands = let none = ap freed_in stands.1 in cc
 
 -- an acquire that ends with an index and has claimed another
 no_other_index : Stands (promise_of kinds.Indices) 2 (Finished 0 acquire (Index 0)) (Open acquire (Claimed 0 1 ∷ [])) → ⊥
-no_other_index h = let other = ap claimed_in h.1 in omega arith
+no_other_index stands = let other = ap claimed_in stands.1 in omega arith

@@ -110,7 +110,7 @@ abbrev popped : Call ℕ
 popped = called 2 1 pop (responded 3 PoppedNone)
 
 apart : pushed ≡ popped → ⊥
-apart e = unequal 0 2 (omega arith) (ap (λ (c : Call ℕ). c.place) e)
+apart pushed_is_popped = unequal 0 2 (omega arith) (ap (λ (c : Call ℕ). c.place) pushed_is_popped)
 
 abbrev Legal : List (Call ℕ × Answer ℕ) → Type 0
 Legal xs = IsLegal (bounded_list 1) (map (λ x. (x.0.start, x.1)) xs)
@@ -154,8 +154,8 @@ refuted (x ∷ y ∷ z ∷ rest) legal invoked first second once real_time =
     (once 0 1 x (omega arith) (omega arith)) (once 0 2 x (omega arith) (omega arith)) (once 1 2 x (omega arith) (omega arith))
 
 pub no_lost_value : IsLinearizable (as_list kinds.IndexQueue 1) too_late → ⊥
-no_lost_value h =
-    refuted h.sequential h.legal h.invoked
-    (h.completed 0 pushed (omega arith) refl)
-    (h.completed 1 popped (omega arith) refl)
-    h.once h.real_time
+no_lost_value linearizable =
+    refuted linearizable.sequential linearizable.legal linearizable.invoked
+    (linearizable.completed 0 pushed (omega arith) refl)
+    (linearizable.completed 1 popped (omega arith) refl)
+    linearizable.once linearizable.real_time

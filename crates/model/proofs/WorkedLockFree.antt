@@ -38,32 +38,32 @@ are_below n [] = true
 are_below n (turn ∷ turns) = is_below n turn && are_below n turns
 
 may_is : (o : Option Refusal) → may o ≡ true → o ≡ None
-may_is None e = refl
-may_is (Some refusal) e = absurd (cc)
+may_is None may_true = refl
+may_is (Some refusal) may_true = absurd (cc)
 
 both : (a b : Bool) → (a && b) ≡ true → (a ≡ true) × (b ≡ true)
 both true b e = (refl, e)
 both false b e = absurd (cc)
 
 pub all_allowed : (t : Trace ℕ) (turns : List (Turn ℕ)) → are_taken t turns ≡ true → AreAllowedOn t turns
-all_allowed t [] e = tt
-all_allowed t (turn ∷ turns) e =
-    let here = both (may (call_refusal t.world turn)) (are_taken (after_turn t turn) turns) e in
+all_allowed t [] are_taken_true = tt
+all_allowed t (turn ∷ turns) are_taken_true =
+    let here = both (may (call_refusal t.world turn)) (are_taken (after_turn t turn) turns) are_taken_true in
     (may_is (call_refusal t.world turn) here.0, all_allowed (after_turn t turn) turns here.1)
 
 low : (p n : ℕ) → nat_lt p n ≡ true → p < n
 low = grind (arith, nat_tests)
 
 one_below : (n : ℕ) (turn : Turn ℕ) → is_below n turn ≡ true → IsBelow n turn
-one_below n (Begin p start) e = low p n e
-one_below n (Next p) e = low p n e
-one_below n (Decide p said) e = low p n e
-one_below n (Die owner) e = tt
+one_below n (Begin p start) is_below_true = low p n is_below_true
+one_below n (Next p) is_below_true = low p n is_below_true
+one_below n (Decide p said) is_below_true = low p n is_below_true
+one_below n (Die owner) is_below_true = tt
 
 pub all_below : (n : ℕ) (turns : List (Turn ℕ)) → are_below n turns ≡ true → AllByRecursion (IsBelow n) turns
-all_below n [] e = tt
-all_below n (turn ∷ turns) e =
-    let here = both (is_below n turn) (are_below n turns) e in
+all_below n [] are_below_true = tt
+all_below n (turn ∷ turns) are_below_true =
+    let here = both (is_below n turn) (are_below n turns) are_below_true in
     (one_below n turn here.0, all_below n turns here.1)
 
 -- ---- so many steps without an end leave no bound that is less
@@ -88,10 +88,10 @@ record IsEndless (t : Trace ℕ) (kind : Kind) (c n steps ended : ℕ) (turns : 
 
 no_less : (t : Trace ℕ) (kind : Kind) (c n steps ended : ℕ) (turns : List (Turn ℕ)) → IsEndless t kind c n steps ended turns
     → (bound : Bound) → bound n c 1 < steps → IsLockFree ℕ kind bound → ⊥
-no_less t kind c n steps ended turns h bound few free =
-    none_more (ends t.events) (ends (after_turns t turns).events) ended h.before h.after
-    (free t h.is h.reached n turns (all_allowed t turns h.taken) (all_below n turns h.below)
-    (more_steps (bound n t.world.capacity t.world.coding.size) (steps_in t turns) steps h.many (rw (h.capacity, h.size) few)))
+no_less t kind c n steps ended turns endless bound few free =
+    none_more (ends t.events) (ends (after_turns t turns).events) ended endless.before endless.after
+    (free t endless.is endless.reached n turns (all_allowed t turns endless.taken) (all_below n turns endless.below)
+    (more_steps (bound n t.world.capacity t.world.coding.size) (steps_in t turns) steps endless.many (rw (endless.capacity, endless.size) few)))
 
 abbrev pub from : Kind → ℕ → ℕ → List (Turn ℕ) → Trace ℕ
 from kind capacity parties before = run_on before (opening one_word kind capacity parties)

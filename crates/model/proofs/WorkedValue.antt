@@ -59,11 +59,11 @@ stands = refl
 
 -- the half of one value and the half of another
 no_torn_load : IsLegal (value_of_zeros two_words) ((Atomic (Store first), Truth true) ∷ (Atomic Load, Loaded 2) ∷ []) → ⊥
-no_torn_load e = cc
+no_torn_load legal = cc
 
 -- a load that ends and has not acted
 no_silent_load : Stands (promise_of kinds.Atomic) 1 (Finished 1 (Atomic Load) (Loaded second)) (Open (Atomic Load) []) → ⊥
-no_silent_load h = let none = h.1 in cc
+no_silent_load stands_holds = let none = stands_holds.1 in cc
 
 -- a store that acts as it stores a word, and a load that acts as it loads one
 abbrev word_of : Option Ask → ℕ
@@ -76,14 +76,14 @@ not_first n some e = absurd (omega arith)
 pub no_early_store : (t : Trace ℕ)
     → ActsRight t (Some (record { word = 4; op = ops.Store 1 })) (λ q. q ≡ 0) (Acted 0 (Atomic (Store first)) (Truth true))
     → ⊥
-no_early_store t h = not_first 4 (omega arith) (ap word_of h.1)
+no_early_store t acts_right = not_first 4 (omega arith) (ap word_of acts_right.1)
 
 pub no_unchecked_load : (t : Trace ℕ) → ActsRight t (Some (record { word = 3; op = ops.Load })) (λ q. q ≡ 1) (Acted 1 (Atomic Load) (Loaded 0)) → ⊥
-no_unchecked_load t h = not_first 3 (omega arith) (ap word_of h.1)
+no_unchecked_load t acts_right = not_first 3 (omega arith) (ap word_of acts_right.1)
 
 -- a store has stored its words, and the events say that it has acted
 abbrev stored : Trace ℕ
 stored = ran two_words kinds.Atomic 1 2 (begins 0 (Atomic AcquireProducer) 1 ++ begins 0 (Atomic (Store first)) 3)
 
 pub no_act_before_the_add : IsValue (record { world = stored.world; events = stored.events ++ Acted 0 (Atomic (Store first)) (Truth true) ∷ [] }) → ⊥
-no_act_before_the_add h = let cell = h.cell in cc
+no_act_before_the_add value = let cell = value.cell in cc

@@ -37,7 +37,7 @@ module _ {T : Type 0} where
   pending (suc n) w = pending n w + one_if (is_some (flight_in w n))
 
 -- The steps that so many calls take at most: before each end at most the bound, and the one that ends it.
-abbrev pub load : ℕ → ℕ → ℕ
+abbrev pub load : (bound calls : ℕ) → ℕ
 load bound calls = calls * (bound + 1)
 
 -- Wherever turns have led, and whatever turns n parties take from there: all their steps together are at most the load of

@@ -66,7 +66,7 @@ IsLockFree T kind bound =
     → ends t.events < ends (after_turns t turns).events
 
 -- where k calls more have ended, at most k + 1 times the bound and k steps were taken
-abbrev pub AreWithinEnds : ℕ → ℕ → ℕ → ℕ → Type 0
+abbrev pub AreWithinEnds : ℕ → ℕ → (before after : ℕ) → Type 0
 AreWithinEnds bound steps before after = steps + before * (bound + 1) ≤ bound + after * (bound + 1)
 
 -- It goes on so: from there calls end as often as the steps have that bound.
@@ -108,7 +108,7 @@ HasLockFreeRuns T kind bound =
 
 -- Of n parties whose calls each take at most so many steps before their last one, while no other call does what adds to
 -- them, and make at most so many changes of a word that can add to those of the others.
-abbrev pub stretch : ℕ → ℕ → ℕ → ℕ
+abbrev pub stretch : (n changes alone : ℕ) → ℕ
 stretch n changes alone = n * changes * ((n - 1) * alone) + n * alone
 
 -- The bound of a kind, where there is one. With no change that costs another party a step it is n times one number.

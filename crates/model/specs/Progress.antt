@@ -46,16 +46,16 @@ module _ {T : Type 0} where
   -- ---- what they say of a call, at this capacity, where a value has so many words
 
   -- at most so many steps, whatever the other parties do: its retries do not count
-  abbrev pub IsWaitFree : Promise T → ℕ → ℕ → Start T → ℕ → Type 0
+  abbrev pub IsWaitFree : Promise T → (capacity size : ℕ) → Start T → ℕ → Type 0
   IsWaitFree promise capacity size start most =
       (backs : ℕ) → promise.most_steps capacity size start backs ≤ most
 
   -- at most so many steps alone, and so many more for each retry
-  abbrev pub IsObstructionFree : Promise T → ℕ → ℕ → Start T → ℕ → ℕ → Type 0
+  abbrev pub IsObstructionFree : Promise T → (capacity size : ℕ) → Start T → (alone retry : ℕ) → Type 0
   IsObstructionFree promise capacity size start alone retry =
       (backs : ℕ) → promise.most_steps capacity size start backs ≤ alone + backs * retry
 
-  abbrev pub IsGuaranteed : Promise T → ℕ → ℕ → Start T → Guarantee → Type 0
+  abbrev pub IsGuaranteed : Promise T → (capacity size : ℕ) → Start T → Guarantee → Type 0
   IsGuaranteed promise capacity size start (WaitFree most) =
       IsWaitFree promise capacity size start most
   IsGuaranteed promise capacity size start (ObstructionFree alone retry) =
@@ -146,7 +146,7 @@ of_loan slots (loans.GiveBack index) = WaitFree 4
 of_loan slots loans.Reclaim = ObstructionFree (8 * (slots + 1) + 5 * slots) 2
 
 module _ {T : Type 0} where
-  abbrev pub of_container : ℕ → ℕ → ContainerStart T → Guarantee
+  abbrev pub of_container : (capacity size : ℕ) → ContainerStart T → Guarantee
   of_container capacity size (containers.Add value owner) =
       ObstructionFree (capacity + 7 + size) (capacity + 1)
   of_container capacity size (containers.Remove index owner Default) = ObstructionFree 6 1
@@ -191,7 +191,7 @@ module _ {T : Type 0} where
   in_robust capacity (starts.Robust start) = of_robust capacity start
   in_robust capacity other = WaitFree 0
 
-  abbrev pub in_container : ℕ → ℕ → Start T → Guarantee
+  abbrev pub in_container : (capacity size : ℕ) → Start T → Guarantee
   in_container capacity size (starts.Container start) = of_container capacity size start
   in_container capacity size other = WaitFree 0
 
@@ -200,7 +200,7 @@ module _ {T : Type 0} where
   in_loan slots other = WaitFree 0
 
   -- the guarantee of a kind's call, at this capacity, where a value has so many words
-  abbrev pub guarantee_of : Kind → ℕ → ℕ → Start T → Guarantee
+  abbrev pub guarantee_of : Kind → (capacity size : ℕ) → Start T → Guarantee
   guarantee_of IndexQueue capacity size start = in_queue size queue_kinds.IndexQueue start
   guarantee_of Overflow capacity size start = in_queue size queue_kinds.Overflow start
   guarantee_of Queue capacity size start = in_queue size queue_kinds.Queue start

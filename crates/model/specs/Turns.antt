@@ -82,7 +82,7 @@ module _ {T : Type 0} where
   -- ---- a call goes on
 
   -- where the call stands then
-  abbrev pub doing_after : ℕ → ℕ → After (Flight T) (Answer T) → Doing T
+  abbrev pub doing_after : (changes since : ℕ) → After (Flight T) (Answer T) → Doing T
   doing_after changes since (GoOn flight) = Going flight since
   doing_after changes since (Done answer) = Over (changes - since)
 
@@ -189,7 +189,7 @@ module _ {T : Type 0} where
   after_turns t [] = t
   after_turns t (turn ∷ turns) = after_turns (after_turn t turn) turns
 
-  abbrev pub unless_refused : Trace T → Trace T → Option Refusal → Trace T
+  abbrev pub unless_refused : (old new : Trace T) → Option Refusal → Trace T
   unless_refused old new None = new
   unless_refused old new (Some refusal) = old
 

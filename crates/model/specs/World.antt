@@ -72,7 +72,7 @@ queue_error Loan queue = capacity_refusal 1 (2 ^ 32 - 1) queue
 queue_error kind queue = None
 
 -- the refusal of both: a number above its greatest comes before one below its least
-abbrev pub loan_error : ℕ → ℕ → Option UniqueIndexCreationError
+abbrev pub loan_error : (slots queue : ℕ) → Option UniqueIndexCreationError
 loan_error slots queue =
     if nat_lt (2 ^ 24 - 2) slots || nat_lt (2 ^ 32 - 1) queue
     then Some ProvidedCapacityGreaterThanMaxCapacity
@@ -90,7 +90,7 @@ IsCreationError shape e =
     (shape_error shape ≡ Some e) ⊎ (shape_error shape ≡ None) × (e ≡ NoMemory)
 
 -- the words at the opening, by the number of words of a value, the capacity and the second number
-abbrev pub words_opened : Kind → ℕ → ℕ → ℕ → List ℕ
+abbrev pub words_opened : Kind → (size capacity queue : ℕ) → List ℕ
 words_opened Loan size capacity queue = opening_words capacity queue
 words_opened kind size capacity queue = (opening_of kind).words size capacity
 
@@ -122,7 +122,7 @@ module _ {T : Type 0} where
   abbrev pub world_in : Coding T → State T → World T
   world_in code s = (trace_in code s).world
 
-  abbrev pub opening : Coding T → Kind → ℕ → ℕ → Trace T
+  abbrev pub opening : Coding T → Kind → (capacity parties : ℕ) → Trace T
   opening code kind capacity parties =
       record {
         world =
@@ -141,7 +141,7 @@ module _ {T : Type 0} where
       }
 
   -- the same with a second number, which only a loan channel has
-  abbrev pub opened : Coding T → Kind → ℕ → ℕ → ℕ → Trace T
+  abbrev pub opened : Coding T → Kind → (capacity queue parties : ℕ) → Trace T
   opened code kind capacity queue parties =
       record {
         world =

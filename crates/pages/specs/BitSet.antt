@@ -31,29 +31,29 @@ first ResetNext = NextLoadsPosition
 first ResetAll = AllSwapsElement 1 []
 
 -- each element has the bits of 64 places
-abbrev pub stands : ℕ → ℕ → Bool
+abbrev pub stands : (element place : ℕ) → Bool
 stands element place = not (bit_and element (2 ^ (place % 64)) == 0)
 
-abbrev pub set_tests : ℕ → ℕ → After Stage Answer
+abbrev pub set_tests : (place element : ℕ) → After Stage Answer
 set_tests place element =
     if stands element place then Done (WasSet false) else GoOn (SetExchangesElement place element)
 
 -- after the last place comes 0
-abbrev pub place_after : ℕ → ℕ → ℕ → ℕ
+abbrev pub place_after : (capacity start passed : ℕ) → ℕ
 place_after capacity start passed =
     if nat_lt (start + passed) capacity then start + passed else start + passed - capacity
 
-abbrev pub next_comes_to : ℕ → ℕ → ℕ → After Stage Answer
+abbrev pub next_comes_to : (capacity start passed : ℕ) → After Stage Answer
 next_comes_to capacity start passed =
     if nat_lt passed capacity then GoOn (NextLoadsElement start passed) else Done (WasReset None)
 
-abbrev pub next_tests : ℕ → ℕ → ℕ → ℕ → After Stage Answer
+abbrev pub next_tests : (capacity start passed element : ℕ) → After Stage Answer
 next_tests capacity start passed element =
     if stands element (place_after capacity start passed)
     then GoOn (NextExchangesElement start passed element)
     else next_comes_to capacity start (passed + 1)
 
-abbrev pub all_goes_on : ℕ → ℕ → List ℕ → After Stage Answer
+abbrev pub all_goes_on : (capacity word : ℕ) → List ℕ → After Stage Answer
 all_goes_on capacity word places =
     if nat_lt (word + 1) (1 + (capacity + 63) / 64)
     then GoOn (AllSwapsElement (word + 1) places)
@@ -82,7 +82,7 @@ does c (AllSwapsElement word places) = (
   λ old. all_goes_on c word (places ++ filter (λ place. stands old place) (range_with_len ((word - 1) * 64) 64)),
 )
 
-abbrev pub may : ℕ → ℕ → Call → Bool
+abbrev pub may : (capacity p : ℕ) → Call → Bool
 may capacity p (Set place) = nat_lt place capacity
 may capacity p call = true
 

@@ -52,11 +52,11 @@ abbrev pub nexting : ℕ → ResetNextStage → BitsFlight
 nexting c stage = flights.ResetNext (record { call = at_reset (first_reset c) stage; given = tt; room = tt })
 
 -- a reset of all has found this in the element that it swapped last
-abbrev pub emptying : ℕ → ℕ → ℕ → BitsFlight
+abbrev pub emptying : (c found word : ℕ) → BitsFlight
 emptying c found word =
     flights.ResetAll (record { call = record { word = word; end = 1 + elements c }; given = tt; room = record { 0 = found } })
 
-abbrev pub flight : ℕ → ℕ → page.Stage → BitsFlight
+abbrev pub flight : (c found : ℕ) → page.Stage → BitsFlight
 flight c found (page.SetLoadsElement place) = setting place sets.LoadsElement
 flight c found (page.SetExchangesElement place element) = setting place (sets.ExchangesElement element)
 flight c found page.NextLoadsPosition = nexting c resets.LoadsPosition
@@ -71,7 +71,7 @@ answered (page.WasSet new) = answers.Truth new
 answered (page.WasReset place) = reset_answer place
 answered (page.WereReset places) = answers.Done
 
-abbrev pub went : ℕ → ℕ → (machine.After page.Stage page.Answer) → After BitsFlight (Answer ℕ)
+abbrev pub went : (c found : ℕ) → (machine.After page.Stage page.Answer) → After BitsFlight (Answer ℕ)
 went c found (machine.GoOn stage) = GoOn (flight c found stage)
 went c found (machine.Done answer) = Done (answered answer)
 

@@ -21,7 +21,7 @@ abbrev pub first : Call → Stage
 first (Set place) = SetAdds place
 first ResetAll = AllSwaps 0 []
 
-abbrev pub all_goes_on : ℕ → ℕ → List (ℕ × ℕ) → After Stage Answer
+abbrev pub all_goes_on : (capacity place : ℕ) → List (ℕ × ℕ) → After Stage Answer
 all_goes_on capacity place counts =
     if nat_lt (place + 1) capacity then GoOn (AllSwaps (place + 1) counts) else Done (WereReset counts)
 
@@ -31,7 +31,7 @@ does c (SetAdds place) = (place, Add 1, λ old. Done (Counted old))
 does c (AllSwaps place counts) =
     (place, Swap 0, λ old. all_goes_on c place (if old == 0 then counts else counts ++ (place, old) ∷ []))
 
-abbrev pub may : ℕ → ℕ → Call → Bool
+abbrev pub may : (capacity p : ℕ) → Call → Bool
 may capacity p (Set place) = nat_lt place capacity
 may capacity p ResetAll = true
 

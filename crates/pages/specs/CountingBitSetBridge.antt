@@ -42,11 +42,11 @@ abbrev pub counting : ℕ → BitsFlight
 counting place = flights.Count (record { call = add_one; given = place; room = tt })
 
 -- a reset of all has found this in the word that it swapped last
-abbrev pub emptying : ℕ → ℕ → ℕ → BitsFlight
+abbrev pub emptying : (c found place : ℕ) → BitsFlight
 emptying c found place =
     flights.TakeAll (record { call = record { word = place; end = c }; given = tt; room = record { 0 = found } })
 
-abbrev pub flight : ℕ → ℕ → page.Stage → BitsFlight
+abbrev pub flight : (c found : ℕ) → page.Stage → BitsFlight
 flight c found (page.SetAdds place) = counting place
 flight c found (page.AllSwaps place counts) = emptying c found place
 
@@ -55,7 +55,7 @@ abbrev pub answered : page.Answer → Answer ℕ
 answered (page.Counted before) = answers.Number before
 answered (page.WereReset counts) = answers.Done
 
-abbrev pub went : ℕ → ℕ → (machine.After page.Stage page.Answer) → After BitsFlight (Answer ℕ)
+abbrev pub went : (c found : ℕ) → (machine.After page.Stage page.Answer) → After BitsFlight (Answer ℕ)
 went c found (machine.GoOn stage) = GoOn (flight c found stage)
 went c found (machine.Done answer) = Done (answered answer)
 
@@ -72,7 +72,7 @@ CountingDoesAsTheCode =
     × ((old : ℕ) → after (flight c found stage) old ≡ went c old ((page.does c stage).2 old))
 
 -- the place that was swapped, with what it counted, unless that is 0
-abbrev pub counts_in : ℕ → ℕ → List (ℕ × ℕ)
+abbrev pub counts_in : (place old : ℕ) → List (ℕ × ℕ)
 counts_in place old = if old == 0 then [] else (place, old) ∷ []
 
 -- a reset of all hands out the place that it has swapped, with its count, as the machine's events say

@@ -42,11 +42,11 @@ abbrev pub queue_start : page.Call → QueueStart ℕ
 queue_start (page.Push value) = starts.PushIndex value
 queue_start page.Pop = starts.Pop
 
-abbrev pub pushing : ℕ → ℕ → PushStage → QueueFlight ℕ
+abbrev pub pushing : (capacity value : ℕ) → PushStage → QueueFlight ℕ
 pushing capacity value stage =
     Indices (rings.Push (record { call = record { capacity = capacity; stage = stage; of = record {} }; given = value; room = tt }))
 
-abbrev pub popping : ℕ → ℕ → PopStage → QueueFlight ℕ
+abbrev pub popping : (capacity value : ℕ) → PopStage → QueueFlight ℕ
 popping capacity value stage =
     Indices (rings.Pop (record { call = record { capacity = capacity; stage = stage; of = record {} }; given = tt; room = record { 0 = value } }))
 

@@ -39,17 +39,17 @@ abbrev pub queue_start : page.Call → QueueStart ℕ
 queue_start (page.Push value) = starts.PushIndex value
 queue_start page.Pop = starts.Pop
 
-abbrev pub pushing : ℕ → ℕ → PushStage → QueueFlight ℕ
+abbrev pub pushing : (capacity value : ℕ) → PushStage → QueueFlight ℕ
 pushing capacity value stage =
     Overflow (overflows.Push (record { call = record { capacity = capacity; stage = stage }; given = value; room = record { 0 = 0 } }))
 
 -- a pop has read this value last, or none yet
-abbrev pub popping : ℕ → ℕ → PopStage → QueueFlight ℕ
+abbrev pub popping : (capacity value : ℕ) → PopStage → QueueFlight ℕ
 popping capacity value stage =
     Overflow (overflows.Pop (record { call = record { capacity = capacity; stage = stage }; given = tt; room = record { 0 = value } }))
 
 -- the page does not name what a pop read before it went back
-abbrev pub flight : ℕ → ℕ → page.Stage → QueueFlight ℕ
+abbrev pub flight : (c before : ℕ) → page.Stage → QueueFlight ℕ
 flight c before (page.PushLoadsWrite value) = pushing c value pushes.LoadsWrite
 flight c before (page.PushLoadsRead value write) = pushing c value (pushes.LoadsRead write)
 flight c before (page.PushStoresCell value write read) = pushing c value (pushes.StoresCell write read)
@@ -65,7 +65,7 @@ abbrev pub answered : Option ℕ → Answer ℕ
 answered None = PoppedNone
 answered (Some value) = PoppedIndex value
 
-abbrev pub went : ℕ → ℕ → (machine.After page.Stage (Option ℕ)) → After (QueueFlight ℕ) (Answer ℕ)
+abbrev pub went : (c before : ℕ) → (machine.After page.Stage (Option ℕ)) → After (QueueFlight ℕ) (Answer ℕ)
 went c before (machine.GoOn stage) = GoOn (flight c before stage)
 went c before (machine.Done answer) = Done (answered answer)
 

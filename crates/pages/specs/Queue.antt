@@ -41,15 +41,15 @@ module _ {T : Type 0} (how : Written T) (capacity : ℕ) where
   first (Push value) = PushLoadsWrite value
   first Pop = PopLoadsRead
 
-  abbrev pub is_full : ℕ → ℕ → Bool
+  abbrev pub is_full : (write read : ℕ) → Bool
   is_full write read = capacity == 0 || (write + 2 ^ 64 - read) % 2 ^ 64 == capacity
 
   -- where a word of the position's cell stands
-  abbrev pub at : ℕ → ℕ → ℕ
+  abbrev pub at : (position word : ℕ) → ℕ
   at position word = 4 + how.size * (position % capacity) + word
 
   -- a value goes into its cell, and comes out of it, word by word
-  abbrev pub stores : T → ℕ → ℕ → Stage T
+  abbrev pub stores : T → (write word : ℕ) → Stage T
   stores value write word = if nat_lt word how.size then PushStoresCell value write word else PushStoresWrite value write
 
   abbrev pub loads : ℕ → List ℕ → Stage T

@@ -33,13 +33,13 @@ first (Release index may_lock) = ReleaseClearsFlag index may_lock
 
 -- the head, from its highest bit on: 24 bits for the index that is proposed, 16 for a count of exchanges, which wraps, and 24
 -- for the number of indices that are not free. The greatest such number says that the set is locked.
-abbrev pub head_of : ℕ → ℕ → ℕ → ℕ
+abbrev pub head_of : (head index borrowed : ℕ) → ℕ
 head_of head index borrowed = index % 2 ^ 24 * 2 ^ 40 + (head / 2 ^ 24 % 2 ^ 16 + 1) % 2 ^ 16 * 2 ^ 24 + borrowed % 2 ^ 24
 
-abbrev pub has_flag : ℕ → ℕ → Bool
+abbrev pub has_flag : (word index : ℕ) → Bool
 has_flag word index = not (bit_and word (2 ^ (index % 64)) == 0)
 
-abbrev pub sees : ℕ → ℕ → After Stage Answer
+abbrev pub sees : (c head : ℕ) → After Stage Answer
 sees c head =
     if head % 2 ^ 24 == 2 ^ 24 - 1
     then Done IsLocked

@@ -49,7 +49,7 @@ index_start (page.Release index may_lock) = starts.Release index (mode may_lock)
 abbrev pub acquiring : ℕ → AcquireStage → IndexFlight
 acquiring c stage = flights.Acquire (record { call = at_acquire (first_acquire c) stage; given = tt; room = tt })
 
-abbrev pub releasing : ℕ → ℕ → Bool → ReleaseStage → IndexFlight
+abbrev pub releasing : (c index : ℕ) → Bool → ReleaseStage → IndexFlight
 releasing c index true stage = flights.ReleaseLock (record { call = at_release (first_release c) stage; given = index; room = tt })
 releasing c index false stage = flights.ReleaseDefault (record { call = at_release (first_release c) stage; given = index; room = tt })
 

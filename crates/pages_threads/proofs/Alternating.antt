@@ -26,6 +26,8 @@ module _ {Call Answer : Type 0} (n : ℕ) where
   one_more b (x ∷ es) e h fits = (h.0, one_more (open_after b x) es e h.1 fits)
 
 module _ {Call Stage Answer : Type 0} (of : Structure Call Stage Answer) (n : ℕ) where
+  -- the party begins a call only where it has none pending, and the history says whether it has
+  -- one pending now
   record Ties (w : World Call Stage Answer) : Type 0 where
     pub alternates : Alternates {Call = Call} {Answer = Answer} n false w.history
     pub tells : fold (open_after {Call = Call} {Answer = Answer} n) false w.history ≡ is_some (w.pending n)

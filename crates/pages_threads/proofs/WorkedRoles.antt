@@ -111,6 +111,7 @@ both_load = refl
 
 -- ---- the queue of values, of two words
 
+-- a pair of numbers is written as two words
 abbrev pairs : page.Written (ℕ × ℕ)
 pairs =
     record {

@@ -45,6 +45,8 @@ module _ {T : Type 0} (w : World T) (p : ℕ) (said : Option Bool) where
       let same = refusal_is x small within found in
       ⊎_elim (λ row. inl (same ∙ row)) (λ memory. inr (same ∙ memory.0, memory.1)) h
 
+  -- a turn of the party's call that is not refused, taken on the parts of the machine, leaves the
+  -- machine as the turn does
   pub going_is :
       (events : List (Event T)) (x : Party T) (a : Around T) (latest : List (ℕ × Party T))
       → party_of p w.latest ≡ Some x → going_refusal w.coding w.kept x.doing said ≡ None
@@ -57,6 +59,8 @@ module _ {T : Type 0} (w : World T) (p : ℕ) (said : Option Bool) where
       } ≡ after_turn (record { world = w; events = events }) (turn_of p said)
   going_is events x a latest found allowed is written = rw written (go x.doing refl said refl)
     where
+      -- whether the call is under way or over, and an answer is handed to it or not, the turn on
+      -- the parts leaves the machine as the turn does
       go : (doing : Doing T) → x.doing ≡ doing → (b : Option Bool) → said ≡ b
           → record {
             world =

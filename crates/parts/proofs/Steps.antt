@@ -42,6 +42,8 @@ put_again : {X : Type 0} (p : ℕ) (x y : X) (es : List (ℕ × X))
 put_again p x y [] = rw (at_itself p) refl
 put_again p x y (e ∷ es) = by (nat_cmp p e.0) refl (put_again p x y es)
   where
+    -- however the party compares with that of the first entry, what was written last stands in its
+    -- place
     by : (r : Ordering) → nat_cmp p e.0 ≡ r → insert_entry nat_cmp (insert_entry nat_cmp es p x) p y ≡ insert_entry nat_cmp es p y
         → insert_entry nat_cmp (match_ordering r ((p, x) ∷ e ∷ es) ((e.0, x) ∷ es) (e ∷ insert_entry nat_cmp es p x)) p y
         ≡ match_ordering r ((p, y) ∷ e ∷ es) ((e.0, y) ∷ es) (e ∷ insert_entry nat_cmp es p y)
@@ -60,6 +62,7 @@ module _ {T : Type 0} where
       → b ≡ after_turn_of code p None None a.party.doing a → HasSmallCounts (turns + 1) b.changes b.party × (b.changes ≤ turns + 1)
   around_small code p turns a b small few is = rw is (go a.party.doing small.doing)
     where
+      -- whether the call is under way or over, the counts stay small
       go : (doing : Doing T) → HasSmallCount a.changes doing
           → HasSmallCounts (turns + 1) (after_turn_of code p None None doing a).changes (after_turn_of code p None None doing a).party
           × ((after_turn_of code p None None doing a).changes ≤ turns + 1)
@@ -80,6 +83,7 @@ module _ {T : Type 0} where
   pub none_taken : (code : Coding T) (p : ℕ) (a : Around T) → Steps code p 0 a a
   none_taken code p a = refl
 
+  -- a step behind n steps makes n + 1 steps
   pub one_more_step : (code : Coding T) (p n : ℕ) (a mid b : Around T) → Steps code p n a mid → StandsAlone mid.kept
       → going_refusal code mid.kept mid.party.doing None ≡ None → b ≡ after_turn_of code p None None mid.party.doing mid
       → Steps code p (n + 1) a b
@@ -89,10 +93,12 @@ module _ {T : Type 0} where
 
 -- ---- what they are to the machine
 
+-- w is the machine's world, p the party, x its latest call
 module _ {T : Type 0} (w : World T) (p : ℕ) (x : Party T) (events : List (Event T)) where
   abbrev start : Trace T
   start = record { world = w; events = events }
 
+  -- the machine with these parts, after n turns more
   abbrev taken_to : ℕ → Around T → Trace T
   taken_to n b =
       record {
@@ -104,6 +110,8 @@ module _ {T : Type 0} (w : World T) (p : ℕ) (x : Party T) (events : List (Even
   abbrev Comes : ℕ → Around T → Type 0
   Comes n b = AreAllowed start (replicate n (Next p)) × (taken_to n b ≡ after_turns start (replicate n (Next p)))
 
+  -- n steps of the party's call, taken on the parts, are n turns that go on with the call, none of
+  -- which is refused
   pub steps_are : (n : ℕ) (b : Around T) → IsStrictlySortedBy nat_cmp (keys_of w.latest) → party_of p w.latest ≡ Some x → p < w.parties
       → w.turns + n ≤ 2 ^ 64 - 2 → Steps w.coding p n (around x w.words w.kept w.changes events) b → Comes n b
   steps_are zero b ordered found within small is =

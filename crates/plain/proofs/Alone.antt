@@ -96,8 +96,8 @@ module _ {C G M E : Type 0} (want_of : C → G → Want (Unit {0})) (after : C �
   from_also : (P Q : C → M → List ℕ → Type 0) → ((d : C) (x : M) (y : List ℕ) → P d x y → Q d x y)
       → (a : After C (Stop C E)) (room : M) (words : List ℕ) (s : Stop C E) (r : M) (ws : List ℕ)
       → From P a room words s r ws → From Q a room words s r ws
-  from_also P Q so (GoOn d) room words s r ws t = so d room words t
-  from_also P Q so (Done f) room words s r ws t = t
+  from_also P Q so (GoOn d) room words s r ws from = so d room words from
+  from_also P Q so (Done f) room words s r ws from = from
 
   -- where a call stops, what its next step comes to stops so too
   step_on_from : (call : C) (room : M) (words : List ℕ)
@@ -127,15 +127,15 @@ module _ {C G M E : Type 0} (want_of : C → G → Want (Unit {0})) (after : C �
   -- come to, with no step done
   pub begins_later : (call d : C) (room x : M) (words y : List ℕ) (a : After C (Stop C E)) → a ≡ GoOn d
       → CanStop want_of after kept given call room words → On call room words a x y → Going call room words 0 d x y
-  begins_later call d room x words y a is h on =
+  begins_later call d room x words y a is can_stop_holds on =
       let so = subst (λ c. On call room words c x y) is on in
-      let u = so h.steps h.stop h.last_room h.last_words h.stops in
+      let u = so can_stop_holds.steps can_stop_holds.stop can_stop_holds.last_room can_stop_holds.last_words can_stop_holds.stops in
       record {
         left = u.0;
-        few = let f = h.few in let e = u.1 in omega arith;
-        stop = h.stop;
-        last_room = h.last_room;
-        last_words = h.last_words;
+        few = let f = can_stop_holds.few in let e = u.1 in omega arith;
+        stop = can_stop_holds.stop;
+        last_room = can_stop_holds.last_room;
+        last_words = can_stop_holds.last_words;
         stops = u.2;
         alike = λ n s r ws t. let v = so n s r ws t in (v.0, v.2);
       }
@@ -151,14 +151,14 @@ module _ {C G M E : Type 0} (want_of : C → G → Want (Unit {0})) (after : C �
   pub end_is_stop : (call : C) (room : M) (words : List ℕ)
       → CanEnd want_of after kept given call room words
       → CanStop want_of after kept given call room words
-  end_is_stop call room words h =
+  end_is_stop call room words can_end_holds =
       record {
-        steps = h.steps;
-        few = h.few;
-        stop = Ended h.end;
-        last_room = h.last_room;
-        last_words = h.last_words;
-        stops = h.ends;
+        steps = can_end_holds.steps;
+        few = can_end_holds.few;
+        stop = Ended can_end_holds.end;
+        last_room = can_end_holds.last_room;
+        last_words = can_end_holds.last_words;
+        stops = can_end_holds.ends;
       }
 
   abbrev has_ended : Stop C E → Type 0

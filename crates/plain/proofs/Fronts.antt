@@ -98,8 +98,8 @@ module _ {C E : Type 0} (want : C → Want (Unit {0})) (after : C → ℕ → Af
   -- a walk over the front alone is one over all the words, with what its end says of them
   pub front_walks : (n : ℕ) (call : C) (words : List ℕ) → Low call → Behind k before words
       → Walks want after n (OnEnd P) call (take k words) → Walks want after n (OnEnd Q) call words
-  front_walks zero call words low behind t = absurd t
-  front_walks (suc n) call words low behind t =
+  front_walks zero call words low behind walks = absurd walks
+  front_walks (suc n) call words low behind walks =
       let below = asks_low call low in
       let later = behind_more k before words (words_then words (want call)) behind (then_behind k words (want call) below) in
       from_front n (want call) call (after call (answer_in words (want call))) (words_then words (want call))
@@ -108,4 +108,4 @@ module _ {C E : Type 0} (want : C → Want (Unit {0})) (after : C → ℕ → Af
       (subst (λ ws. WalksFrom (Walks want after n (OnEnd P)) (OnEnd P) (stepped (want call) call (after call (answer_in words (want call)))) ws)
       (front_then k words (want call) below)
       (subst (λ old. WalksFrom (Walks want after n (OnEnd P)) (OnEnd P) (stepped (want call) call (after call old)) (words_then (take k words) (want call)))
-      (front_answer k words (want call) below) t))
+      (front_answer k words (want call) below) walks))

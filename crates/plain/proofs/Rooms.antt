@@ -42,27 +42,27 @@ module _ {C G M E : Type 0} (want_of : C → G → Want (Unit {0})) (after : C �
       → ((d : C) → Walks want_both after_both n P (d, next) words → Found n P d next words)
       → WalksFrom (Walks want_both after_both n P) P (stepped w (call, room) (with_room next a)) words
       → FoundFrom n P (stepped w call a) (room_then w room next) words
-  found_goes n P (wants.Ask ask) call (GoOn d) room next words on t = on d t
-  found_goes n P (wants.Ask ask) call (Done e) room next words on t = (Ended e, next, words, (refl, refl, refl), t)
-  found_goes n P (wants.Question question) call a room next words on t = (Asked question call, room, words, (refl, refl, refl), t)
-  found_goes n P wants.Nothing call (GoOn d) room next words on t = on d t
-  found_goes n P wants.Nothing call (Done e) room next words on t = (Ended e, next, words, (refl, refl, refl), t)
+  found_goes n P (wants.Ask ask) call (GoOn d) room next words on walks_from = on d walks_from
+  found_goes n P (wants.Ask ask) call (Done e) room next words on walks_from = (Ended e, next, words, (refl, refl, refl), walks_from)
+  found_goes n P (wants.Question question) call a room next words on walks_from = (Asked question call, room, words, (refl, refl, refl), walks_from)
+  found_goes n P wants.Nothing call (GoOn d) room next words on walks_from = on d walks_from
+  found_goes n P wants.Nothing call (Done e) room next words on walks_from = (Ended e, next, words, (refl, refl, refl), walks_from)
 
   -- a walk of both together finds a stop of the call, with its room and the words
   found : (n : ℕ) (P : Stop (C × M) (E × M) → List ℕ → Type 0) (call : C) (room : M) (words : List ℕ)
       → Walks want_both after_both n P (call, room) words → Found n P call room words
-  found zero P call room words t = absurd t
-  found (suc n) P call room words t =
+  found zero P call room words walks = absurd walks
+  found (suc n) P call room words walks =
       found_goes n P (want_of call given) call (after call given (answer_in words (want_of call given))) room
       (kept call room (answer_in words (want_of call given))) (words_then words (want_of call given))
-      (λ d u. found n P d (kept call room (answer_in words (want_of call given))) (words_then words (want_of call given)) u) t
+      (λ d u. found n P d (kept call room (answer_in words (want_of call given))) (words_then words (want_of call given)) u) walks
 
   -- a call with a room halts where both together are walked within a driver's number of steps
   pub halts_both : (n : ℕ) (P : Stop (C × M) (E × M) → List ℕ → Type 0) (call : C) (room : M) (words : List ℕ) → n ≤ 2 ^ 64 - 1
       → Walks want_both after_both n P (call, room) words
       → Halts want_of after kept given (Apart P) call room words
-  halts_both n P call room words few t =
-      let f = found n P call room words t in
+  halts_both n P call room words few walks =
+      let f = found n P call room words walks in
       record { steps = n; few = few; stop = f.0; last_room = f.1; last_words = f.2; stops = f.3; holds = f.4 }
 
   ended : (n : ℕ) (P : E × M → List ℕ → Type 0) (call : C) (room : M) (words : List ℕ) (s : Stop C E) (r : M) (ws : List ℕ)

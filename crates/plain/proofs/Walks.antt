@@ -28,8 +28,8 @@ module _ {C E : Type 0} where
 
   from_map : (rest more : C → List ℕ → Type 0) (P : Stop C E → List ℕ → Type 0) (a : After C (Stop C E)) (words : List ℕ)
       → ((d : C) → rest d words → more d words) → WalksFrom rest P a words → WalksFrom more P a words
-  from_map rest more P (GoOn d) words f t = f d t
-  from_map rest more P (Done s) words f t = t
+  from_map rest more P (GoOn d) words f walks_from = f d walks_from
+  from_map rest more P (Done s) words f walks_from = walks_from
 
 module _ {C E : Type 0} (want : C → Want (Unit {0})) (after : C → ℕ → After C E) where
   -- in at most so many steps it stops, and P holds of the stop and of the words then
@@ -45,21 +45,21 @@ module _ {C E : Type 0} (want : C → Want (Unit {0})) (after : C → ℕ → Af
   -- a walk within so many steps is one within one step more
   longer_by_one : (n : ℕ) (P : Stop C E → List ℕ → Type 0) (call : C) (words : List ℕ)
       → Walks n P call words → Walks (suc n) P call words
-  longer_by_one zero P call words t = absurd t
-  longer_by_one (suc n) P call words t =
+  longer_by_one zero P call words walks = absurd walks
+  longer_by_one (suc n) P call words walks =
       from_map (Walks n P) (Walks (suc n) P) P (stepped (want call) call (after call (answer_in words (want call)))) (words_then words (want call))
-      (λ d u. longer_by_one n P d (words_then words (want call)) u) t
+      (λ d u. longer_by_one n P d (words_then words (want call)) u) walks
 
   pub longer : (m n : ℕ) (P : Stop C E → List ℕ → Type 0) (call : C) (words : List ℕ)
       → Walks n P call words → Walks (plus m n) P call words
-  longer zero n P call words t = t
-  longer (suc m) n P call words t =
-      longer_by_one (plus m n) P call words (longer m n P call words t)
+  longer zero n P call words walks = walks
+  longer (suc m) n P call words walks =
+      longer_by_one (plus m n) P call words (longer m n P call words walks)
 
   pub goes_longer : (m n : ℕ) (P : Stop C E → List ℕ → Type 0) (a : After C E) (words : List ℕ)
       → Goes n P a words → Goes (plus m n) P a words
-  goes_longer m n P a words t =
-      from_map (Walks n P) (Walks (plus m n) P) P (goes a) words (λ d u. longer m n P d words u) t
+  goes_longer m n P a words goes_holds =
+      from_map (Walks n P) (Walks (plus m n) P) P (goes a) words (λ d u. longer m n P d words u) goes_holds
 
 -- this holds of the call, if it goes on
 module _ {C E : Type 0} (Low : C → Type 0) where
@@ -88,9 +88,9 @@ module _ {C E D X : Type 0} (want : C → Want (Unit {0})) (after : C → ℕ �
       → ((d : D) → Low d → Walks part_want part_after m (OnEnd (Then n P)) d words → Walks want after (plus m n) P (within d) words)
       → Goes part_want part_after m (OnEnd (Then n P)) a words
       → Goes want after (plus m n) P (lift a) words
-  part_goes m n P (GoOn d) words low on t =
-      subst (λ a. Goes want after (plus m n) P a words) (sym (lifts d)) (on d low t)
-  part_goes m n P (Done x) words low on t = goes_longer want after m n P (lift (Done x)) words t
+  part_goes m n P (GoOn d) words low on goes_holds =
+      subst (λ a. Goes want after (plus m n) P a words) (sym (lifts d)) (on d low goes_holds)
+  part_goes m n P (Done x) words low on goes_holds = goes_longer want after m n P (lift (Done x)) words goes_holds
 
   part_from : (m n : ℕ) (P : Stop C E → List ℕ → Type 0) (w : Want (Unit {0})) (d : D) (a : After D X) (words : List ℕ) → LowThen Low a
       → ((e : D) → Low e → Walks part_want part_after m (OnEnd (Then n P)) e words → Walks want after (plus m n) P (within e) words)
@@ -101,8 +101,8 @@ module _ {C E D X : Type 0} (want : C → Want (Unit {0})) (after : C → ℕ �
   -- a walk of the inner call, to an end from which the outer goes on, is a walk of the outer
   pub part_walks_low : (m n : ℕ) (P : Stop C E → List ℕ → Type 0) (d : D) (words : List ℕ) → Low d
       → Walks part_want part_after m (OnEnd (Then n P)) d words → Walks want after (plus m n) P (within d) words
-  part_walks_low zero n P d words low t = absurd t
-  part_walks_low (suc m) n P d words low t =
+  part_walks_low zero n P d words low walks = absurd walks
+  part_walks_low (suc m) n P d words low walks =
       subst (λ w. WalksFrom (Walks want after (plus m n) P) P
       (stepped w (within d) (after (within d) (answer_in words w))) (words_then words w))
       (sym (wants_so d))
@@ -110,7 +110,7 @@ module _ {C E D X : Type 0} (want : C → Want (Unit {0})) (after : C → ℕ �
       (sym (goes_so d (answer_in words (part_want d)) low))
       (part_from m n P (part_want d) d (part_after d (answer_in words (part_want d))) (words_then words (part_want d))
       (low_on d (answer_in words (part_want d)) low)
-      (λ e less u. part_walks_low m n P e (words_then words (part_want d)) less u) t))
+      (λ e less u. part_walks_low m n P e (words_then words (part_want d)) less u) walks))
 
 -- the same where nothing is asked of the inner call
 pub part_walks : {C E D X : Type 0} (want : C → Want (Unit {0})) (after : C → ℕ → After C E)
@@ -121,9 +121,9 @@ pub part_walks : {C E D X : Type 0} (want : C → Want (Unit {0})) (after : C �
     (lifts : (d : D) → lift (GoOn d) ≡ GoOn (within d))
     (m n : ℕ) (P : Stop C E → List ℕ → Type 0) (d : D) (words : List ℕ)
     → Walks part_want part_after m (OnEnd (λ x ws. Goes want after n P (lift (Done x)) ws)) d words → Walks want after (plus m n) P (within d) words
-part_walks want after part_want part_after within lift wants_so goes_so lifts m n P d words t =
+part_walks want after part_want part_after within lift wants_so goes_so lifts m n P d words walks =
     part_walks_low want after part_want part_after within lift (λ d. Unit {0}) (λ d old low. any_low (part_after d old))
-    wants_so (λ d old low. goes_so d old) lifts m n P d words tt t
+    wants_so (λ d old low. goes_so d old) lifts m n P d words tt walks
 
 -- a walk is a run of the driver
 module _ {C G E : Type 0} (want_of : C → G → Want (Unit {0})) (after : C → G → ℕ → After C E) (given : G) where
@@ -137,24 +137,24 @@ module _ {C G E : Type 0} (want_of : C → G → Want (Unit {0})) (after : C →
       → WalksFrom (Walks (λ c. want_of c given) (λ c old. after c given old) n P) P a words
       → (s : Stop C E) × (r : Unit {0}) × (ws : List ℕ) × StopsFrom want_of after (λ c (room : Unit {0}) old. room) given
       (StopsIn want_of after (λ c (room : Unit {0}) old. room) given n s r ws) a room words s r ws × P s ws
-  found_from n P (GoOn d) room words on t = on d t
-  found_from n P (Done s) room words on t = (s, room, words, (refl, refl, refl), t)
+  found_from n P (GoOn d) room words on walks_from = on d walks_from
+  found_from n P (Done s) room words on walks_from = (s, room, words, (refl, refl, refl), walks_from)
 
   -- a walk finds a stop of the driver, of which the same holds
   found : (n : ℕ) (P : Stop C E → List ℕ → Type 0) (call : C) (room : Unit {0}) (words : List ℕ)
       → Walks (λ c. want_of c given) (λ c old. after c given old) n P call words → Found n P call room words
-  found zero P call room words t = absurd t
-  found (suc n) P call room words t =
+  found zero P call room words walks = absurd walks
+  found (suc n) P call room words walks =
       found_from n P (stepped (want_of call given) call (after call given (answer_in words (want_of call given))))
       (room_then (want_of call given) room room) (words_then words (want_of call given))
-      (λ d u. found n P d (room_then (want_of call given) room room) (words_then words (want_of call given)) u) t
+      (λ d u. found n P d (room_then (want_of call given) room room) (words_then words (want_of call given)) u) walks
 
   -- a call that is walked within a driver's number of steps halts so
   pub halts : (n : ℕ) (P : Stop C E → List ℕ → Type 0) (call : C) (words : List ℕ) → n ≤ 2 ^ 64 - 1
       → Walks (λ c. want_of c given) (λ c old. after c given old) n P call words
       → Halts want_of after (λ c (room : Unit {0}) old. room) given (λ s room ws. P s ws) call tt words
-  halts n P call words few t =
-      let f = found n P call tt words t in
+  halts n P call words few walks =
+      let f = found n P call tt words walks in
       record { steps = n; few = few; stop = f.0; last_room = f.1; last_words = f.2; stops = f.3; holds = f.4 }
 
   ended : (n : ℕ) (P : E → List ℕ → Type 0) (call : C) (words : List ℕ) (s : Stop C E) (r : Unit {0}) (ws : List ℕ)
@@ -165,5 +165,5 @@ module _ {C G E : Type 0} (want_of : C → G → Want (Unit {0})) (after : C →
   pub runs : (n : ℕ) (P : E → List ℕ → Type 0) (call : C) (words : List ℕ) → n ≤ 2 ^ 64 - 1
       → Walks (λ c. want_of c given) (λ c old. after c given old) n (OnEnd P) call words
       → Runs want_of after (λ c (room : Unit {0}) old. room) given (λ e room ws. P e ws) call tt words
-  runs n P call words few t =
-      let f = found n (OnEnd P) call tt words t in ended n P call words f.0 f.1 f.2 few f.3 f.4
+  runs n P call words few walks =
+      let f = found n (OnEnd P) call tt words walks in ended n P call words f.0 f.1 f.2 few f.3 f.4

@@ -11,10 +11,10 @@ use Rattle.plain.specs.Queues.{words_from}
 pub words_same : (ws vs : List ℕ) (at n : ℕ)
     → ((i : ℕ) → at ≤ i → i < at + n → slice_index ws i ≡ slice_index vs i)
     → words_from ws at n ≡ words_from vs at n
-words_same ws vs at zero h = refl
-words_same ws vs at (suc n) h =
-    let head = h at (omega arith) (omega arith) in
-    let tail = words_same ws vs (suc at) n (λ i low high. h i (omega arith) (omega arith)) in
+words_same ws vs at zero same_slice_index = refl
+words_same ws vs at (suc n) same_slice_index =
+    let head = same_slice_index at (omega arith) (omega arith) in
+    let tail = words_same ws vs (suc at) n (λ i low high. same_slice_index i (omega arith) (omega arith)) in
     λ i. head i ∷ tail i
 
 shifted : (x : ℕ) (xs : List ℕ) (at n : ℕ) → words_from (x ∷ xs) (suc at) n ≡ words_from xs at n

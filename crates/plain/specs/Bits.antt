@@ -12,7 +12,7 @@ places_in capacity words =
     record { flags = flags_in capacity words; start = slice_index words 0 }
 
 -- of so many places, from the first on, those whose flags stand in the element
-abbrev pub standing_in : ℕ → ℕ → ℕ → List ℕ
+abbrev pub standing_in : (element first n : ℕ) → List ℕ
 standing_in element first n =
     standing_from first (map (has_flag element) (range_with_len first n))
 

@@ -8,7 +8,7 @@ abbrev pub number_of : List ℕ → ℕ
 number_of words = slice_index words 0
 
 -- there is one cell more than the capacity
-abbrev pub numbers_from : ℕ → List ℕ → ℕ → ℕ → List ℕ
+abbrev pub numbers_from : ℕ → List ℕ → (position n : ℕ) → List ℕ
 numbers_from capacity words position n =
     values_from number_of 1 (capacity + 1) words position n
 

@@ -16,7 +16,7 @@ module _ {V : Type 0} where
 
   -- ---- find
 
-  abbrev pub handle_of : Contents V → ℕ → ℕ → ContainerHandle
+  abbrev pub handle_of : Contents V → (owner index : ℕ) → ContainerHandle
   handle_of s owner index = record { index = index; owner = owner; container = s.container }
 
   -- the closure may be called with the value at the index and its handle

@@ -10,5 +10,5 @@ module _ {F X : Type 0} (pre : F → X → Type 0) (step : F → X → Unit {0} 
 
 module _ {F X : Type 0} (step : F → X → Unit {0} → F → Type 0) where
   -- it was called with each of them, in their order, and with nothing else, which made it the last
-  abbrev pub WasCalled : List X → F → F → Type 0
+  abbrev pub WasCalled : List X → (visit last : F) → Type 0
   WasCalled xs visit last = FoldsTo (λ p x q. step p x tt q) visit xs last

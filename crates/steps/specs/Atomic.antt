@@ -16,7 +16,7 @@ use Rattle.steps.specs.declared.atomic.LoadStage.TheVariants as loads
 use Rattle.steps.specs.declared.atomic.version.Version.{Version}
 
 -- there are two cells: the first word of the number's cell
-abbrev pub cell_word : ℕ → ℕ → ℕ
+abbrev pub cell_word : (size number : ℕ) → ℕ
 cell_word size number = 2 + size * (number % 2)
 
 -- the number of the cell in which a version's value stands; versions wrap

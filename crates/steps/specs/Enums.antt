@@ -4,7 +4,7 @@ use Rattle.steps.specs.declared.enums.UniqueIndexCreationError.{UniqueIndexCreat
 use Rattle.steps.specs.declared.enums.UniqueIndexCreationError.TheVariants.{ProvidedCapacityGreaterThanMaxCapacity, ProvidedCapacityIsZero}
 
 -- a capacity above the greatest is refused first, then one below the least
-abbrev pub capacity_refusal : ℕ → ℕ → ℕ → Option UniqueIndexCreationError
+abbrev pub capacity_refusal : (least greatest capacity : ℕ) → Option UniqueIndexCreationError
 capacity_refusal least greatest capacity =
     if nat_lt greatest capacity
     then Some ProvidedCapacityGreaterThanMaxCapacity

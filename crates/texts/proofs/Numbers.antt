@@ -15,24 +15,24 @@ and_false false b e = refl
 
 pub all_digits_more : (word : List ℕ) (at : ℕ) → at < length word → all_ascii_digits (take at word) ≡ true
     → is_ascii_digit (get_or word at 0) ≡ true → all_ascii_digits (take (at + 1) word) ≡ true
-all_digits_more [] at h all digit = absurd (omega arith)
-all_digits_more (c ∷ cs) zero h all digit = and_from _ true digit refl
-all_digits_more (c ∷ cs) (suc at) h all digit =
+all_digits_more [] at at_below all digit = absurd (omega arith)
+all_digits_more (c ∷ cs) zero at_below all digit = and_from _ true digit refl
+all_digits_more (c ∷ cs) (suc at) at_below all digit =
     let both = and_parts (is_ascii_digit c) (all_ascii_digits (take at cs)) all in
     let later : all_ascii_digits (take (at + 1) cs) ≡ true = all_digits_more cs at (omega arith) both.1 digit in
     let one : suc at + 1 ≡ suc (at + 1) = omega arith in
     rw one (and_from _ _ both.0 later)
 
 pub no_digit : (word : List ℕ) (at : ℕ) → at < length word → is_ascii_digit (get_or word at 0) ≡ false → all_ascii_digits word ≡ false
-no_digit [] at h digit = absurd (omega arith)
-no_digit (c ∷ cs) zero h digit = rw digit refl
-no_digit (c ∷ cs) (suc at) h digit = and_false (is_ascii_digit c) _ (no_digit cs at (omega arith) digit)
+no_digit [] at at_below digit = absurd (omega arith)
+no_digit (c ∷ cs) zero at_below digit = rw digit refl
+no_digit (c ∷ cs) (suc at) at_below digit = and_false (is_ascii_digit c) _ (no_digit cs at (omega arith) digit)
 
 pub no_number : (greatest : ℕ) (word : List ℕ) → all_ascii_digits word ≡ false → number_of greatest word ≡ Err BadValue
-no_number greatest word e = rw e refl
+no_number greatest word all_ascii_digits_false = rw all_ascii_digits_false refl
 
 pub too_great : (greatest : ℕ) (word : List ℕ) (at : ℕ) → greatest < digits_value 10 (take at word) → number_of greatest word ≡ Err BadValue
-too_great greatest word at h =
+too_great greatest word at greatest_below =
     let past : greatest < digits_value 10 word = omega (arith, digits_value-take-le 10 word at (omega arith)) in
     let no : nat_le (digits_value 10 word) greatest ≡ false = lt-leb _ _ past in
     grind (arith, nat_tests)

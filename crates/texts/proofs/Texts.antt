@@ -9,7 +9,7 @@ use Rattle.texts.specs.Text.{parts}
 -- it ends before the first separator
 pub first_part : (separator : ℕ) (text : List ℕ) (at : ℕ) → at ≡ position_or_len (λ b. b == separator) text → at < length text
     → parts separator text ≡ take at text ∷ parts separator (take (length text - (at + 1)) (drop (at + 1) text))
-first_part separator text at e h = rw (take_rest text (at + 1), e) (slice_split_first (λ b. b == separator) text 0 (omega arith))
+first_part separator text at e at_below = rw (take_rest text (at + 1), e) (slice_split_first (λ b. b == separator) text 0 (omega arith))
 
 -- with no separator it is the text
 pub only_part : (separator : ℕ) (text : List ℕ) (at : ℕ) → at ≡ position_or_len (λ b. b == separator) text → length text ≤ at

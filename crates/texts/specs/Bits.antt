@@ -65,5 +65,5 @@ call_text (IsSet bit) = codes "is_set " ++ decimal bit
 call_text (Count place) = codes "count " ++ decimal place
 
 -- a place and the count that was taken out of it
-abbrev pub taken_text : ℕ → ℕ → List ℕ
+abbrev pub taken_text : (place count : ℕ) → List ℕ
 taken_text place count = decimal place ++ codes " " ++ decimal count

@@ -78,7 +78,7 @@ container_call name ws = do
 -- ---- how they print
 
 -- an index and the value there
-abbrev pub placed_text : ℕ → ℕ → List ℕ
+abbrev pub placed_text : (index value : ℕ) → List ℕ
 placed_text index value = decimal index ++ codes " " ++ decimal value
 
 abbrev pub call_text : ContainerStart ℕ → List ℕ

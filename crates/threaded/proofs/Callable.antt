@@ -4,4 +4,4 @@ use Rattle.threaded.specs.Callable.{TakesPlaces}
 
 pub takes_places_at : {F : Type 0} {pre : F → ℕ → Type 0} {step : F → ℕ → F → Type 0} {a b : ℕ} {f : F} → a ≡ b
     → TakesPlaces pre step a f → TakesPlaces pre step b f
-takes_places_at {F} {pre} {step} {a} {b} {f} e h = subst (λ z. TakesPlaces pre step z f) e h
+takes_places_at {F} {pre} {step} {a} {b} {f} e takes_places = subst (λ z. TakesPlaces pre step z f) e takes_places

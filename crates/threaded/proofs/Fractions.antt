@@ -12,14 +12,15 @@ all_is_part n s any is = (any, ap (λ z. z * n) is)
 
 -- half of a share is as many of twice as many
 pub half_is_part : (k whole : ℕ) (s : Share) → IsPart k whole s → IsPart k (whole + whole) (half_of s)
-half_is_part k whole s h = (let any = h.0 in omega arith, go s.part s.parts h.1)
+half_is_part k whole s is_part = (let any = is_part.0 in omega arith, go s.part s.parts is_part.1)
   where
     go : (a b : ℕ) → a * whole ≡ b * k → a * (whole + whole) ≡ (b + b) * k
     go a b e = omega arith
 
 -- the parts of two shares add up
 pub both_is_part : (k l whole : ℕ) (s t : Share) → IsPart k whole s → IsPart l whole t → IsPart (k + l) whole (both_of s t)
-both_is_part k l whole s t h g = (positive s.parts t.parts h.0 g.0, go s.part s.parts t.part t.parts h.1 g.1)
+both_is_part k l whole s t first_part second_part =
+    (positive s.parts t.parts first_part.0 second_part.0, go s.part s.parts t.part t.parts first_part.1 second_part.1)
   where
     go : (a b c d : ℕ) → a * whole ≡ b * k → c * whole ≡ d * l → (a * d + c * b) * whole ≡ (b * d) * (k + l)
     go a b c d e e' =
@@ -29,14 +30,14 @@ both_is_part k l whole s t h g = (positive s.parts t.parts h.0 g.0, go s.part s.
 
 -- who has all parts has all of it
 pub part_is_all : (whole : ℕ) (s : Share) → 0 < whole → IsPart whole whole s → IsAll s
-part_is_all whole s any h = same_factor whole s.part s.parts any (go s.part s.parts h.1)
+part_is_all whole s any is_part = same_factor whole s.part s.parts any (go s.part s.parts is_part.1)
   where
     go : (a b : ℕ) → a * whole ≡ b * whole → whole * a ≡ whole * b
     go a b e = omega arith
 
 -- the same share in fewer parts
 pub fewer_parts : (k whole : ℕ) (s : Share) → IsPart (k + k) (whole + whole) s → IsPart k whole s
-fewer_parts k whole s h = (h.0, go s.part s.parts h.1)
+fewer_parts k whole s is_part = (is_part.0, go s.part s.parts is_part.1)
   where
     go : (a b : ℕ) → a * (whole + whole) ≡ b * (k + k) → a * whole ≡ b * k
     go a b e = omega arith
@@ -54,18 +55,18 @@ any_number n s any is = go n (rest n s) (rest_is n)
     rest_is (suc n) = half_is_part 1 (power n) (rest n s) (rest_is n)
 
     go : (n : ℕ) (r : Share) → IsPart 1 (power n) r → IsAll (added r (pieces n s))
-    go zero r h = part_is_all 1 r (omega arith) h
-    go (suc n) r h =
+    go zero r part = part_is_all 1 r (omega arith) part
+    go (suc n) r part =
         go n (both_of r (rest (suc n) s))
-        (fewer_parts 1 (power n) (both_of r (rest (suc n) s)) (both_is_part 1 1 (power (suc n)) r (rest (suc n) s) h (rest_is (suc n))))
+        (fewer_parts 1 (power n) (both_of r (rest (suc n) s)) (both_is_part 1 1 (power (suc n)) r (rest (suc n) s) part (rest_is (suc n))))
 
 -- shares that have all the parts, joined in any order, are all of it
 pub added_parts : (whole k : ℕ) (s : Share) (ks : List ℕ) (ts : List Share) → IsPart k whole s
     → AreParts whole ks ts → IsPart (fold (λ a x. a + x) k ks) whole (added s ts)
-added_parts whole k s [] [] h parts = h
-added_parts whole k s [] (t ∷ ts) h parts = absurd parts
-added_parts whole k s (l ∷ ks) [] h parts = absurd parts
-added_parts whole k s (l ∷ ks) (t ∷ ts) h parts = added_parts whole (k + l) (both_of s t) ks ts (both_is_part k l whole s t h parts.0) parts.1
+added_parts whole k s [] [] part parts = part
+added_parts whole k s [] (t ∷ ts) part parts = absurd parts
+added_parts whole k s (l ∷ ks) [] part parts = absurd parts
+added_parts whole k s (l ∷ ks) (t ∷ ts) part parts = added_parts whole (k + l) (both_of s t) ks ts (both_is_part k l whole s t part parts.0) parts.1
 
 -- shares whose parts sum up to the whole are all of it, in whatever order they are joined
 pub any_order : (whole : ℕ) (ks : List ℕ) (s : Share) (ts : List Share) → 0 < whole → AreParts whole ks (s ∷ ts) → sum ks ≡ whole → IsAll (added s ts)

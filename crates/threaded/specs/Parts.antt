@@ -3,7 +3,7 @@ use Rattle.std.specs.Prelude.{◌≡◌, ℕ, ◌*◌, ◌<◌, List, [], ◌∷
 use Rattle.threaded.specs.declared.share.Share.{Share}
 
 -- the share is k of so many equal parts
-abbrev pub IsPart : ℕ → ℕ → Share → Type 0
+abbrev pub IsPart : (k parts : ℕ) → Share → Type 0
 IsPart k parts s = (0 < s.parts) × (s.part * parts ≡ s.parts * k)
 
 -- share i is as many of the equal parts as number i says

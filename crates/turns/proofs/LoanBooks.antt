@@ -13,8 +13,8 @@ use Rattle.model.specs.Step.{answer_in}
 
 -- a call that came to this has this answer
 came : {C A : Type 0} (done : Option A) (call : C) (next : After C A) → CameTo done call next → done ≡ answer_in next
-came None call next e = sym (ap answer_in e)
-came (Some answer) call next e = sym (ap answer_in e)
+came None call next came_to_holds = sym (ap answer_in came_to_holds)
+came (Some answer) call next came_to_holds = sym (ap answer_in came_to_holds)
 
 module _ (T : Type 0) (words : List ℕ) (push : Option (ℕ × ℕ)) (p : ℕ) (start : LoanStart)
     (flight flight' : LoanFlight) (old : ℕ) (book noted settled : Book) (effect : Effect)
@@ -22,6 +22,7 @@ module _ (T : Type 0) (words : List ℕ) (push : Option (ℕ × ℕ)) (p : ℕ) 
   abbrev outcome : Option (Answer T)
   outcome = answer_in (after book.places flight old)
 
+  -- the book that the parts of a step leave is what the step keeps
   pub kept_as : effect ≡ effect_of words push flight old → CameTo done flight' (after book.places flight old)
       → noted ≡ fold (book_after {T = T}) book (effects_of p effect done) → settled ≡ ended_book p start done noted
       → settled ≡ (step {T = T} words push p start flight old book).kept

@@ -19,8 +19,8 @@ use Rattle.turns.specs.Went.{IsOfStep}
 
 came_as : {R F A : Type 0} (flight : R → F) (done : Option A) (run : R) (next : After R A) → CameTo done run next
     → CameTo done (flight run) (as_call flight (λ answer. answer) next)
-came_as flight None run next e = ap (as_call flight (λ answer. answer)) e
-came_as flight (Some answer) run next e = ap (as_call flight (λ answer. answer)) e
+came_as flight None run next came_to_holds = ap (as_call flight (λ answer. answer)) came_to_holds
+came_as flight (Some answer) run next came_to_holds = ap (as_call flight (λ answer. answer)) came_to_holds
 
 -- what a family's call came to is what the machine's call came to
 pub passed : {R K T : Type 0} (flight : R → Flight T) (keeps : K → Registry T) (s : Step R K T) (went : Went T) (run : R) (kept : K)
@@ -38,6 +38,7 @@ passed flight keeps s went run kept old new after back same wrote =
 abbrev pub rest : {T : Type 0} → Flight T → Registry T → Step (Flight T) (Registry T) T
 rest flight kept = record { after = GoOn flight; back = false; wrote = []; kept = kept }
 
+-- a step that does nothing is told as one that leaves its call, what is kept and the events
 pub rests : {T : Type 0} (s : Step (Flight T) (Registry T) T) (flight : Flight T) (kept : Registry T) (events : List (Event T))
     → s ≡ rest flight kept → IsOfStep s (record { back = false; done = None }) flight kept events events
 rests s flight kept events e =

@@ -22,6 +22,7 @@ module _ {T : Type 0} where
   clears_so_far p found first n =
       map (λ b. Cleared p b) (filter (λ b. has_flag found b) (range_with_len first n))
 
+  -- with a bit more, the events are those before it, and one more where its flag was found
   one_more : (p found first n : ℕ)
       → clears_so_far p found first (n + 1)
       ≡ clears_so_far p found first n ++ map (λ b. Cleared p b) (cond (has_flag found (first + n)) ((first + n) ∷ []) [])
@@ -33,12 +34,12 @@ module _ {T : Type 0} where
   -- the next bit stood
   pub stood_more : (p found first n : ℕ) → has_flag found (first + n) ≡ true
       → clears_so_far p found first (n + 1) ≡ clears_so_far p found first n ++ Cleared p (first + n) ∷ []
-  stood_more p found first n t =
-      one_more p found first n ∙ ap (λ b. clears_so_far p found first n ++ map (λ b. Cleared p b) (cond b ((first + n) ∷ []) [])) t
+  stood_more p found first n has_flag_true =
+      one_more p found first n ∙ ap (λ b. clears_so_far p found first n ++ map (λ b. Cleared p b) (cond b ((first + n) ∷ []) [])) has_flag_true
 
   -- or not
   pub clear_more : (p found first n : ℕ) → has_flag found (first + n) ≡ false → clears_so_far p found first (n + 1) ≡ clears_so_far p found first n
-  clear_more p found first n t =
+  clear_more p found first n has_flag_false =
       one_more p found first n
-      ∙ (ap (λ b. clears_so_far p found first n ++ map (λ b. Cleared p b) (cond b ((first + n) ∷ []) [])) t
+      ∙ (ap (λ b. clears_so_far p found first n ++ map (λ b. Cleared p b) (cond b ((first + n) ∷ []) [])) has_flag_false
       ∙ append-nil (clears_so_far p found first n))

@@ -111,6 +111,7 @@ module _ {T : Type 0} (c : ℕ) (events : List (Event T)) (spans : Each (StandsR
 
       -- ---- a call ends
 
+      -- the call s of party q ends with the answer a
       module _ (q : ℕ) (s : Start T) (a : Answer T) (is : events ≡ h ++ Finished q s a ∷ after) where
         abbrev Known : ℕ → Type 0
         Known b = Fact kinds.Bits c Sure h q s a b
@@ -122,6 +123,7 @@ module _ {T : Type 0} (c : ℕ) (events : List (Event T)) (spans : Each (StandsR
         numbers_in : (part rest : List (Event T)) → h ≡ part ++ rest → Numbers part
         numbers_in part rest h_is = grind (arith, numbers, append_assoc)
 
+        -- no place was set more often in a beginning than in all events
         sets_within : (part rest : List (Event T)) → h ≡ part ++ rest → (b : ℕ) → sets b part ≤ sets b events
         sets_within part rest cut b =
             let first : sets b events ≡ sets b (h ++ Finished q s a ∷ after) = ap (sets b) is in
@@ -188,6 +190,7 @@ module _ {T : Type 0} (c : ℕ) (events : List (Event T)) (spans : Each (StandsR
           far : (b : ℕ) → c ≤ b → Ends c (Sure b) b (set_call k) (Truth false) (way q b)
           far b le = ⊎_elim (λ same. absurd (past (subst (λ z. c ≤ z) (sym same) le))) (λ ne. elsewhere b ne) (cases_eq k b)
             where
+              -- a set that answers false does not act on a place past the capacity
               past : c ≤ k → ⊥
               past le =
                   let none = within k le in
@@ -229,6 +232,7 @@ module _ {T : Type 0} (c : ℕ) (events : List (Event T)) (spans : Each (StandsR
           under : (b : ℕ) → way q b ≡ Some (next_call, None)
           under b = grind (arith, here)
 
+          -- each place was left silently at a moment at which it was clear
           facts : (b : ℕ) → b < c → Fact kinds.Bits c Sure h q next_call ResetNone b
           facts b lt =
               let once = all b lt in
@@ -236,6 +240,7 @@ module _ {T : Type 0} (c : ℕ) (events : List (Event T)) (spans : Each (StandsR
               let clear : sets b once.part - clears b once.part ≡ 0 = once.held in
               clear_there q next_call ResetNone is b once.part once.rest once.is once.within (under b) tt refl (omega arith) (refl, λ lt. refl)
 
+      -- with the end of a reset of all the history with its silent acts goes on
       end_all : (q : ℕ) → events ≡ h ++ Finished q (Bits ResetAll) Done ∷ after → M (h ++ Finished q (Bits ResetAll) Done ∷ [])
       end_all q is =
           finishes kinds.Bits c Sure h q all_call Done m facts
@@ -266,6 +271,8 @@ module _ {T : Type 0} (c : ℕ) (events : List (Event T)) (spans : Each (StandsR
                   was : Numbers since.before
                   was = grind (arith, numbers_in)
 
+                  -- whatever its number was as the reset began, the place was left silently at a
+                  -- moment at which it was clear
                   go : (n : ℕ) → number_in b 0 since.before ≡ n → Fact kinds.Bits c Sure h q all_call Done b
                   go zero e =
                       clear_there q all_call Done is b (since.before ++ Begun q since.start ∷ []) since.since

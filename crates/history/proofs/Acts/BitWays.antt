@@ -25,6 +25,7 @@ module _ {T : Type 0} where
           let other : (x == b) ≡ false = not_there (x == b) refl in
           rw other refl
         where
+          -- a place that is the one is not another
           not_there : (z : Bool) → (x == b) ≡ z → (x == b) ≡ false
           not_there true e = absurd (ne (sym (is_number x b e) ∙ is_number x k t))
           not_there false e = e
@@ -34,6 +35,7 @@ module _ {T : Type 0} where
   only_clears k b (e ∷ []) one is ne = absurd (cc)
   only_clears k b (e ∷ f ∷ es) one is ne = absurd (omega arith)
 
+  -- a clear of place b by some party stands among the events
   pub record ClearedIn (b : ℕ) (es : List (Event T)) : Type 0 where
     pub by : ℕ
     pub first : List (Event T)
@@ -48,6 +50,8 @@ module _ {T : Type 0} where
   cleared_in b [] some = absurd (omega arith)
   cleared_in b (Cleared p x ∷ es) some = go (x == b) refl (λ more. cleared_in b es more)
     where
+      -- whether the first event clears this place or another, the place was cleared somewhere in
+      -- the list
       go : (t : Bool) → (x == b) ≡ t → (1 ≤ clears b es → ClearedIn b es) → ClearedIn b (Cleared p x ∷ es)
       go true t rest = record { by = p; first = []; second = es; is = ap (λ z. Cleared p z ∷ es) (is_number x b t) }
       go false t rest = grind (arith, clears_more, clears, cleared_later)
@@ -62,6 +66,7 @@ module _ {T : Type 0} where
   abbrev pub Numbers : List (Event T) → Type 0
   Numbers h = (b : ℕ) → (sets b h ≡ clears b h + number_in b 0 h) × (number_in b 0 h ≤ 1)
 
+  -- an event that neither sets nor clears the place leaves its number right
   numbers_stay : (h : List (Event T)) (e : Event T) (b : ℕ) → sets {T = T} b (e ∷ []) ≡ 0
       → clears {T = T} b (e ∷ []) ≡ 0 → number_after b (number_in b 0 h) e ≡ number_in b 0 h
       → (sets b h ≡ clears b h + number_in b 0 h) × (number_in b 0 h ≤ 1)
@@ -77,6 +82,7 @@ module _ {T : Type 0} where
   pub numbers_more : (c : ℕ) (h : List (Event T)) (e : Event T) → StandsRight bits_promise c h e → BitFinds h e → Numbers h → Numbers (h ++ e ∷ [])
   numbers_more c h (event.Set p k) stands finds was b = go (k == b) refl
     where
+      -- a set of this place, or of another, leaves the number right
       go : (t : Bool) → (k == b) ≡ t
           → (sets b (h ++ event.Set p k ∷ [])
           ≡ clears b (h ++ event.Set p k ∷ []) + number_in b 0 (h ++ event.Set p k ∷ []))
@@ -93,6 +99,7 @@ module _ {T : Type 0} where
       go false t = grind (arith, numbers_stay, cond, number_in)
   numbers_more c h (Cleared p k) stands finds was b = go (k == b) refl
     where
+      -- a clear of this place, or of another, leaves the number right
       go : (t : Bool) → (k == b) ≡ t
           → (sets b (h ++ Cleared p k ∷ []) ≡ clears b (h ++ Cleared p k ∷ []) + number_in b 0 (h ++ Cleared p k ∷ []))
           × (number_in b 0 (h ++ Cleared p k ∷ []) ≤ 1)
@@ -118,6 +125,8 @@ module _ {T : Type 0} where
   fit_nil : (start : Start T) (b : ℕ) → Fit start b [] None
   fit_nil start b = grind arith
 
+  -- an event that neither sets nor clears the place leaves what the call has written in keeping
+  -- with what it found there
   fit_more : (start : Start T) (b : ℕ) (wrote : List (Event T)) (d : Option ℕ) (e : Event T)
       → sets {T = T} b (e ∷ []) ≡ 0 → clears {T = T} b (e ∷ []) ≡ 0 → Fit start b wrote d
       → Fit start b (wrote ++ e ∷ []) d
@@ -140,6 +149,7 @@ module _ {T : Type 0} where
       → WayFits Fit b (own_after span (event.Set q k)) (cond (k == b) (found_now n way) way)
   set_fits q k b n span way stands n_is_zero way_fits = grind arith
 
+  -- a call that clears this place has found 1 there
   fit_cleared : (start : Start T) (q k b : ℕ) (wrote : List (Event T)) → MayClear k start wrote → (k == b) ≡ true
       → Fit start b (wrote ++ Cleared q k ∷ []) (Some 1)
   fit_cleared (Bits ResetNext) q k b wrote may t = grind (arith, clears, clears_more)
@@ -149,6 +159,7 @@ module _ {T : Type 0} where
       ((λ none. absurd (omega arith)), (λ some. refl))
   fit_cleared start q k b wrote may t = absurd may
 
+  -- after a clear by the party of the way, the way still fits its span
   cleared_fits : (q k b n : ℕ) (span : Span T) (way : Way T) → Stands bits_promise 0 (Cleared q k) span
       → (k ≡ b → n ≡ 1) → WayFits Fit b span way
       → WayFits Fit b (own_after span (Cleared q k)) (cond (k == b) (found_now n way) way)
@@ -156,6 +167,7 @@ module _ {T : Type 0} where
   cleared_fits q k b n (Ended start a wrote) way stands at fits = absurd stands
   cleared_fits q k b n (Open start wrote) way stands at fits = go (k == b) refl
     where
+      -- whether the clear is of this place or of another, the way still fits the span
       go : (t : Bool) → (k == b) ≡ t → WayFits Fit b (Open start (wrote ++ Cleared q k ∷ [])) (cond (k == b) (found_now n way) way)
       go true t =
           record {
@@ -170,6 +182,7 @@ module _ {T : Type 0} where
             fit = fit_more start b wrote fits.found (Cleared q k) refl (rw t refl) fits.fit;
           }
 
+  -- after each event the party's way still fits its span
   pub one_fits : (c p b n : ℕ) (spans : ℕ → Span T) (way : Way T) (e : Event T)
       → IfSome (whose e) (λ q. Stands bits_promise c e (spans q)) → AtPlace b n e → WayFits Fit b (spans p) way
       → WayFits Fit b (span_after p (spans p) e) (way_after p b n way e)
@@ -187,6 +200,7 @@ module _ {T : Type 0} where
   one_fits c p b n spans way (TakenOut q k m) stands at fits = absurd stands
   one_fits c p b n spans way e stands at fits = grind (arith, quiet_fits, fit_more)
 
+  -- each act of a history finds at its place the number that stands there
   pub at_place : (h : List (Event T)) (e : Event T) → BitFinds h e → Numbers h → (b : ℕ) → AtPlace b (number_in b 0 h) e
   at_place h (event.Set q k) finds numbers b =
       λ same. (let is = (numbers b).0 in let found : sets b h ≡ clears b h = subst (λ z. sets z h ≡ clears z h) same finds in omega arith)

@@ -32,6 +32,7 @@ one_taken : (U : Type 0) (p k m b : ℕ) → (k == b) ≡ true → takes {T = U}
 one_taken U p k m b t = rw t (omega arith)
 
 module _ {T : Type 0} where
+  -- a number taken out of place b by some party stands among the events
   pub record TakenIn (b : ℕ) (es : List (Event T)) : Type 0 where
     pub by : ℕ
     pub number : ℕ
@@ -47,6 +48,8 @@ module _ {T : Type 0} where
   taken_in b [] some = absurd (omega arith)
   taken_in b (TakenOut p x m ∷ es) some = go (x == b) refl (λ more. taken_in b es more)
     where
+      -- whether the first event takes out of this place or of another, the place lost something
+      -- somewhere in the list
       go : (t : Bool) → (x == b) ≡ t → (1 ≤ takes b es → TakenIn b es) → TakenIn b (TakenOut p x m ∷ es)
       go true t rest = record { by = p; number = m; first = []; second = es; is = ap (λ z. TakenOut p z m ∷ es) (is_number x b t) }
       go false t rest = grind (arith, takes_more, takes, taken_later)
@@ -66,6 +69,7 @@ module _ {T : Type 0} where
   abbrev Numbers : List (Event T) → Type 0
   Numbers h = (b : ℕ) → NumberIs h b
 
+  -- an event that neither counts nor takes out of the place leaves its number right
   numbers_stay : (h : List (Event T)) (e : Event T) (b : ℕ) → counts {T = T} b (e ∷ []) ≡ 0
       → takes {T = T} b (e ∷ []) ≡ 0 → number_after b (number_in b 0 h) e ≡ number_in b 0 h → NumberIs h b
       → NumberIs (h ++ e ∷ []) b
@@ -80,6 +84,7 @@ module _ {T : Type 0} where
   numbers_more : (c : ℕ) (h : List (Event T)) (e : Event T) → StandsRight counts_promise c h e → CountFinds h e → Numbers h → Numbers (h ++ e ∷ [])
   numbers_more c h (Counted p k) stands finds was b = go (k == b) refl
     where
+      -- a count of this place, or of another, leaves the number right
       go : (t : Bool) → (k == b) ≡ t → NumberIs (h ++ Counted p k ∷ []) b
       go true t =
           let one : counts {T = T} b (Counted p k ∷ []) ≡ 1 = rw t refl in
@@ -99,6 +104,7 @@ module _ {T : Type 0} where
       go false t = grind (arith, numbers_stay, cond, number_in, was)
   numbers_more c h (TakenOut p k m) stands finds was b = go (k == b) refl
     where
+      -- what is taken out of this place, or of another, leaves the number right
       go : (t : Bool) → (k == b) ≡ t → NumberIs (h ++ TakenOut p k m ∷ []) b
       go true t =
           let one = one_taken T p k m b t in
@@ -126,6 +132,8 @@ module _ {T : Type 0} where
   fit_nil : (start : Start T) (b : ℕ) → Fit start b [] None
   fit_nil start b = grind arith
 
+  -- an event that neither counts nor takes out of the place leaves what the call has written in
+  -- keeping with what it found there
   fit_more : (start : Start T) (b : ℕ) (wrote : List (Event T)) (d : Option ℕ) (e : Event T)
       → counts {T = T} b (e ∷ []) ≡ 0 → takes {T = T} b (e ∷ []) ≡ 0 → Fit start b wrote d
       → Fit start b (wrote ++ e ∷ []) d
@@ -143,6 +151,7 @@ module _ {T : Type 0} where
       → WayFits Fit b span way → WayFits Fit b (own_after span (TakenOut q k m)) (cond (k == b) (found_now n way) way)
   take_fits q k m b n (Open (Bits ResetAll) wrote) way stands fits = go (k == b) refl
     where
+      -- whether this place or another loses something, the way still fits the span
       go : (t : Bool) → (k == b) ≡ t → WayFits Fit b (Open (Bits ResetAll) (wrote ++ TakenOut q k m ∷ [])) (cond (k == b) (found_now n way) way)
       go true t =
           let one = one_taken T q k m b t in
@@ -162,6 +171,7 @@ module _ {T : Type 0} where
   take_fits q k m b n (Open start wrote) way stands fits = absurd stands
   take_fits q k m b n span way stands fits = absurd stands
 
+  -- after each event the party's way still fits its span
   one_fits : (c p b n : ℕ) (spans : ℕ → Span T) (way : Way T) (e : Event T)
       → IfSome (whose e) (λ q. Stands counts_promise c e (spans q)) → WayFits Fit b (spans p) way
       → WayFits Fit b (span_after p (spans p) e) (way_after p b n way e)
@@ -292,12 +302,15 @@ module _ {T : Type 0} (c : ℕ) (events : List (Event T)) (spans : Each (StandsR
           counted : way q k ≡ found_now (number_in k 0 answer.before) (way_in q k 0 None answer.before)
           counted = grind (arith, way_in, way_more, cond, found_now, number_in, both)
 
+          -- the set has found what it answers at its place, and of another place nothing has to be
+          -- known
           done : (b : ℕ) → Ends c (Sure b) b (set_call k) (Number n) (way q b)
           done b =
               let fits = here q b (set_call k) opened.wrote opened.is in
               ⊎_elim (λ same. subst (λ z. Ends c (Sure z) z (set_call k) (Number n) (way q z)) same mine)
               (λ ne. subst (λ w. Ends c (Sure b) b (set_call k) (Number n) w) (sym fits.is) (refl, λ same. absurd (ne same))) (cases_eq k b)
             where
+              -- of its own place the set has found the count that it answers
               mine : Ends c (Sure k) k (set_call k) (Number n) (way q k)
               mine =
                   let fits = here q k (set_call k) opened.wrote opened.is in
@@ -345,6 +358,7 @@ module _ {T : Type 0} (c : ℕ) (events : List (Event T)) (spans : Each (StandsR
       clear_there q b part rest cut none under nought =
           Silent part rest cut none under tt nought (refl, λ sure lt. tt)
 
+      -- with the end of a reset of all the history with its silent acts goes on
       end_all : (q : ℕ) → events ≡ h ++ Finished q (Bits ResetAll) Done ∷ after → M (h ++ Finished q (Bits ResetAll) Done ∷ [])
       end_all q is =
           finishes kinds.Counts c Sure h q all_call Done m facts
@@ -381,6 +395,8 @@ module _ {T : Type 0} (c : ℕ) (events : List (Event T)) (spans : Each (StandsR
                   was : NumberIs since.before b
                   was = grind (arith, numbers, whole_is)
 
+                  -- whatever its count was as the reset began, the place was left silently where
+                  -- its count was 0, or nothing has to be known of it
                   go : (n : ℕ) → number_in b 0 since.before ≡ n → Fact kinds.Counts c Sure h q all_call Done b
                   go zero e =
                       clear_there q b (since.before ++ Begun q since.start ∷ []) since.since
@@ -390,6 +406,8 @@ module _ {T : Type 0} (c : ℕ) (events : List (Event T)) (spans : Each (StandsR
                       let all = was.whole in
                       ⊎_elim lost far (since.holds b lt (omega arith))
                     where
+                      -- a place out of which another took something since was left silently right
+                      -- after that, where its count was 0
                       lost : 1 ≤ takes b since.since → Fact kinds.Counts c Sure h q all_call Done b
                       lost some =
                           let out = taken_in b since.since some in
@@ -404,6 +422,7 @@ module _ {T : Type 0} (c : ℕ) (events : List (Event T)) (spans : Each (StandsR
                           under
                           (number_more b 0 to (TakenOut out.by b out.number ∷ []) ∙ ap (λ z. cond z 0 (number_in b 0 to)) (same_number b))
 
+                      -- of a place that was counted 2^64 times nothing has to be known
                       far : 2 ^ 64 ≤ counts b since.before + counts b since.since → Fact kinds.Counts c Sure h q all_call Done b
                       far many =
                           let one = counts_more b since.before (Begun q since.start ∷ (since.since ++ Finished q all_call Done ∷ after)) in

@@ -10,9 +10,12 @@ use Rattle.history.proofs.Acts.Marks.{right_more, put_else, way_else, put_here, 
 use Rattle.laws_robust.proofs.Cases.{by_bool}
 
 module _ {T : Type 0} (kind : Kind) (capacity : ℕ) (Sure : ℕ → Type 0) where
+  -- these marks are right for party p and place b
   abbrev IsGood : ℕ → ℕ → List (Mark T) → Type 0
   IsGood p b ms = Right kind capacity Sure p b 0 None ms
 
+  -- marks that tell the history, right for each party and place, and with each way as it is in the
+  -- history
   pub record Marked (h : List (Event T)) : Type 0 where
     pub marks : List (Mark T)
     pub is : told marks ≡ h
@@ -62,6 +65,8 @@ module _ {T : Type 0} (kind : Kind) (capacity : ℕ) (Sure : ℕ → Type 0) whe
     -- what the call has found at the place: by its events, or silently, at a moment of it
     pub data Fact (b : ℕ) : Type 0 where
       Stays : IsDone b (way_in p b 0 None h) → Fact b
+      -- or the call has acted silently on the place: at a moment at which it was under way there
+      -- stood the number that it leaves
       Silent : (part rest : List (Event T)) → h ≡ part ++ rest → BeginsNone p rest
           → way_in p b 0 None h ≡ Some (start, None) → MayAct b start
           → number_in b 0 part ≡ left_by kind start (number_in b 0 part)
@@ -113,6 +118,7 @@ module _ {T : Type 0} (kind : Kind) (capacity : ℕ) (Sure : ℕ → Type 0) whe
       right_here : IsGood p k new
       right_here = put_here kind capacity Sure p k start first second (was p k) late calm may left_there
 
+      -- with the silent act put in, all is still right, for each party and place
       right_new : (q b : ℕ) → IsGood q b new
       right_new q b =
           by_bool (p == q && k == b)
@@ -129,6 +135,7 @@ module _ {T : Type 0} (kind : Kind) (capacity : ℕ) (Sure : ℕ → Type 0) whe
       other_place : (b : ℕ) → b ≢ k → (p == p && k == b) ≡ false
       other_place = grind arith
 
+      -- with the silent act put in, what the call has done silently at this place is put in too
       put_in : Filled (suc k)
       put_in =
           record {
@@ -140,6 +147,7 @@ module _ {T : Type 0} (kind : Kind) (capacity : ℕ) (Sure : ℕ → Type 0) whe
             later = λ b le. elsewhere p b (other_place b (λ e. absurd (omega arith))) ∙ f.later b (omega arith);
           }
         where
+          -- with the silent act put in, the call is done at each place up to this one
           done : (b : ℕ) → b < suc k → IsDone b (way_at p b 0 None new)
           done b lt =
               ⊎_elim
@@ -154,6 +162,7 @@ module _ {T : Type 0} (kind : Kind) (capacity : ℕ) (Sure : ℕ → Type 0) whe
     one_more : (k : ℕ) → Filled k → Fact k → Filled (suc k)
     one_more = grind (arith, stay, put_in)
 
+    -- what the call has done silently at the first k places is put in
     fill : (k : ℕ) → Marked h → ((b : ℕ) → b < k → Fact b) → Filled k
     fill zero m facts =
         record {

@@ -43,6 +43,7 @@ next_sided : (T : Type 0) → (p c : ℕ) (stage : ResetNextStage) (old b : ℕ)
 next_sided = grind arith
 
 module _ {T : Type 0} where
+  -- what is so of each event of a list, by what comes before it, is so of the list
   pub right_from : (P : List (Event T) → Event T → Type 0) (before es : List (Event T))
       → ((xs ys : List (Event T)) (e : Event T) → es ≡ xs ++ e ∷ ys → P (before ++ xs) e) → AreRight P before es
   right_from P before [] f = tt
@@ -62,9 +63,11 @@ module _ {T : Type 0} where
   abbrev OneSided : List (Event T) → Type 0
   OneSided es = ((b : ℕ) → sets b es ≡ 0) ⊎ ((b : ℕ) → clears b es ≡ 0)
 
+  -- s and s' say how many of 0 or 1 stand at each place before the events of a turn and after them
   module _ (before es : List (Event T)) (s s' : ℕ → ℕ) (few : (b : ℕ) → s b ≤ 1) (low : (b : ℕ) → s' b ≤ 1)
       (h : (b : ℕ) → sets b before ≡ clears b before + s b)
       (h' : (b : ℕ) → sets b (before ++ es) ≡ clears b (before ++ es) + s' b) where
+    -- where a turn sets a place and clears none, the place was clear just before
     set_here : (p b : ℕ) (xs ys : List (Event T)) → es ≡ xs ++ events.Set p b ∷ ys → OneSided es → sets b (before ++ xs) ≡ clears b (before ++ xs)
     set_here p b xs ys is sided =
         let one : sets {T = T} b (events.Set p b ∷ []) ≡ 1 = rw (same_number b) refl in
@@ -86,6 +89,7 @@ module _ {T : Type 0} where
         (λ (none : (b : ℕ) → clears b es ≡ 0). (let zero = none b in omega arith))
         sided
 
+    -- where a turn clears a place and sets none, the place stood just before
     clear_here : (p b : ℕ) (xs ys : List (Event T)) → es ≡ xs ++ Cleared p b ∷ ys → OneSided es → sets b (before ++ xs) ≡ clears b (before ++ xs) + 1
     clear_here p b xs ys is sided =
         let one : clears {T = T} b (Cleared p b ∷ []) ≡ 1 = rw (same_number b) refl in
@@ -113,6 +117,7 @@ module _ {T : Type 0} where
     turn_finds : OneSided es → AreRight BitFinds before es
     turn_finds sided = right_from BitFinds before es (finds_there sided)
 
+  -- a step of a call on a bit set sets no place, or clears none
   sided : (c p old : ℕ) (wrote : List (Event T)) (start : BitsStart) (flight : BitsFlight)
       → bit_calls.CallAt c wrote start flight → OneSided (effects_of p flight old)
   sided c p old wrote (starts.Set bit) (calls.Set run) at = inr (set_sided T p run.given run.call.stage old)
@@ -121,6 +126,7 @@ module _ {T : Type 0} where
   sided c p old wrote (starts.IsSet bit) (calls.IsSet run) at = inl (λ b. refl)
   sided c p old wrote start flight at = absurd at
 
+  -- the end of a call sets and clears nothing
   sided_more : (p : ℕ) (start : Start T) (o : Option (Answer T)) (es : List (Event T)) → OneSided es → OneSided (es ++ ending_of p start o)
   sided_more p start None es h = subst OneSided (sym (append-nil es)) h
   sided_more p start (Some answer) es h =
@@ -133,6 +139,7 @@ module _ {T : Type 0} where
   wrote_there t p old start flight kept =
       (step_of t.world.coding t.world.words (beside_of t.world.words t.world.kept t.world.latest p) p start flight old kept).wrote
 
+  -- what the machine writes with a step of a call sets no place, or clears none
   step_sided : (t : Trace T) (c p old : ℕ) (wrote : List (Event T)) (kept : Registry T) (start : Start T) (flight : Flight T)
       → kept ≡ registries.Nothing → FlightAt (bit_calls.CallAt c wrote) start flight
       → OneSided (wrote_there t p old start flight kept)
@@ -140,6 +147,7 @@ module _ {T : Type 0} where
   step_sided t c p old wrote kept (Bits start) (flights.Bits flight) none at = absurd (cc)
   step_sided t c p old wrote kept start flight none at = absurd at
 
+  -- a machine of a bit set was reached, each act of whose history found what it should
   pub record BitsSo (t : Trace T) : Type 0 where
     pub reached : IsReachedOn t
     pub kind : t.world.kind ≡ kinds.Bits
@@ -149,6 +157,7 @@ module _ {T : Type 0} where
     bits_sound : frame.Sound (family bits.bit_set t.world.coding t.world.capacity) t
     bits_sound = sound_on bits.bit_set bits_laws t so.kind so.reached
 
+    -- what the machine writes with an answer sets no place, or clears none
     bits_go : (p old : ℕ) (o : Option (Party T)) → party_of p t.world.latest ≡ o → (x : Party T) → o ≡ Some x
         → (doing : Doing T) → x.doing ≡ doing → OneSided (events_of_answer t.world p x old doing)
     bits_go p old o is x found (Over others) d = inl (λ b. refl)
@@ -172,6 +181,7 @@ module _ {T : Type 0} where
     turn_sided (Decide p said) = decide_one p said (party_of p t.world.latest) refl
     turn_sided (Die owner) = inl (λ b. refl)
 
+    -- after a turn that is not refused each act of the history still found what it should
     bits_turn : (turn : Turn T) → call_refusal t.world turn ≡ None → BitsSo (after_turn t turn)
     bits_turn turn e =
         let r = reached_on_more t turn e so.reached in
@@ -189,6 +199,7 @@ module _ {T : Type 0} where
               (turn_sided turn));
         }
 
+  -- in each run of a bit set each act found what it should
   pub bits_find : (t : Trace T) → t.world.kind ≡ kinds.Bits → IsReachedOn t → Each BitFinds t.events
   bits_find t is r =
       (kept_by_runs_on BitsSo (λ t turn e so. bits_turn t so turn e) t
@@ -200,10 +211,13 @@ module _ {T : Type 0} where
 
   -- ---- counts
 
+  -- what is taken out of a place is all that was counted there and not yet taken out, modulo 2^64,
+  -- and above 0
   abbrev pub CountFinds : List (Event T) → Event T → Type 0
   CountFinds before (TakenOut p b m) = (wraps : ℕ) × (counts b before ≡ takes b before + m + 2 ^ 64 * wraps) × (1 ≤ m) × (m < 2 ^ 64)
   CountFinds before e = Unit {0}
 
+  -- a machine of a counting bit set was reached, each take-out of whose history took all
   pub record CountsSo (t : Trace T) : Type 0 where
     pub reached : IsReachedOn t
     pub kind : t.world.kind ≡ kinds.Counts
@@ -217,6 +231,7 @@ module _ {T : Type 0} where
     ends_right before p start None = tt
     ends_right before p start (Some answer) = (tt, tt)
 
+    -- what a step takes out of a place is all that stands there, if it is something
     take_right : (p word old : ℕ) (start : Start T) (o : Option (Answer T))
         → (1 ≤ old → old ≡ get_or t.world.words word 0)
         → AreRight CountFinds t.events (take_events p word old ++ ending_of p start o)
@@ -245,6 +260,7 @@ module _ {T : Type 0} where
         → AreRight CountFinds t.events (wrote_there t p old start flight kept ++ ending_of p start o)
     count_step = grind (arith, ends_right, take_right)
 
+    -- what the machine writes with an answer takes out all that stands there
     counts_go : (p old : ℕ) (x : Party T) → party_of p t.world.latest ≡ Some x → (doing : Doing T) → x.doing ≡ doing
         → ((flight : Flight T) (since : ℕ) → doing ≡ Going flight since → Hears flight old)
         → AreRight CountFinds t.events (events_of_answer t.world p x old doing)
@@ -263,6 +279,7 @@ module _ {T : Type 0} where
     not_heard (flights.Bits (calls.TakeAll run)) n due = grind arith
     not_heard flight n due = tt
 
+    -- what the machine writes with an answer to a question takes out all that stands there
     decide_counts : (p : ℕ) (said : Bool) → is_due t.world.coding (flight_in t.world p) ≡ true
         → (o : Option (Party T)) → party_of p t.world.latest ≡ o
         → AreRight CountFinds t.events (events_of_decision t.world p said o)
@@ -276,6 +293,7 @@ module _ {T : Type 0} where
     counts_events : (turn : Turn T) → call_refusal t.world turn ≡ None → AreRight CountFinds t.events (events_of t.world turn)
     counts_events = grind (arith, next_counts, decide_counts, is_true, must_be_due)
 
+    -- after a turn that is not refused each take-out of the history still took all
     counts_turn : (turn : Turn T) → call_refusal t.world turn ≡ None → CountsSo (after_turn t turn)
     counts_turn turn e =
         record {
@@ -284,6 +302,7 @@ module _ {T : Type 0} where
           finds = Each-append CountFinds t.events (events_of t.world turn) so.finds (counts_events turn e);
         }
 
+  -- in each run of a counting bit set each take-out took all
   pub counts_find : (t : Trace T) → t.world.kind ≡ kinds.Counts → IsReachedOn t → Each CountFinds t.events
   counts_find t is r =
       (kept_by_runs_on CountsSo (λ t turn e so. counts_turn t so turn e) t

@@ -66,6 +66,7 @@ module _ {T : Type 0} where
   way_more p b n way [] ys = refl
   way_more p b n way (x ∷ xs) ys = way_more p b (number_after b n x) (way_after p b n way x) xs ys
 
+  -- the history of two lists of marks is that of the one behind that of the other
   pub told_more : (ms ns : List (Mark T)) → told (ms ++ ns) ≡ told ms ++ told ns
   told_more [] ns = refl
   told_more (Happens e ∷ ms) ns = ap (λ es. e ∷ es) (told_more ms ns)
@@ -79,6 +80,7 @@ module _ {T : Type 0} where
     pub first_told : told first ≡ xs
     pub second_told : told second ≡ ys
 
+  -- where a history is cut, its marks can be cut so too
   pub cut : (ms : List (Mark T)) (xs ys : List (Event T)) → told ms ≡ xs ++ ys → Cut ms xs ys
   cut ms [] ys e = record { first = []; second = ms; is = refl; first_told = refl; second_told = e }
   cut [] (x ∷ xs) ys e = absurd (cc)
@@ -125,6 +127,7 @@ module _ {T : Type 0} (kind : Kind) (capacity : ℕ) (Sure : ℕ → Type 0) whe
 
   -- ---- a silent act of another party or on another place
 
+  -- p and b are the party and the place of the silent act, q and c others
   module _ (p b q c : ℕ) (t : (p == q && b == c) ≡ false) where
     leaf_right : (n : ℕ) (way : Way T) (ms : List (Mark T)) → Right q c n way ms → Right q c n way (Leaves p b ∷ ms)
     leaf_right n way ms h = ((λ e. absurd (cc)), rw t h)
@@ -147,6 +150,7 @@ module _ {T : Type 0} (kind : Kind) (capacity : ℕ) (Sure : ℕ → Type 0) whe
       pub right : (other : Way T) → Right p b n other ms
       pub stays : (other : Way T) → way_at p b n other ms ≡ other
 
+    -- a call that has found a number at its place is not one that has not acted
     some_not : (n : ℕ) (way : Way T) → found_now n way ≡ Some (start, None) → ⊥
     some_not n None e = absurd (cc)
     some_not n (Some call) e =
@@ -161,6 +165,8 @@ module _ {T : Type 0} (kind : Kind) (capacity : ℕ) (Sure : ℕ → Type 0) whe
     by_test true n way e = absurd (some_not n way e)
     by_test false n way e = (refl, e)
 
+    -- where the party's call has not acted on the place after some marks in which the party begins
+    -- none, it had not before them, and they leave each way right and as it is
     pub quiet : (n : ℕ) (way : Way T) (ms : List (Mark T)) → way_at p b n way ms ≡ Some (start, None) → BeginsNone p (told ms) → Quiet n way ms
     quiet n way [] e none = record { was = e; right = λ other. tt; stays = λ other. refl }
     quiet n way (Leaves q c ∷ ms) e none =
@@ -182,6 +188,8 @@ module _ {T : Type 0} (kind : Kind) (capacity : ℕ) (Sure : ℕ → Type 0) whe
         }
     quiet n way (Happens (Finished q s a) ∷ ms) e none = go (q == p) refl (quiet n (cond (q == p) None way) ms e none)
       where
+        -- whether the end is of this party's call or of another's, the party's call had not acted
+        -- on the place before it, and all stays right
         go : (z : Bool) → (q == p) ≡ z → Quiet n (cond (q == p) None way) ms → Quiet n way (Happens (Finished q s a) ∷ ms)
         go true t more = grind (arith, cond)
         go false t more = grind (arith, cond, no_number)

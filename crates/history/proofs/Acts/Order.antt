@@ -46,6 +46,8 @@ module _ {T : Type 0} where
       → call_at m p start (response_in p ys (m + 1)) ≡ call_at n p start (response_in p ys (n + 1))
   same_place p start ys m n e = ap (λ z. call_at z p start (response_in p ys (z + 1))) e
 
+  -- a call that begins there stands among the calls of the history, at its place and with its
+  -- response
   call_there : (p : ℕ) (start : Start T) (xs ys : List (Event T)) (k n : ℕ) → n ≡ k + length xs
       → Contains (calls_from (xs ++ Begun p start ∷ ys) k) (call_at n p start (response_in p ys (n + 1)))
   call_there p start [] ys k n e = grind (arith, here, calls_from, same_place)
@@ -55,6 +57,7 @@ module _ {T : Type 0} where
       (call_there p start xs ys (k + 1) n (omega arith))
   call_there p start (x ∷ xs) ys k n e = call_there p start xs ys (k + 1) n (omega arith)
 
+  -- the response to a call is the first end of a call of its party behind it
   response_there : (p : ℕ) (start : Start T) (answer : Answer T) (during rest : List (Event T)) (k n : ℕ)
       → EndsNone p during → n ≡ k + length during
       → response_in p (during ++ Finished p start answer ∷ rest) k ≡ Some (response_at n answer)
@@ -90,6 +93,7 @@ module _ {T : Type 0} where
     abbrev its : Call T
     its = call_at at p start (response_in p behind (at + 1))
 
+    -- a call that a pass has made stands in each history that goes on from what the pass has seen
     pub stands_in : StandsIn p start answer old new history
     stands_in =
         record {
@@ -103,6 +107,7 @@ module _ {T : Type 0} where
           before = seen_by;
         }
       where
+        -- the call ends within what its pass has seen then
         seen_by : at + 1 + length called.during < length new.seen
         seen_by =
             let all : length new.seen ≡ length (before ++ Begun p start ∷ (called.during ++ end ∷ [])) = ap length called.is in

@@ -11,6 +11,7 @@ use Rattle.history.proofs.Acts.Marks.{way_in, number_in, way_more}
 module _ {T : Type 0} where
   -- ---- beginnings
 
+  -- P is so of a beginning of the events, and goes says that it is with one event more
   module _ (events : List (Event T)) (P : List (Event T) → Type 0)
       (goes : (h after : List (Event T)) (e : Event T) → events ≡ h ++ e ∷ after → P h → P (h ++ e ∷ [])) where
     from_there : (h es rest : List (Event T)) → events ≡ h ++ (es ++ rest) → P h → P (h ++ es)
@@ -23,6 +24,7 @@ module _ {T : Type 0} where
     pub along : P [] → (h rest : List (Event T)) → events ≡ h ++ rest → P h
     along first h rest is = from_there [] h rest is first
 
+  -- where no call of the party begins in a list, none begins in its end
   pub begins_none_later : (p : ℕ) (xs ys : List (Event T)) → BeginsNone p (xs ++ ys) → BeginsNone p ys
   begins_none_later p [] ys h = h
   begins_none_later p (Begun q start ∷ xs) ys h = begins_none_later p xs ys h.1
@@ -40,6 +42,8 @@ module _ {T : Type 0} where
   -- ---- ways
 
   module _ (Fit : Start T → ℕ → List (Event T) → Option ℕ → Type 0) where
+    -- the way is that of a call which has begun so, and has found at the place what fits what it
+    -- has written
     pub record Fits (start : Start T) (b : ℕ) (wrote : List (Event T)) (way : Way T) : Type 0 where
       pub found : Option ℕ
       pub is : way ≡ Some (start, found)
@@ -66,6 +70,8 @@ module _ {T : Type 0} where
         → WayFits b span way → WayFits b (span_after p span (Finished q s a)) (way_after p b n way (Finished q s a))
     finished_fits = grind arith
 
+    -- an event that goes on with each span, and keeps what a call has written in keeping with what
+    -- it found, leaves the way fitting the span
     pub quiet_fits : (p b : ℕ) (span : Span T) (way : Way T) (e : Event T)
         → ((span : Span T) → own_after span e ≡ longer span e)
         → ((start : Start T) (wrote : List (Event T)) (d : Option ℕ) → Fit start b wrote d → Fit start b (wrote ++ e ∷ []) d)

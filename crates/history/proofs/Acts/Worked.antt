@@ -77,6 +77,7 @@ passed_by =
     ∷ Next 0
     ∷ []
 
+-- what the reset of the next place, and the calls beside it, have written
 abbrev passed_by_told : List (Event ℕ)
 passed_by_told =
     Begun 1 set_1
@@ -117,6 +118,8 @@ set_64 = Bits (Set 64)
 abbrev set_0 : Start ℕ
 set_0 = Bits (Set 0)
 
+-- party 1 sets 0 twice and then 64 twice, and the reset of party 0 clears word 0 after the first
+-- set, and word 1 after the third
 abbrev word_by_word : List (Turn ℕ)
 word_by_word =
     Begin 1 set_0 ∷ Next 1 ∷ Next 1
@@ -127,6 +130,7 @@ word_by_word =
     ∷ Begin 1 set_64 ∷ Next 1 ∷ Next 1
     ∷ []
 
+-- what the reset of all, and the calls beside it, have written
 abbrev word_by_word_told : List (Event ℕ)
 word_by_word_told =
     Begun 1 set_0

@@ -110,7 +110,7 @@ module _ {T : Type 0} where
       passed_still c start passed h k below = held_later p (λ part. standing (place_after c start k) part ≡ 0) events es none (h k below)
 
       began_still : (c start : ℕ) → Began c p start events → Began c p start (events ++ es)
-      began_still c start h = held_later p (λ part. at_most c (position_of part) ≡ start) events es none h
+      began_still c start began = held_later p (λ part. at_most c (position_of part) ≡ start) events es none began
 
       came_still : (c bit : ℕ) → CameTo p c bit events → CameTo p c bit (events ++ es)
       came_still = grind (arith, began_still, passed_still)
@@ -123,12 +123,12 @@ module _ {T : Type 0} where
       -- what a call knows it knows after a turn of another party
       pub call_still : (since backs : ℕ) (flight : BitsFlight) → KnowsCall p events words since changes backs flight
           → KnowsCall p (events ++ es) words' since changes' backs flight
-      call_still since backs (Set run) h = set_still words words' changes changes' pays since backs run.given run.call.stage h
-      call_still since backs (ResetNext run) h = next_still run.call.capacity since backs run.call.stage h
-      call_still since backs (ResetAll run) h = (
-        h.0,
-        since_more p (ClearedBelow run.call.word) (ClearedBelow run.call.word) events es none h.1
-            (cleared_still run.call.word h.1.before h.1.since es h.1.holds),
+      call_still since backs (Set run) knows_call = set_still words words' changes changes' pays since backs run.given run.call.stage knows_call
+      call_still since backs (ResetNext run) knows_call = next_still run.call.capacity since backs run.call.stage knows_call
+      call_still since backs (ResetAll run) knows_call = (
+        knows_call.0,
+        since_more p (ClearedBelow run.call.word) (ClearedBelow run.call.word) events es none knows_call.1
+            (cleared_still run.call.word knows_call.1.before knows_call.1.since es knows_call.1.holds),
       )
       call_still since backs (IsSet run) h = let up = pays.up in omega arith
       call_still since backs flight h = absurd h

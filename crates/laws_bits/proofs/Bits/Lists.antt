@@ -13,19 +13,23 @@ use Rattle.laws_bits.proofs.Bits.Core.{clears_more}
 
 module _ {T : Type 0} where
   pub own_more : (p : ℕ) (es more : List (Event T)) → AreOwn p es → AreOwn p more → AreOwn p (es ++ more)
-  own_more p [] more h m = m
-  own_more p (e ∷ es) more h m = (h.0, own_more p es more h.1 m)
+  own_more p [] more first_own second_own = second_own
+  own_more p (e ∷ es) more first_own second_own = (first_own.0, own_more p es more first_own.1 second_own)
 
   pub right_more : (P : List (Event T) → Event T → Type 0) (before es more : List (Event T)) → AreRight P before es
       → AreRight P (before ++ es) more → AreRight P before (es ++ more)
-  right_more P before [] more h m = subst (λ xs. AreRight P xs more) (append-nil before) m
-  right_more P before (e ∷ es) more h m =
-      (h.0, right_more P (before ++ e ∷ []) es more h.1 (subst (λ xs. AreRight P xs more) (sym (append_assoc before (e ∷ []) es)) m))
+  right_more P before [] more first_right second_right = subst (λ xs. AreRight P xs more) (append-nil before) second_right
+  right_more P before (e ∷ es) more first_right second_right = (
+    first_right.0,
+    right_more P (before ++ e ∷ []) es more first_right.1
+        (subst (λ xs. AreRight P xs more) (sym (append_assoc before (e ∷ []) es)) second_right),
+  )
 
   pub follow_more : (R : Event T → Span T → Type 0) (span : Span T) (es more : List (Event T)) → AllFollow R span es
       → AllFollow R (fold own_after span es) more → AllFollow R span (es ++ more)
-  follow_more R span [] more h m = m
-  follow_more R span (e ∷ es) more h m = (h.0, follow_more R (own_after span e) es more h.1 m)
+  follow_more R span [] more first_all_follow second_all_follow = second_all_follow
+  follow_more R span (e ∷ es) more first_all_follow second_all_follow =
+      (first_all_follow.0, follow_more R (own_after span e) es more first_all_follow.1 second_all_follow)
 
 -- ---- places that rise
 
@@ -35,8 +39,8 @@ Rise low [] = Unit {0}
 Rise low (b ∷ bs) = (low ≤ b) × Rise (b + 1) bs
 
 rise_from : (low high : ℕ) (bs : List ℕ) → low ≤ high → Rise high bs → Rise low bs
-rise_from low high [] le h = tt
-rise_from low high (b ∷ bs) le h = let at = h.0 in (omega arith, h.1)
+rise_from low high [] le rise = tt
+rise_from low high (b ∷ bs) le rise = let at = rise.0 in (omega arith, rise.1)
 
 -- the numbers of a range that pass a test rise from the range's first
 rise_some : (test : ℕ → Bool) (first n : ℕ) → Rise first (filter test (range_with_len first n))
@@ -45,8 +49,8 @@ rise_some test first (suc n) = go (test first) (rise_some test (first + 1) n)
   where
     go : (t : Bool) → Rise (first + 1) (filter test (range_with_len (first + 1) n))
         → Rise first (cond t (first ∷ filter test (range_with_len (first + 1) n)) (filter test (range_with_len (first + 1) n)))
-    go true h = (omega arith, h)
-    go false h = rise_from first (first + 1) (filter test (range_with_len (first + 1) n)) (omega arith) h
+    go true rise = (omega arith, rise)
+    go false rise = rise_from first (first + 1) (filter test (range_with_len (first + 1) n)) (omega arith) rise
 
 pub places_rise : (w found : ℕ) → Rise (first_place w) (places_in w found)
 places_rise w found = rise_some (λ b. has_flag found b) (first_place w) 64

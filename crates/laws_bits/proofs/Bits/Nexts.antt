@@ -58,7 +58,7 @@ module _ {T : Type 0} (code : Coding T) (c : ℕ) (scene : SetScene T) (holds : 
 
   -- with nothing written
   began_more : (start : ℕ) → Began c p start events → Began c p start (events ++ [])
-  began_more start h = held_later p (λ part. at_most c (position_of part) ≡ start) events [] tt h
+  began_more start began_holds = held_later p (λ part. at_most c (position_of part) ≡ start) events [] tt began_holds
 
   passed_more : (start passed : ℕ) → Passed c p start passed events → Passed c p start passed (events ++ [])
   passed_more start passed h k below =
@@ -89,10 +89,10 @@ module _ {T : Type 0} (code : Coding T) (c : ℕ) (scene : SetScene T) (holds : 
         → passed < c → get_or s.words (element_of (place_after c start passed)) 0 ≡ found
         → has_flag found (place_after c start passed) ≡ true
         → Does [] (Some a) back (GoOn (next_at c (resetting.ExchangesElement start passed found))) []
-    exchanges passed found held few below is t =
+    exchanges passed found held few below is has_flag_true =
         goes_on code c scene next (Some a) back (next_at c (resetting.ExchangesElement start passed found))
         (same_bits code c scene (Some a) same) (ap (λ ws. get_or ws 0 0) same)
-        few refl (refl, (low, below, t)) (
+        few refl (refl, (low, below, has_flag_true)) (
           (omega arith, λ ne. absurd (ne (ap (λ ws. get_or ws (element_of (place_after c start passed)) 0) same ∙ is))),
           passed_more start passed held,
           began_more start began,
@@ -147,14 +147,16 @@ module _ {T : Type 0} (code : Coding T) (c : ℕ) (scene : SetScene T) (holds : 
     module _ (back : Bool) (a : Ask) (same : words_after s.words (Some a) ≡ s.words)
         (paid : backs + one_if back + since ≤ changes) (few : steps + 1 ≤ 2 + passed + (backs + one_if back)) where
       stood : has_flag word place ≡ true → Does [] (Some a) back (GoOn (next_at c (resetting.ExchangesElement start passed word))) []
-      stood t = exchanges a back same paid start low began passed word held few below refl t
+      stood has_flag_true = exchanges a back same paid start low began passed word held few below refl has_flag_true
 
       goes_further : has_flag word place ≡ false → passed + 1 < c
           → Does [] (Some a) back (GoOn (next_at c (resetting.LoadsElement start (passed + 1)))) []
-      goes_further t more = comes_on a back same paid start low began (passed + 1) (one_passed t) (omega arith) more
+      goes_further has_flag_false more = comes_on a back same paid start low began (passed + 1) (one_passed has_flag_false) (omega arith) more
 
       finds_none : has_flag word place ≡ false → passed + 1 ≡ c → Does [] (Some a) back (Done answers.ResetNone) []
-      finds_none t last = comes_none a back same paid start low began (subst (λ n. Passed c p start n events) last (one_passed t)) (omega arith)
+      finds_none has_flag_false last =
+          comes_none a back same paid start low began
+          (subst (λ n. Passed c p start n events) last (one_passed has_flag_false)) (omega arith)
 
     abbrev loads_it : Ask
     loads_it = record { word = element; op = Load }
@@ -191,7 +193,7 @@ module _ {T : Type 0} (code : Coding T) (c : ℕ) (scene : SetScene T) (holds : 
     clears_it : (found : ℕ) → has_flag found place ≡ true → (word == found) ≡ true → backs + since ≤ changes
         → steps ≤ 2 + passed + backs
         → Does [] (Some (exchanging found)) false (GoOn (next_at c (resetting.StoresPosition place))) (Cleared p place ∷ [])
-    clears_it found was t paid few =
+    clears_it found was word_is_found paid few =
         record {
           preserves = record {
             sized = as_long s.words (Some (exchanging found));
@@ -259,7 +261,7 @@ module _ {T : Type 0} (code : Coding T) (c : ℕ) (scene : SetScene T) (holds : 
         parts = grind (arith, by_parts, next_at, stage)
 
         failed : (word == found) ≡ false → words_after s.words (Some (exchanging found)) ≡ s.words
-        failed t = failed_leaves s.words element found (without_flag found place) t
+        failed word_is_not_found = failed_leaves s.words element found (without_flag found place) word_is_not_found
 
         -- an element that is as it was found is cleared of its bit; in another one the bit is
         -- tested again

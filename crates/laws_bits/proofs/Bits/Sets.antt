@@ -73,12 +73,12 @@ module _ {T : Type 0} (code : Coding T) (c : ℕ) (scene : SetScene T) (holds : 
   sets_it : (found : ℕ) → has_flag found bit ≡ false → (word == found) ≡ true → backs + since ≤ changes
       → steps ≤ 1 + backs
       → Does (Some (exchanging found)) false (Done (answers.Truth true)) (told.Set p bit ∷ [])
-  sets_it found was t paid few =
+  sets_it found was word_is_found paid few =
       record {
         preserves = record {
           sized = as_long s.words (Some (exchanging found));
           moved = λ b. moved b (bit == b) refl;
-          within = λ b past. (let t : (bit == b) ≡ false = grind (arith, nat_tests) in rw t refl);
+          within = λ b past. (let word_is_found : (bit == b) ≡ false = grind (arith, nat_tests) in rw word_is_found refl);
           position = ap (λ ws. get_or ws 0 0) new ∙ get_or-set_other s.words element 0 (with_flag word bit) 0 (λ e. elements_after bit (sym e));
           pays = pays_by s.words (Some (exchanging found)) changes;
           right = (tt, (tt, tt));
@@ -102,7 +102,7 @@ module _ {T : Type 0} (code : Coding T) (c : ℕ) (scene : SetScene T) (holds : 
       new = grind (arith, done_writes, with_flag, set, same)
 
       one : sets {T = T} bit (told.Set p bit ∷ []) ≡ 1
-      one = let t : (bit == bit) ≡ true = grind (arith, nat_tests) in rw t refl
+      one = let word_is_found : (bit == bit) ≡ true = grind (arith, nat_tests) in rw word_is_found refl
 
       -- by the exchange this bit is set, and no other
       moved : (b : ℕ) (u : Bool) → (bit == b) ≡ u

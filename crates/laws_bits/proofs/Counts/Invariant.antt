@@ -119,8 +119,11 @@ module _ {T : Type 0} where
   -- a turn of another party leaves what a call knows
   pub call_still : (p : ℕ) (events es : List (Event T)) (none : BeginsNone p es) (backs : ℕ) (flight : BitsFlight)
       → KnowsCall p events backs flight → KnowsCall p (events ++ es) backs flight
-  call_still p events es none backs (Count run) h = h
-  call_still p events es none backs (TakeAll run) h =
-      (h.0, since_more p (TakenBelow run.call.word) (TakenBelow run.call.word) events es none h.1 (taken_still run.call.word h.1.before h.1.since es h.1.holds))
-  call_still p events es none backs (CountOf run) h = h
-  call_still p events es none backs flight h = absurd h
+  call_still p events es none backs (Count run) knows_call = knows_call
+  call_still p events es none backs (TakeAll run) knows_call = (
+    knows_call.0,
+    since_more p (TakenBelow run.call.word) (TakenBelow run.call.word) events es none knows_call.1
+        (taken_still run.call.word knows_call.1.before knows_call.1.since es knows_call.1.holds),
+  )
+  call_still p events es none backs (CountOf run) knows_call = knows_call
+  call_still p events es none backs flight knows_call = absurd knows_call

@@ -56,28 +56,28 @@ module _ {T : Type 0} where
   -- an answer that is right in every run is exact where no place was counted 2^64 times
   answer_exact : (c : ℕ) (before : List (Event T)) (e : Event T) → ((b : ℕ) → counts b before < 2 ^ 64)
       → CountsAnswerOn c before e → CountsAnswerRight c before e
-  answer_exact c before (Finished p (Bits (Set place)) (Number number)) few h =
+  answer_exact c before (Finished p (Bits (Set place)) (Number number)) few counts_answer_on =
       let low = few place in
-      let m = counts_more place h.before (Counted p place ∷ []) in
-      let same : counts place before ≡ counts place (h.before ++ Counted p place ∷ []) = ap (counts place) h.is in
-      let count = h.count in
-      record { before = h.before; is = h.is; count = omega arith }
-  answer_exact c before (Finished p (Bits ResetAll) answer) few h = taken_exact c p before few h
-  answer_exact c before (Finished p (Bits (starts.Count place)) (Number number)) few h =
-      (h.0, (let low = few place in let is = h.1 in omega arith))
-  answer_exact c before e few h = tt
+      let m = counts_more place counts_answer_on.before (Counted p place ∷ []) in
+      let same : counts place before ≡ counts place (counts_answer_on.before ++ Counted p place ∷ []) = ap (counts place) counts_answer_on.is in
+      let count = counts_answer_on.count in
+      record { before = counts_answer_on.before; is = counts_answer_on.is; count = omega arith }
+  answer_exact c before (Finished p (Bits ResetAll) answer) few counts_answer_on = taken_exact c p before few counts_answer_on
+  answer_exact c before (Finished p (Bits (starts.Count place)) (Number number)) few counts_answer_on =
+      (counts_answer_on.0, (let low = few place in let is = counts_answer_on.1 in omega arith))
+  answer_exact c before e few counts_answer_on = tt
 
   -- in a run in which no place was counted 2^64 times, what is promised of every run is what is
   -- promised of a counting set
   pub exact : (t : Trace T) → ((b : ℕ) → counts b t.events < 2 ^ 64) → IsCountingOn t → IsCountingSet t
-  exact t few h =
+  exact t few counting_on =
       record {
-        conserved = λ b. (let is = (h.conserved b).1 in let low = few b in omega arith);
-        within = h.within;
+        conserved = λ b. (let is = (counting_on.conserved b).1 in let low = few b in omega arith);
+        within = counting_on.within;
         answers =
             λ before after e is. answer_exact t.world.capacity before e
             (λ b. (let less = part_counts b t.events before after e is in let low = few b in omega arith))
-            (h.answers before after e is);
+            (counting_on.answers before after e is);
       }
 
   pub counts_kept : (c : ℕ) (t : Trace T) → t.world.capacity ≡ c → t.world.turns ≤ 2 ^ 64 - 2 → Holds c t.world.words t.events t.world.turns → IsCountingSet t

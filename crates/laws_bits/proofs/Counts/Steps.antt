@@ -116,10 +116,10 @@ module _ {T : Type 0} (code : Coding T) (c : ℕ) (scene : SetScene T) where
     pub look_shows : (place : ℕ) → place < c → steps ≤ 0 → backs ≡ 0
         → StepShows counting_set code c scene [] (starts.Count place)
         (Some (record { word = place; op = Load })) false (Done (answers.Number (get_or ws place 0))) []
-    look_shows place below s b =
+    look_shows place below s backs_are_zero =
         record {
           preserves = subst (λ (words : List ℕ). Preserves c ws events turns words (look_end place)) (sym (load_leaves ws place))
-              (rest_preserves c ws events turns (look_end place) holds (λ b. refl) (λ b. refl) ((below, now), tt));
+              (rest_preserves c ws events turns (look_end place) holds (λ backs_are_zero. refl) (λ backs_are_zero. refl) ((below, now), tt));
           own = (refl, tt);
           stands = ((refl, refl), tt);
           here = record { answer = answers.Number (get_or ws place 0); wrote = []; span = refl; steps = omega arith };

@@ -18,14 +18,18 @@ fill_keeps_pop = grind arith
 -- the next write position
 pub publish_keeps_pop : (c : ℕ) (k : Core ℕ) (v : ℕ) (room : OneWord) (stage : PopStage)
     → KnowsOverflowPop c k room stage → KnowsOverflowPop c (core.published 1 words_of_index (c + 1) k v) room stage
-publish_keeps_pop c k v room overflow_pops.FindsNone h = h
-publish_keeps_pop c k v room overflow_pops.LoadsRead h = h
-publish_keeps_pop c k v room (overflow_pops.LoadsWrite read) h =
-    (h.0, h.1, λ moved. let waits = h.2 moved in omega arith)
-publish_keeps_pop c k v room (overflow_pops.LoadsCell read) h = grind arith
-publish_keeps_pop c k v room (overflow_pops.MovesRead read) h =
-    let waits = h.2 in
-    (h.0, h.1, omega arith, λ same. let first = h.3 same in (first.0 ++ v ∷ [], ap (λ xs. xs ++ v ∷ []) first.1))
+publish_keeps_pop c k v room overflow_pops.FindsNone knows_overflow_pop = knows_overflow_pop
+publish_keeps_pop c k v room overflow_pops.LoadsRead knows_overflow_pop = knows_overflow_pop
+publish_keeps_pop c k v room (overflow_pops.LoadsWrite read) knows_overflow_pop =
+    (knows_overflow_pop.0, knows_overflow_pop.1, λ moved. let waits = knows_overflow_pop.2 moved in omega arith)
+publish_keeps_pop c k v room (overflow_pops.LoadsCell read) knows_overflow_pop = grind arith
+publish_keeps_pop c k v room (overflow_pops.MovesRead read) knows_overflow_pop =
+    let waits = knows_overflow_pop.2 in (
+      knows_overflow_pop.0,
+      knows_overflow_pop.1,
+      omega arith,
+      λ same. let first = knows_overflow_pop.3 same in (first.0 ++ v ∷ [], ap (λ xs. xs ++ v ∷ []) first.1),
+    )
 
 -- the next read position, where at least the newest value stays
 pub take_keeps_pop :

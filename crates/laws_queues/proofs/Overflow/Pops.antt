@@ -236,17 +236,17 @@ module _ {T : Type 0} (en : Coding T) (scene : Scene T kinds.Overflow)
       (stage : PopStage) → KnowsOverflowPop c k room stage
       → steps ≤ 2 * backs + overflow_pop_number stage → KnowsBacks k since changes backs stage
       → flight_of (doing_of (party_of p latest)) ≡ Some (flights.Queues (at stage)) → span_of p events ≡ Open (Queues Pop) [] → Moved stage
-  overflow_pop_step overflow_pops.FindsNone knows s b found seen =
+  overflow_pop_step overflow_pops.FindsNone knows s knows_backs found seen =
       let none = nothing_waits en kinds.Overflow c k (pending k.read ro.producer latest) knows inv.queue.good inv.queue.hangs in
       by_itself None (Done PoppedNone) Acts seen
-      (finds_none (calm_at overflow_pops.FindsNone found) None refl (nil_from_length k.waiting none) (omega arith) b)
-  overflow_pop_step overflow_pops.LoadsRead knows s b found seen =
+      (finds_none (calm_at overflow_pops.FindsNone found) None refl (nil_from_length k.waiting none) (omega arith) knows_backs)
+  overflow_pop_step overflow_pops.LoadsRead knows s knows_backs found seen =
       by_itself (Some load_of_read) (GoOn (at (overflow_pops.LoadsWrite k.read))) Quiet seen
-      (loads_read (calm_at overflow_pops.LoadsRead found) knows s b)
-  overflow_pop_step (overflow_pops.LoadsWrite read) knows s b found seen =
+      (loads_read (calm_at overflow_pops.LoadsRead found) knows s knows_backs)
+  overflow_pop_step (overflow_pops.LoadsWrite read) knows s knows_backs found seen =
       by_itself (Some load_of_write) (after en (at (overflow_pops.LoadsWrite read)) k.write) Acts seen
-      (loads_write (calm_at (overflow_pops.LoadsWrite read) found) read knows.0 knows.1 knows.2 s b.1)
-  overflow_pop_step (overflow_pops.LoadsCell read) knows s b found seen =
+      (loads_write (calm_at (overflow_pops.LoadsWrite read) found) read knows.0 knows.1 knows.2 s knows_backs.1)
+  overflow_pop_step (overflow_pops.LoadsCell read) knows s knows_backs found seen =
       let old : get_or (layout ro k) (cell_word c read) 0 ≡ get_or k.cells (read % (c + 1)) 0 =
       word_at k.write k.read (free ro.producer) (free ro.consumer) k.cells (cell_word c read) (read % (c + 1)) refl in
       subst (λ n. MovesBy (Some (record { word = cell_word c read; op = Load })) false
@@ -254,6 +254,6 @@ module _ {T : Type 0} (en : Coding T) (scene : Scene T kinds.Overflow)
       (sym old)
       (by_itself (Some (record { word = cell_word c read; op = Load }))
       (GoOn (with_value (get_or k.cells (read % (c + 1)) 0) (overflow_pops.MovesRead read))) Quiet seen
-      (loads_cell (calm_at (overflow_pops.LoadsCell read) found) read knows.0 knows.1 knows.2 s b.1))
-  overflow_pop_step (overflow_pops.MovesRead read) knows s b found seen =
-      moves_read (calm_at (overflow_pops.MovesRead read) found) read knows s b.1 seen
+      (loads_cell (calm_at (overflow_pops.LoadsCell read) found) read knows.0 knows.1 knows.2 s knows_backs.1))
+  overflow_pop_step (overflow_pops.MovesRead read) knows s knows_backs found seen =
+      moves_read (calm_at (overflow_pops.MovesRead read) found) read knows s knows_backs.1 seen

@@ -98,24 +98,24 @@ module _ {V : Type 0} (size : ℕ) (words_of : V → List ℕ) (c : ℕ) where
 
   -- a word stored in the cell of the write position
   pub fills : (k : Core V) (at word : ℕ) → length k.waiting < c → at < size → Good k → Good (filled k at word)
-  fills k at word room below g =
+  fills k at word room below good =
       record {
-        write = g.write;
-        few = g.few;
-        cells = length-set k.cells (size * (k.write % c) + at) word ∙ g.cells;
+        write = good.write;
+        few = good.few;
+        cells = length-set k.cells (size * (k.write % c) + at) word ∙ good.cells;
         held = λ i v e j js.
             let ahead = at_below k.waiting i v e in
-            let write = g.write in
+            let write = good.write in
             let other : (k.read + i) % c ≢ k.write % c = rw write (apart c k.read i (length k.waiting) ahead room) in
             let place : size * ((k.read + i) % c) + j ≢ size * (k.write % c) + at = cells_apart size ((k.read + i) % c) (k.write % c) j at js below other in
-            get_or-set_other k.cells (size * (k.write % c) + at) (size * ((k.read + i) % c) + j) word 0 place ∙ g.held i v e j js;
+            get_or-set_other k.cells (size * (k.write % c) + at) (size * ((k.read + i) % c) + j) word 0 place ∙ good.held i v e j js;
       }
 
   -- the words stored so far, and one more
   pub one_filled : (k : Core V) (v : V) (at : ℕ) → length k.waiting < c → at < size → Good k → Holds k.cells k.write v at
       → Holds (filled k at (get_or (words_of v) at 0)).cells k.write v (at + 1)
-  one_filled k v at room below g so_far =
-      let cells = g.cells in
+  one_filled k v at room below good so_far =
+      let cells = good.cells in
       let low = cell_within size c k.write at (omega arith) below in
       one_more (λ i. size * (k.write % c) + i) k.cells (words_of v) at (get_or (words_of v) at 0)
       (λ i h e. absurd (omega arith)) (omega arith) refl so_far
@@ -133,18 +133,18 @@ module _ {V : Type 0} (size : ℕ) (words_of : V → List ℕ) (c : ℕ) where
 
   -- the next read position stored
   pub takes : (k : Core V) (v : V) (rest : List V) → k.waiting ≡ v ∷ rest → Good k → Good (taken k rest)
-  takes k v rest is g =
-      let write = g.write in
-      let few = g.few in
+  takes k v rest is good =
+      let write = good.write in
+      let few = good.few in
       let long : length k.waiting ≡ suc (length rest) = ap length is in
       record {
         write = omega arith;
         few = omega arith;
-        cells = g.cells;
+        cells = good.cells;
         held = λ i w e j js.
             let at : slice_get k.waiting (suc i) ≡ Some w = rw is e in
             let place : k.read + 1 + i ≡ k.read + suc i = omega arith in
-            rw place (g.held (suc i) w at j js);
+            rw place (good.held (suc i) w at j js);
       }
 
   -- the front value, read word by word

@@ -163,28 +163,29 @@ module _ {T : Type 0} (en : Coding T) where
     -- what holds of the queue holds after a turn that shows this of it
     pub holds_more : Holds en kd scene.capacity scene.roles scene.core scene.latest scene.events scene.turns → ShowsQueue kd scene ro' k' y es changes'
         → Holds en kd scene.capacity ro' k' (put scene.party y scene.latest) (scene.events ++ es) (scene.turns + 1)
-    holds_more h s =
+    holds_more h shows_queue =
         let c = scene.capacity in
         let more = flat_map-append acts scene.events es in
         record {
           fits = h.fits;
-          good = s.good;
-          hangs = s.hangs;
-          book = book_more scene.events es (map (item kd) scene.core.waiting) (map (item kd) k'.waiting) h.book s.book;
-          out = out_more scene.events es scene.core.read k'.read h.out s.out;
-          producers = fold-append producer_after None scene.events es ∙ (ap (λ o. fold producer_after o es) h.producers ∙ s.producers);
-          consumers = fold-append consumer_after None scene.events es ∙ (ap (λ o. fold consumer_after o es) h.consumers ∙ s.consumers);
+          good = shows_queue.good;
+          hangs = shows_queue.hangs;
+          book = book_more scene.events es (map (item kd) scene.core.waiting) (map (item kd) k'.waiting) h.book shows_queue.book;
+          out = out_more scene.events es scene.core.read k'.read h.out shows_queue.out;
+          producers = fold-append producer_after None scene.events es ∙ (ap (λ o. fold producer_after o es) h.producers ∙ shows_queue.producers);
+          consumers = fold-append consumer_after None scene.events es ∙ (ap (λ o. fold consumer_after o es) h.consumers ∙ shows_queue.consumers);
           stand =
               ap (standing (list_of kd c)) more
-              ∙ standing_more (list_of kd c) (moments scene.events) (moments es) (listed kd c scene.core.waiting) (listed kd c k'.waiting) h.stand s.goes;
+              ∙ standing_more (list_of kd c) (moments scene.events) (moments es) (listed kd c scene.core.waiting)
+              (listed kd c k'.waiting) h.stand shows_queue.goes;
           legal =
               subst (IsLegal (list_of kd c)) (sym more)
-              (legal_more (list_of kd c) (moments scene.events) (moments es) (listed kd c scene.core.waiting) h.legal h.stand s.answers);
-          answers = Each-append (AnswersRight c) scene.events es h.answers s.right;
-          lengths = Each-append (TellsLength c) scene.events es h.lengths s.lengths;
-          grants = Each-append GrantsRight scene.events es h.grants s.grants;
-          reached = s.reached;
-          within = s.within;
+              (legal_more (list_of kd c) (moments scene.events) (moments es) (listed kd c scene.core.waiting) h.legal h.stand shows_queue.answers);
+          answers = Each-append (AnswersRight c) scene.events es h.answers shows_queue.right;
+          lengths = Each-append (TellsLength c) scene.events es h.lengths shows_queue.lengths;
+          grants = Each-append GrantsRight scene.events es h.grants shows_queue.grants;
+          reached = shows_queue.reached;
+          within = shows_queue.within;
         }
 
   -- what a turn shows that writes events of its own party alone, where its span was this

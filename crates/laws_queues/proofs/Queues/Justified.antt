@@ -165,11 +165,11 @@ module _ {T : Type 0} (own : QueueKind) (t : Trace T) (turn : Turn T) (p : ℕ) 
         → Waits (Overflow (overflow_pop_at c room stage)) → (0 < c → finding_none own c ≡ Some load_of_write)
         → (c ≡ 0 → finding_none own c ≡ None) → Tells Pop (Overflow (overflow_pop_at c room stage)) old
         → Acting Pop (Overflow (overflow_pop_at c room stage)) old
-    overflow_pop_right k place room overflow_pops.FindsNone old knows asks handed waiter some none h =
-        pop_acts (after en (Overflow (overflow_pop_at c room overflow_pops.FindsNone)) old) refl (asks ∙ sym (none knows)) h
-    overflow_pop_right k place room overflow_pops.LoadsRead old knows asks handed waiter some none h = tt
-    overflow_pop_right k place room (overflow_pops.LoadsWrite read) old knows asks handed waiter some none h =
-        pop_acts (after en flight old) (finds (old == read) refl) (asks ∙ sym (some knows.0)) h
+    overflow_pop_right k place room overflow_pops.FindsNone old knows asks handed waiter some none tells =
+        pop_acts (after en (Overflow (overflow_pop_at c room overflow_pops.FindsNone)) old) refl (asks ∙ sym (none knows)) tells
+    overflow_pop_right k place room overflow_pops.LoadsRead old knows asks handed waiter some none tells = tt
+    overflow_pop_right k place room (overflow_pops.LoadsWrite read) old knows asks handed waiter some none tells =
+        pop_acts (after en flight old) (finds (old == read) refl) (asks ∙ sym (some knows.0)) tells
       where
         flight : QueueFlight T
         flight = Overflow (overflow_pop_at c room (overflow_pops.LoadsWrite read))
@@ -177,8 +177,8 @@ module _ {T : Type 0} (own : QueueKind) (t : Trace T) (turn : Turn T) (p : ℕ) 
         finds : (b : Bool) → (old == read) ≡ b → FindsNone (after en flight old)
         finds true e = rw e refl
         finds false e = rw e tt
-    overflow_pop_right k place room (overflow_pops.LoadsCell read) old knows asks handed waiter some none h = tt
-    overflow_pop_right k place room (overflow_pops.MovesRead read) old knows asks handed waiter some none h =
+    overflow_pop_right k place room (overflow_pops.LoadsCell read) old knows asks handed waiter some none tells = tt
+    overflow_pop_right k place room (overflow_pops.MovesRead read) old knows asks handed waiter some none tells =
         taking (Index (get_or words (cell_word c read) 0)) waits
         (λ q w is same. let here = waiter q w is same in absurd (cc)) room
         (record { capacity = c; stage = overflow_pops.LoadsCell old }) (old == read)
@@ -207,7 +207,7 @@ module _ {T : Type 0} (own : QueueKind) (t : Trace T) (turn : Turn T) (p : ℕ) 
         → (c ≡ 0 → finding_none own c ≡ None)
         → asked ≡ ask_of (want en (Overflow call)) → old ≡ old_of (k.write ∷ k.read ∷ place.rest) asked
         → Waits (Overflow call) → Tells start (Overflow call) old → Acting start (Overflow call) old
-    overflow_right ro k place (PushIndex v) (overflows.Push run) old at some none asks handed waiter h =
+    overflow_right ro k place (PushIndex v) (overflows.Push run) old at some none asks handed waiter tells =
         subst (λ n. asked ≡ ask_of (want en (Overflow (overflow_push_at n run.given run.room run.call.stage)))
         → Acting (PushIndex v) (Overflow (overflow_push_at n run.given run.room run.call.stage)) old)
         (sym at.1)
@@ -216,17 +216,17 @@ module _ {T : Type 0} (own : QueueKind) (t : Trace T) (turn : Turn T) (p : ℕ) 
         (sym at.2)
         (λ asks. overflow_push_right k place v run.room run.call.stage old at.3 asks handed))
         asks
-    overflow_right ro k place Pop (overflows.Pop run) old at some none asks handed waiter h =
+    overflow_right ro k place Pop (overflows.Pop run) old at some none asks handed waiter tells =
         subst (λ x. Tells Pop (Overflow (overflow_pop_at x run.room run.call.stage)) old
         → asked ≡ ask_of (want en (Overflow (overflow_pop_at x run.room run.call.stage)))
         → Waits (Overflow (overflow_pop_at x run.room run.call.stage))
         → Acting Pop (Overflow (overflow_pop_at x run.room run.call.stage)) old)
         (sym at.1)
         (λ right asks waiter. overflow_pop_right k place run.room run.call.stage old at.2 asks handed waiter some none right)
-        h
+        tells
         asks
         waiter
-    overflow_right ro k place start call old at some none asks handed waiter h = absurd at
+    overflow_right ro k place start call old at some none asks handed waiter tells = absurd at
 
     -- what a step of a call of any of the three kinds says of who acts is right
     step_right : (kd : QueueKind) → own ≡ kd
@@ -234,22 +234,22 @@ module _ {T : Type 0} (own : QueueKind) (t : Trace T) (turn : Turn T) (p : ℕ) 
         → At en kd c ro k p start flight → asked ≡ ask_of (want en flight)
         → old ≡ old_of (k.write ∷ k.read ∷ place.rest) asked → Waits flight
         → Tells start flight old → Acting start flight old
-    step_right kd same ro k place start (Role call) old at asks handed waiter h = tt
-    step_right kinds.IndexQueue same ro k place start (Indices call) old at asks handed waiter h =
-        index_right ro k place start call old at (ap (λ n. finding_none n c) same ∙ ring_finds of_indices c) asks h
-    step_right kinds.Overflow same ro k place start (Indices call) old at asks handed waiter h = absurd at
-    step_right kinds.Queue same ro k place start (Indices call) old at asks handed waiter h = absurd at
-    step_right kinds.IndexQueue same ro k place start (Values call) old at asks handed waiter h = absurd at
-    step_right kinds.Overflow same ro k place start (Values call) old at asks handed waiter h = absurd at
-    step_right kinds.Queue same ro k place start (Values call) old at asks handed waiter h =
-        value_right ro k place start call old at (ap (λ n. finding_none n c) same ∙ ring_finds of_values c) asks h
-    step_right kinds.IndexQueue same ro k place start (Overflow call) old at asks handed waiter h = absurd at
-    step_right kinds.Overflow same ro k place start (Overflow call) old at asks handed waiter h =
+    step_right kd same ro k place start (Role call) old at asks handed waiter tells = tt
+    step_right kinds.IndexQueue same ro k place start (Indices call) old at asks handed waiter tells =
+        index_right ro k place start call old at (ap (λ n. finding_none n c) same ∙ ring_finds of_indices c) asks tells
+    step_right kinds.Overflow same ro k place start (Indices call) old at asks handed waiter tells = absurd at
+    step_right kinds.Queue same ro k place start (Indices call) old at asks handed waiter tells = absurd at
+    step_right kinds.IndexQueue same ro k place start (Values call) old at asks handed waiter tells = absurd at
+    step_right kinds.Overflow same ro k place start (Values call) old at asks handed waiter tells = absurd at
+    step_right kinds.Queue same ro k place start (Values call) old at asks handed waiter tells =
+        value_right ro k place start call old at (ap (λ n. finding_none n c) same ∙ ring_finds of_values c) asks tells
+    step_right kinds.IndexQueue same ro k place start (Overflow call) old at asks handed waiter tells = absurd at
+    step_right kinds.Overflow same ro k place start (Overflow call) old at asks handed waiter tells =
         let finds = overflow_finds c in
         overflow_right ro k place start call old at (λ some. ap (λ n. finding_none n c) same ∙ finds.0 some)
-        (λ none. ap (λ n. finding_none n c) same ∙ finds.1 none) asks handed waiter h
-    step_right kinds.Queue same ro k place start (Overflow call) old at asks handed waiter h = absurd at
-    step_right kd same ro k place start (Length which call) old at asks handed waiter h = tt
+        (λ none. ap (λ n. finding_none n c) same ∙ finds.1 none) asks handed waiter tells
+    step_right kinds.Queue same ro k place start (Overflow call) old at asks handed waiter tells = absurd at
+    step_right kd same ro k place start (Length which call) old at asks handed waiter tells = tt
 
 -- ---- every turn
 

@@ -76,31 +76,31 @@ module _ {T : Type 0} (en : Coding T) (kd : QueueKind) (scene : Scene T kd) (inv
 
     -- the load of the write position does what a step should
     loads_write : steps ≤ 4 * backs + 0 → Knows lens.LoadsWrite → StaysAt lens.LoadsWrite
-    loads_write s h =
+    loads_write s knows =
         quiet en kd scene inv small before false start (Some load_of_write) (call_at which c (lens.LoadsRead k.write)) k refl refl refl refl g refl
         (record { span = refl; steps = omega arith; at = at (lens.LoadsRead k.write) })
         (omega arith, omega arith, omega arith)
-        (λ q ne st f h. (h, refl))
+        (λ q ne st f knows. (knows, refl))
 
     -- so does the load of the read position
     loads_read : (write : ℕ) → steps ≤ 4 * backs + 1
         → Knows (lens.LoadsRead write)
         → StaysAt (lens.LoadsRead write)
-    loads_read write s h =
-        let low = h.0 in
-        let paid = h.2 in
+    loads_read write s knows =
+        let low = knows.0 in
+        let paid = knows.2 in
         quiet en kd scene inv small before false start (Some load_of_read)
         (call_at which c (lens.LoadsWriteAgain write k.read)) k refl refl refl refl g refl
         (record { span = refl; steps = omega arith; at = at (lens.LoadsWriteAgain write k.read) })
         ((omega arith, omega arith, omega arith), λ same. rw same waits_now)
-        (λ q ne st f h. (h, refl))
+        (λ q ne st f knows. (knows, refl))
 
     -- the second load of the write position does so: it goes on where it finds the same, and else
     -- turns back
     loads_write_again : (write read : ℕ) → steps ≤ 4 * backs + 2
         → Knows (lens.LoadsWriteAgain write read)
         → StaysAt (lens.LoadsWriteAgain write read)
-    loads_write_again write read s h = go (k.write == write) refl
+    loads_write_again write read s knows = go (k.write == write) refl
       where
         -- so it is by whether the write position is the one that was loaded
         go : (b : Bool) → (k.write == write) ≡ b
@@ -108,31 +108,31 @@ module _ {T : Type 0} (en : Coding T) (kd : QueueKind) (scene : Scene T kd) (inv
             (goes_on (cond b (GoOn (record { capacity = c; stage = lens.LoadsReadAgain write read })) (GoOn (first_len c))))
             Quiet
         go true e =
-            let low = h.0.0 in
-            let early = h.0.1 in
-            let paid = h.0.2 in
+            let low = knows.0.0 in
+            let early = knows.0.1 in
+            let paid = knows.0.2 in
             let same : write ≡ k.write = grind (arith, nat_tests) in
             quiet en kd scene inv small before false start (Some load_of_write)
             (call_at which c (lens.LoadsReadAgain write read)) k refl refl refl refl g refl
             (record { span = refl; steps = omega arith; at = at (lens.LoadsReadAgain write read) })
-            ((omega arith, omega arith, omega arith), h.1 same)
-            (λ q ne st f h. (h, refl))
+            ((omega arith, omega arith, omega arith), knows.1 same)
+            (λ q ne st f knows. (knows, refl))
         go false e =
-            let low = h.0.0 in
-            let early = h.0.1 in
-            let paid = h.0.2 in
+            let low = knows.0.0 in
+            let early = knows.0.1 in
+            let paid = knows.0.2 in
             let moved : k.write ≢ write = grind (arith, nat_tests) in
             quiet en kd scene inv small before true start (Some load_of_write) (call_at which c lens.LoadsWrite) k refl refl refl refl g refl
             (record { span = refl; steps = omega arith; at = at lens.LoadsWrite })
             (omega arith)
-            (λ q ne st f h. (h, refl))
+            (λ q ne st f knows. (knows, refl))
 
     -- the second load of the read position does so: it ends with the number that waits where it
     -- finds the same, and else turns back
     loads_read_again : (write read : ℕ) → steps ≤ 4 * backs + 3
         → Knows (lens.LoadsReadAgain write read)
         → StaysAt (lens.LoadsReadAgain write read)
-    loads_read_again write read s h = go (k.read == read) refl
+    loads_read_again write read s knows = go (k.read == read) refl
       where
         -- so it is by whether the read position is the one that was loaded
         go : (b : Bool) → (k.read == read) ≡ b
@@ -140,38 +140,38 @@ module _ {T : Type 0} (en : Coding T) (kd : QueueKind) (scene : Scene T kd) (inv
             (goes_on (cond b (Done (number_waiting c write read)) (GoOn (first_len c))))
             Quiet
         go true e =
-            let low = h.0.0 in
-            let early = h.0.1 in
-            let paid = h.0.2 in
+            let low = knows.0.0 in
+            let early = knows.0.1 in
+            let paid = knows.0.2 in
             let room = most backs in
             let none : backs + 0 ≡ backs = omega arith in (
               k,
               refl,
               ends en kd scene inv small ro false start (length_answer which c (number_waiting c write read)) (Some load_of_read)
                   (wrote (number_waiting c write read))
-                  (tells write read h.1)
+                  (tells write read knows.1)
                   (grants (number_waiting c write read))
                   (holders (number_waiting c write read))
                   (rw none (omega arith))
                   (omega arith)
                   (still_hangs en kd scene inv small k _ refl refl refl before)
-                  (λ q ne st f h. (h, refl)),
+                  (λ q ne st f knows. (knows, refl)),
             )
         go false e =
-            let low = h.0.0 in
-            let early = h.0.1 in
-            let paid = h.0.2 in
+            let low = knows.0.0 in
+            let early = knows.0.1 in
+            let paid = knows.0.2 in
             let moved : k.read ≢ read = grind (arith, nat_tests) in
             quiet en kd scene inv small before true start (Some load_of_read) (call_at which c lens.LoadsWrite) k refl refl refl refl g refl
             (record { span = refl; steps = omega arith; at = at lens.LoadsWrite })
             (omega arith)
-            (λ q ne st f h. (h, refl))
+            (λ q ne st f knows. (knows, refl))
 
     length_step : (stage : LenStage) → steps ≤ 4 * backs + len_number stage → Knows stage → StaysAt stage
-    length_step lens.LoadsWrite s h = loads_write s h
-    length_step (lens.LoadsRead write) s h = loads_read write s h
-    length_step (lens.LoadsWriteAgain write read) s h = loads_write_again write read s h
-    length_step (lens.LoadsReadAgain write read) s h = loads_read_again write read s h
+    length_step lens.LoadsWrite s knows = loads_write s knows
+    length_step (lens.LoadsRead write) s knows = loads_read write s knows
+    length_step (lens.LoadsWriteAgain write read) s knows = loads_write_again write read s knows
+    length_step (lens.LoadsReadAgain write read) s knows = loads_read_again write read s knows
 
   pub len_step : (stage : LenStage) → steps ≤ 4 * backs + len_number stage → Knows stage
       → StepOf en kd scene starts.Len (call_at measures.Len c stage)

@@ -43,21 +43,21 @@ module _ {T : Type 0} where
 -- what a pending push tells of a queue is so of another core in which the same waits
 pub hangs_same : (T : Type 0) (kd : QueueKind) (c : ℕ) (k k' : Core (Val T kd)) (o o' : Option (ℕ × ℕ))
     → k'.waiting ≡ k.waiting → o' ≡ o → Hangs T kd c k o → Hangs T kd c k' o'
-hangs_same T kinds.IndexQueue c k k' o o' same e h = tt
-hangs_same T kinds.Queue c k k' o o' same e h = tt
-hangs_same T kinds.Overflow c k k' o o' same e h = subst (Hangs T kinds.Overflow c k') (sym e) (go o h)
+hangs_same T kinds.IndexQueue c k k' o o' same e hangs = tt
+hangs_same T kinds.Queue c k k' o o' same e hangs = tt
+hangs_same T kinds.Overflow c k k' o o' same e hangs = subst (Hangs T kinds.Overflow c k') (sym e) (go o hangs)
   where
     go : (o : Option (ℕ × ℕ)) → Hangs T kinds.Overflow c k o → Hangs T kinds.Overflow c k' o
-    go None h = rw same h
-    go (Some push) h = (h.0, h.1, same ∙ h.2, h.3)
+    go None hangs = rw same hangs
+    go (Some push) hangs = (hangs.0, hangs.1, same ∙ hangs.2, hangs.3)
 
 -- where no push is pending
 pub few_wait : {T : Type 0} → (en : Coding T) (kd : QueueKind) (c : ℕ) (k : Core (Val T kd)) (o : Option (ℕ × ℕ))
     → o ≡ None → Good (encoded en kd).size (encoded en kd).words_of (cells_of kd c) k → Hangs T kd c k o
     → length k.waiting ≤ c
-few_wait {T = T} en kinds.IndexQueue c k o e g h = g.few
-few_wait {T = T} en kinds.Queue c k o e g h = g.few
-few_wait {T = T} en kinds.Overflow c k o e g h = subst (Hangs T kinds.Overflow c k) e h
+few_wait {T = T} en kinds.IndexQueue c k o e good hangs = good.few
+few_wait {T = T} en kinds.Queue c k o e good hangs = good.few
+few_wait {T = T} en kinds.Overflow c k o e good hangs = subst (Hangs T kinds.Overflow c k) e hangs
 
 pub none_hangs : (T : Type 0) (kd : QueueKind) (c : ℕ) (k : Core (Val T kd)) (o : Option (ℕ × ℕ)) → o ≡ None → length k.waiting ≤ c → Hangs T kd c k o
 none_hangs T kinds.IndexQueue c k o e few = tt
@@ -68,9 +68,9 @@ none_hangs T kinds.Overflow c k o e few = subst (Hangs T kinds.Overflow c k) (sy
 pub nothing_waits : {T : Type 0}
     → (en : Coding T) (kd : QueueKind) (c : ℕ) (k : Core (Val T kd)) (o : Option (ℕ × ℕ)) → c ≡ 0
     → Good (encoded en kd).size (encoded en kd).words_of (cells_of kd c) k → Hangs T kd c k o → length k.waiting ≡ 0
-nothing_waits {T = T} en kinds.IndexQueue c k o e g h = let few = g.few in omega arith
-nothing_waits {T = T} en kinds.Queue c k o e g h = let few = g.few in omega arith
-nothing_waits {T = T} en kinds.Overflow c k o e g h = go o h
+nothing_waits {T = T} en kinds.IndexQueue c k o e good hangs = let few = good.few in omega arith
+nothing_waits {T = T} en kinds.Queue c k o e good hangs = let few = good.few in omega arith
+nothing_waits {T = T} en kinds.Overflow c k o e good hangs = go o hangs
   where
     go : (o : Option (ℕ × ℕ)) → Hangs T kinds.Overflow c k o → length k.waiting ≡ 0
     go = grind arith

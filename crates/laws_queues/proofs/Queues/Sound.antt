@@ -79,8 +79,8 @@ module _ {T : Type 0} (en : Coding T) where
   stored_waiting : IsCoding en → (kd : QueueKind) (c : ℕ) (ro : Roles) (k : Core (Val T kd))
       → Good (encoded en kd).size (encoded en kd).words_of (cells_of kd c) k
       → waiting_in en kd c (layout ro k) ≡ map (item kd) k.waiting
-  stored_waiting law kd c ro k g =
-      let write = g.write in
+  stored_waiting law kd c ro k good =
+      let write = good.write in
       let many : k.write - k.read ≡ length k.waiting = omega arith in
       rw many
       (stored_is law kd c (layout ro k) k.read k.waiting held)
@@ -95,17 +95,17 @@ module _ {T : Type 0} (en : Coding T) where
       held : (i : ℕ) (v : Val T kd) → slice_get k.waiting i ≡ Some v → item_at en kd (layout ro k) (cell_of en kd c (k.read + i)) ≡ item kd v
       held i v e =
           let below = at_below size (encoded en kd).words_of n k.waiting i v e in
-          let few = g.few in
+          let few = good.few in
           let some : 0 < n = omega arith in
           let first : cell_of en kd c (k.read + i) ≡ 4 + size * ((k.read + i) % n) =
           ap (λ m. cell_word n m (k.read + i)) (cell_size en kd) ∙ cell_place size n (k.read + i) some in
           let low : (k.read + i) % n < n = omega arith in
           let step : size * ((k.read + i) % n + 1) ≤ size * n = mul-le-mul_left size (omega arith) in
-          let all = g.cells in
+          let all = good.cells in
           let word : (j : ℕ) → j < size → get_or (layout ro k) (4 + size * ((k.read + i) % n) + j) 0 ≡ get_or ((encoded en kd).words_of v) j 0 =
           λ j js.
           word_at k.write k.read (free ro.producer) (free ro.consumer) k.cells (4 + size * ((k.read + i) % n) + j) (size * ((k.read + i) % n) + j) (omega arith)
-          ∙ g.held i v e j js
+          ∙ good.held i v e j js
           in
           subst (λ m. item_at en kd (layout ro k) m ≡ item kd v) (sym first)
           (item_is law kd (layout ro k) (4 + size * ((k.read + i) % n)) v (omega arith) word)
@@ -114,16 +114,16 @@ module _ {T : Type 0} (en : Coding T) where
   listed_is : (kd : QueueKind) (c : ℕ) (k : Core (Val T kd))
       → Good (encoded en kd).size (encoded en kd).words_of (cells_of kd c) k
       → listed {T = T} kd c k.waiting ≡ take c (map (item kd) k.waiting)
-  listed_is IndexQueue c k g =
-      let few = g.few in
+  listed_is IndexQueue c k good =
+      let few = good.few in
       let long : length (map {B = Item T} (item IndexQueue) k.waiting) ≡ length k.waiting = length-map k.waiting (item {T = T} IndexQueue) in
       sym (take_all c (map {B = Item T} (item IndexQueue) k.waiting) (omega arith))
-  listed_is kinds.Queue c k g =
-      let few = g.few in
+  listed_is kinds.Queue c k good =
+      let few = good.few in
       let long : length (map {B = Item T} (item kinds.Queue) k.waiting) ≡ length k.waiting =
       length-map k.waiting (item {T = T} kinds.Queue) in
       sym (take_all c (map {B = Item T} (item kinds.Queue) k.waiting) (omega arith))
-  listed_is kinds.Overflow c k g = sym (take-map (item {T = T} kinds.Overflow) c k.waiting)
+  listed_is kinds.Overflow c k good = sym (take-map (item {T = T} kinds.Overflow) c k.waiting)
 
   -- ---- what is promised
 
@@ -262,8 +262,8 @@ module _ {T : Type 0} (en : Coding T) (law : IsCoding en) where
 
 module _ {T : Type 0} (kd : QueueKind) where
   few : (code : Coding T) (c : ℕ) (t : Trace T) (turn : Turn T) → frame.Sound (family code kd c) t → t.world.turns < 2 ^ 64 - 2 → IsFreshTurn t turn
-  few code c t (Next p) s small = few_turns code kd c t s small p
-  few code c t turn s small = tt
+  few code c t (Next p) sound small = few_turns code kd c t sound small p
+  few code c t turn sound small = tt
 
   -- the family opens soundly and keeps what holds, at every capacity that is admitted
   all_turns : AllTurns {T = T} (outline kd) IsFreshTurn

@@ -24,8 +24,8 @@ pub or_true : (a b : Bool) → (a || b) ≡ true → (a ≡ true) ⊎ (b ≡ tru
 or_true = grind arith
 
 pub first_of_some : {A : Type 0} → (xs : List A) → 0 < length xs → (x : A) × (rest : List A) × (xs ≡ x ∷ rest)
-first_of_some [] h = absurd (omega arith)
-first_of_some (x ∷ xs) h = (x, xs, refl)
+first_of_some [] length_positive = absurd (omega arith)
+first_of_some (x ∷ xs) length_positive = (x, xs, refl)
 
 pub or_false : (a b : Bool) → (a || b) ≡ false → (a ≡ false) × (b ≡ false)
 or_false = grind arith

@@ -53,19 +53,19 @@ module _ {T : Type 0} (en : Coding T) (kd : QueueKind) (scene : Scene T kd) (sma
   -- the step of a call on a role shows what a step should
   role_step : (start : QueueStart T) (call : RoleCall) → RoleAt scene.roles scene.party start call → scene.steps ≤ 0
       → scene.backs ≡ 0 → IsCalm en kd scene scene.core.read → StepOf en kd scene start (Role call)
-  role_step AcquireProducer (Acquire run) at s b before =
-      subst (λ w. StepOf en kd scene AcquireProducer (acquire_of w)) (sym at) (acquires_producer en kd scene small s b inv before)
-  role_step ReleaseProducer (Release run) at s b before =
-      subst (λ w. StepOf en kd scene ReleaseProducer (release_of w)) (sym at.0) (releases_producer en kd scene small s b at.1 inv before)
-  role_step AcquireConsumer (Acquire run) at s b before =
-      subst (λ w. StepOf en kd scene AcquireConsumer (acquire_of w)) (sym at) (acquires_consumer en kd scene small s b inv before)
-  role_step ReleaseConsumer (Release run) at s b before =
-      subst (λ w. StepOf en kd scene ReleaseConsumer (release_of w)) (sym at.0) (releases_consumer en kd scene small s b at.1 inv before)
-  role_step HasProducer (Look run) at s b before =
-      subst (λ w. StepOf en kd scene HasProducer (look_of w)) (sym at) (looks_at_producer en kd scene small s b inv before)
-  role_step HasConsumer (Look run) at s b before =
-      subst (λ w. StepOf en kd scene HasConsumer (look_of w)) (sym at) (looks_at_consumer en kd scene small s b inv before)
-  role_step start call at s b before = absurd at
+  role_step AcquireProducer (Acquire run) at s backs_are_zero before =
+      subst (λ w. StepOf en kd scene AcquireProducer (acquire_of w)) (sym at) (acquires_producer en kd scene small s backs_are_zero inv before)
+  role_step ReleaseProducer (Release run) at s backs_are_zero before =
+      subst (λ w. StepOf en kd scene ReleaseProducer (release_of w)) (sym at.0) (releases_producer en kd scene small s backs_are_zero at.1 inv before)
+  role_step AcquireConsumer (Acquire run) at s backs_are_zero before =
+      subst (λ w. StepOf en kd scene AcquireConsumer (acquire_of w)) (sym at) (acquires_consumer en kd scene small s backs_are_zero inv before)
+  role_step ReleaseConsumer (Release run) at s backs_are_zero before =
+      subst (λ w. StepOf en kd scene ReleaseConsumer (release_of w)) (sym at.0) (releases_consumer en kd scene small s backs_are_zero at.1 inv before)
+  role_step HasProducer (Look run) at s backs_are_zero before =
+      subst (λ w. StepOf en kd scene HasProducer (look_of w)) (sym at) (looks_at_producer en kd scene small s backs_are_zero inv before)
+  role_step HasConsumer (Look run) at s backs_are_zero before =
+      subst (λ w. StepOf en kd scene HasConsumer (look_of w)) (sym at) (looks_at_consumer en kd scene small s backs_are_zero inv before)
+  role_step start call at s backs_are_zero before = absurd at
 
   -- a step of a call that tells a length shows what a step should
   length_step : (start : QueueStart T) (which : LengthOf) (run : Running Len (Unit {0}) (Unit {0}))
@@ -73,16 +73,16 @@ module _ {T : Type 0} (en : Coding T) (kd : QueueKind) (scene : Scene T kd) (sma
       → scene.steps ≤ number_of en (Length which run) scene.backs
       → KnowsLen scene.capacity scene.core scene.party scene.events scene.since scene.changes scene.backs run.call.stage
       → IsCalm en kd scene scene.core.read → StepOf en kd scene start (Length which run)
-  length_step starts.Len measures.Len run at s b before =
+  length_step starts.Len measures.Len run at s knows_len before =
       subst (λ n. StepOf en kd scene starts.Len (Length measures.Len (len_at n run.call.stage)))
-      (sym at) (len_step en kd scene inv small before run.call.stage s b)
-  length_step IsEmpty measures.IsEmpty run at s b before =
+      (sym at) (len_step en kd scene inv small before run.call.stage s knows_len)
+  length_step IsEmpty measures.IsEmpty run at s knows_len before =
       subst (λ n. StepOf en kd scene IsEmpty (Length measures.IsEmpty (len_at n run.call.stage)))
-      (sym at) (is_empty_step en kd scene inv small before run.call.stage s b)
-  length_step IsFull measures.IsFull run at s b before =
+      (sym at) (is_empty_step en kd scene inv small before run.call.stage s knows_len)
+  length_step IsFull measures.IsFull run at s knows_len before =
       subst (λ n. StepOf en kd scene IsFull (Length measures.IsFull (len_at n run.call.stage))) (sym at)
-      (is_full_step en kd scene inv small before run.call.stage s b)
-  length_step start which call at s b before = absurd at
+      (is_full_step en kd scene inv small before run.call.stage s knows_len)
+  length_step start which call at s knows_len before = absurd at
 
 abbrev IsFreshRing : {V R : Type 0} → ℕ → RingCall V R → Type 0
 IsFreshRing write (rings.Push run) = IsFresh write run.call.stage
@@ -91,12 +91,12 @@ IsFreshRing write other = Unit {0}
 -- a call of a bounded queue that is fresh as one of any kind is fresh as one of a bounded queue
 fresh_ring : {T : Type 0} (en : Coding T) (write : ℕ) (r : Ring) (call : RingCall (Val T (kind_of r)) (Room r))
     → IsFreshAt {T = T} write (ring.flight r call) → IsFreshRing write call
-fresh_ring en write of_indices (rings.Push run) h = h
-fresh_ring en write of_indices (rings.Pop run) h = tt
-fresh_ring en write of_indices (rings.Peek run) h = tt
-fresh_ring en write of_values (rings.Push run) h = h
-fresh_ring en write of_values (rings.Pop run) h = tt
-fresh_ring en write of_values (rings.Peek run) h = tt
+fresh_ring en write of_indices (rings.Push run) is_fresh_at_holds = is_fresh_at_holds
+fresh_ring en write of_indices (rings.Pop run) is_fresh_at_holds = tt
+fresh_ring en write of_indices (rings.Peek run) is_fresh_at_holds = tt
+fresh_ring en write of_values (rings.Push run) is_fresh_at_holds = is_fresh_at_holds
+fresh_ring en write of_values (rings.Pop run) is_fresh_at_holds = tt
+fresh_ring en write of_values (rings.Peek run) is_fresh_at_holds = tt
 
 -- a bounded queue of either kind
 module _ {T : Type 0} (en : Coding T) (law : IsCoding en) (r : Ring) (scene : Scene T (kind_of r))
@@ -147,13 +147,13 @@ module _ {T : Type 0} (en : Coding T) (law : IsCoding en) where
       → IndexAt IndexQueue scene.capacity scene.roles scene.core scene.party start call
       → IsFreshRing scene.core.write call → scene.steps ≤ ring_number one_word in_one call → scene.backs ≡ 0
       → IsCalm en IndexQueue scene scene.core.read → StepOf en IndexQueue scene start (Indices call)
-  index_step scene small inv (PushIndex v) (rings.Push run) at fresh s b before =
-      push_call en law of_indices scene small inv b before v (rings.Push run) at s fresh
-  index_step scene small inv Pop (rings.Pop run) at fresh s b before =
-      pop_call en law of_indices scene small inv b before (rings.Pop run) at s
-  index_step scene small inv Peek (rings.Peek run) at fresh s b before =
-      peek_call en law of_indices scene small inv b before (rings.Peek run) at s
-  index_step scene small inv start call at fresh s b before = absurd at
+  index_step scene small inv (PushIndex v) (rings.Push run) at fresh s backs_are_zero before =
+      push_call en law of_indices scene small inv backs_are_zero before v (rings.Push run) at s fresh
+  index_step scene small inv Pop (rings.Pop run) at fresh s backs_are_zero before =
+      pop_call en law of_indices scene small inv backs_are_zero before (rings.Pop run) at s
+  index_step scene small inv Peek (rings.Peek run) at fresh s backs_are_zero before =
+      peek_call en law of_indices scene small inv backs_are_zero before (rings.Peek run) at s
+  index_step scene small inv start call at fresh s backs_are_zero before = absurd at
 
   -- so does a step of a push, pop or peek of the queue of values
   value_step : (scene : Scene T kinds.Queue) → scene.core.write < 2 ^ 64
@@ -162,13 +162,13 @@ module _ {T : Type 0} (en : Coding T) (law : IsCoding en) where
       → IsFreshRing scene.core.write call → scene.steps ≤ ring_number en in_cell call → scene.backs ≡ 0
       → IsCalm en kinds.Queue scene scene.core.read
       → StepOf en kinds.Queue scene start (Values call)
-  value_step scene small inv (Push v) (rings.Push run) at fresh s b before =
-      push_call en law of_values scene small inv b before v (rings.Push run) at s fresh
-  value_step scene small inv Pop (rings.Pop run) at fresh s b before =
-      pop_call en law of_values scene small inv b before (rings.Pop run) at s
-  value_step scene small inv Peek (rings.Peek run) at fresh s b before =
-      peek_call en law of_values scene small inv b before (rings.Peek run) at s
-  value_step scene small inv start call at fresh s b before = absurd at
+  value_step scene small inv (Push v) (rings.Push run) at fresh s backs_are_zero before =
+      push_call en law of_values scene small inv backs_are_zero before v (rings.Push run) at s fresh
+  value_step scene small inv Pop (rings.Pop run) at fresh s backs_are_zero before =
+      pop_call en law of_values scene small inv backs_are_zero before (rings.Pop run) at s
+  value_step scene small inv Peek (rings.Peek run) at fresh s backs_are_zero before =
+      peek_call en law of_values scene small inv backs_are_zero before (rings.Peek run) at s
+  value_step scene small inv start call at fresh s backs_are_zero before = absurd at
 
 -- where the party's call stands
 abbrev IsCall : {T : Type 0} → {kd : QueueKind} → Scene T kd → QueueStart T → QueueFlight T → Type 0
@@ -205,25 +205,27 @@ module _ {T : Type 0} (en : Coding T) (law : IsCoding en) where
       → scene.steps ≤ number_of en flight scene.backs
       → KnowsFlight scene.capacity scene.core scene.party scene.events scene.since scene.changes scene.backs flight
       → IsFreshAt scene.core.write flight → IsCall scene start flight → MovesOf en kd scene start flight
-  step_moves kd scene small inv start (Role call) at s b fresh is =
-      of_step en kd scene inv start (Role call) is.1 (role_step en kd scene small inv start call at s b (ap (pending_at scene.core.read) is.0))
-  step_moves IndexQueue scene small inv start (Indices call) at s b fresh is =
+  step_moves kd scene small inv start (Role call) at s knows_flight fresh is =
+      of_step en kd scene inv start (Role call) is.1 (role_step en kd scene small inv start call at s knows_flight (ap (pending_at scene.core.read) is.0))
+  step_moves IndexQueue scene small inv start (Indices call) at s knows_flight fresh is =
       of_step en IndexQueue scene inv start (Indices call) is.1
-      (index_step en law scene small inv start call at (fresh_ring en scene.core.write of_indices call fresh) s b
+      (index_step en law scene small inv start call at (fresh_ring en scene.core.write of_indices call fresh) s knows_flight
       (ap (pending_at scene.core.read) is.0))
-  step_moves kinds.Overflow scene small inv start (Indices call) at s b fresh is = absurd at
-  step_moves kinds.Queue scene small inv start (Indices call) at s b fresh is = absurd at
-  step_moves IndexQueue scene small inv start (Values call) at s b fresh is = absurd at
-  step_moves kinds.Overflow scene small inv start (Values call) at s b fresh is = absurd at
-  step_moves kinds.Queue scene small inv start (Values call) at s b fresh is =
+  step_moves kinds.Overflow scene small inv start (Indices call) at s knows_flight fresh is = absurd at
+  step_moves kinds.Queue scene small inv start (Indices call) at s knows_flight fresh is = absurd at
+  step_moves IndexQueue scene small inv start (Values call) at s knows_flight fresh is = absurd at
+  step_moves kinds.Overflow scene small inv start (Values call) at s knows_flight fresh is = absurd at
+  step_moves kinds.Queue scene small inv start (Values call) at s knows_flight fresh is =
       of_step en kinds.Queue scene inv start (Values call) is.1
-      (value_step en law scene small inv start call at (fresh_ring en scene.core.write of_values call fresh) s b
+      (value_step en law scene small inv start call at (fresh_ring en scene.core.write of_values call fresh) s knows_flight
       (ap (pending_at scene.core.read) is.0))
-  step_moves IndexQueue scene small inv start (Overflow call) at s b fresh is = absurd at
-  step_moves kinds.Overflow scene small inv start (Overflow call) at s b fresh is = overflow_step en scene small inv start call at s b fresh is
-  step_moves kinds.Queue scene small inv start (Overflow call) at s b fresh is = absurd at
-  step_moves kd scene small inv start (Length which call) at s b fresh is =
-      of_step en kd scene inv start (Length which call) is.1 (length_step en kd scene small inv start which call at s b (ap (pending_at scene.core.read) is.0))
+  step_moves IndexQueue scene small inv start (Overflow call) at s knows_flight fresh is = absurd at
+  step_moves kinds.Overflow scene small inv start (Overflow call) at s knows_flight fresh is =
+      overflow_step en scene small inv start call at s knows_flight fresh is
+  step_moves kinds.Queue scene small inv start (Overflow call) at s knows_flight fresh is = absurd at
+  step_moves kd scene small inv start (Length which call) at s knows_flight fresh is =
+      of_step en kd scene inv start (Length which call) is.1
+      (length_step en kd scene small inv start which call at s knows_flight (ap (pending_at scene.core.read) is.0))
 
 -- ---- what a turn comes to
 

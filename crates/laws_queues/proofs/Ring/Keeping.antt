@@ -18,10 +18,19 @@ module _ {V : Type 0} (en : Coding V) (c : ℕ) (k : Core V) where
   -- so does the next write position
   pub publish_keeps : (w : V) (room : List ℕ) (stage : PopStage) → KnowsPop en c k room stage
       → KnowsPop en c (published en.size en.words_of c k w) room stage
-  publish_keeps w room pops.LoadsRead h = h
-  publish_keeps w room (pops.LoadsWrite read) h = h
-  publish_keeps w room (pops.LoadsCell read cell place) h = (h.0, h.1, h.2 ++ w ∷ [], h.3, ap (λ xs. xs ++ w ∷ []) h.4, h.5, h.6, h.7)
-  publish_keeps w room (pops.StoresRead read) h = (h.0 ++ w ∷ [], h.1, ap (λ xs. xs ++ w ∷ []) h.2)
+  publish_keeps w room pops.LoadsRead knows_pop = knows_pop
+  publish_keeps w room (pops.LoadsWrite read) knows_pop = knows_pop
+  publish_keeps w room (pops.LoadsCell read cell place) knows_pop = (
+    knows_pop.0,
+    knows_pop.1,
+    knows_pop.2 ++ w ∷ [],
+    knows_pop.3,
+    ap (λ xs. xs ++ w ∷ []) knows_pop.4,
+    knows_pop.5,
+    knows_pop.6,
+    knows_pop.7,
+  )
+  publish_keeps w room (pops.StoresRead read) knows_pop = (knows_pop.0 ++ w ∷ [], knows_pop.1, ap (λ xs. xs ++ w ∷ []) knows_pop.2)
 
   -- and the next read position what a push knows
   pub take_keeps : (v : V) (rest : List V) → k.waiting ≡ v ∷ rest → (w : V) (stage : pushes.PushStage)
@@ -32,7 +41,7 @@ module _ {V : Type 0} (en : Coding V) (c : ℕ) (k : Core V) where
   pub peek_keeps : (k' : Core V) (room : List ℕ)
       → ((stage : PopStage) → KnowsPop en c k room stage → KnowsPop en c k' room stage)
       → (stage : PeekStage) → KnowsPeek en c k room stage → KnowsPeek en c k' room stage
-  peek_keeps k' room keeps peeks.LoadsRead h = keeps pops.LoadsRead h
-  peek_keeps k' room keeps (peeks.LoadsWrite read) h = keeps (pops.LoadsWrite read) h
-  peek_keeps k' room keeps (peeks.LoadsCell cell place) h =
-      let then = keeps (pops.LoadsCell k.read cell place) h in (then.0, then.1, then.2, refl, then.4, then.5, then.6, then.7)
+  peek_keeps k' room keeps peeks.LoadsRead knows_peek = keeps pops.LoadsRead knows_peek
+  peek_keeps k' room keeps (peeks.LoadsWrite read) knows_peek = keeps (pops.LoadsWrite read) knows_peek
+  peek_keeps k' room keeps (peeks.LoadsCell cell place) knows_peek =
+      let then = keeps (pops.LoadsCell k.read cell place) knows_peek in (then.0, then.1, then.2, refl, then.4, then.5, then.6, then.7)

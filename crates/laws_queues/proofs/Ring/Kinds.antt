@@ -102,8 +102,8 @@ module _ {T : Type 0} (en : Coding T) (r : Ring) where
 -- ---- what is so of both
 
 pub are_words : {T : Type 0} → (en : Coding T) (r : Ring) → IsCoding en → IsCoding (encoded en (kind_of r))
-are_words en of_indices h = record { some = omega arith; few = omega arith; sized = λ v. refl; given_back = λ v. refl }
-are_words en of_values h = h
+are_words en of_indices coding = record { some = omega arith; few = omega arith; sized = λ v. refl; given_back = λ v. refl }
+are_words en of_values coding = coding
 
 pub cells_are : (r : Ring) (c : ℕ) → cells_of (kind_of r) c ≡ c
 cells_are = grind arith
@@ -138,18 +138,18 @@ module _ {T : Type 0} where
   pub push_here : (en : Coding T) (r : Ring) (c : ℕ) (ro : Roles) (k : Core (Val T (kind_of r))) (p : ℕ)
       (v : Val T (kind_of r)) (call : RingCall (Val T (kind_of r)) (Room r))
       → PushAt (encoded en (kind_of r)) (words_in r) c ro k p v call → At en (kind_of r) c ro k p (push r v) (flight r call)
-  push_here en of_indices c ro k p v call h = h
-  push_here en of_values c ro k p v call h = h
+  push_here en of_indices c ro k p v call push_at_holds = push_at_holds
+  push_here en of_values c ro k p v call push_at_holds = push_at_holds
 
   pub pop_here : (en : Coding T) (r : Ring) (c : ℕ) (ro : Roles) (k : Core (Val T (kind_of r))) (p : ℕ) (call : RingCall (Val T (kind_of r)) (Room r))
       → PopAt (encoded en (kind_of r)) (words_in r) c ro k p call → At en (kind_of r) c ro k p Pop (flight r call)
-  pop_here en of_indices c ro k p call h = h
-  pop_here en of_values c ro k p call h = h
+  pop_here en of_indices c ro k p call pop_at_holds = pop_at_holds
+  pop_here en of_values c ro k p call pop_at_holds = pop_at_holds
 
   pub peek_here : (en : Coding T) (r : Ring) (c : ℕ) (ro : Roles) (k : Core (Val T (kind_of r))) (p : ℕ) (call : RingCall (Val T (kind_of r)) (Room r))
       → PeekAt (encoded en (kind_of r)) (words_in r) c ro k p call → At en (kind_of r) c ro k p Peek (flight r call)
-  peek_here en of_indices c ro k p call h = h
-  peek_here en of_values c ro k p call h = h
+  peek_here en of_indices c ro k p call peek_at_holds = peek_at_holds
+  peek_here en of_values c ro k p call peek_at_holds = peek_at_holds
 
   pub ring_keeps : (en : Coding T) (r : Ring) (c : ℕ) (ro : Roles) (k k' : Core (Val T (kind_of r))) (q : ℕ)
       → RingKeeps (encoded en (kind_of r)) c ro k k' q → Keeps en (kind_of r) c ro k k' q

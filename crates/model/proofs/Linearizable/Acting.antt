@@ -136,46 +136,48 @@ module _ {T : Type 0} (is_call : Start T → Bool) where
   pub told : (p : ℕ) (start : Start T) (answer : Answer T) (r : Response T) (es : List (Event T)) (place : ℕ) (going : ℕ → Standing T)
       → is_call start ≡ true → going p ≡ Some (start, Some answer) → ActsOnce es going → response_in p es place ≡ Some r
       → answer ≡ r.answer
-  told p start answer r [] place going t is once e = absurd (cc)
-  told p start answer r (Begun q s ∷ es) place going t is once e =
+  told p start answer r [] place going is_call_true is once e = absurd (cc)
+  told p start answer r (Begun q s ∷ es) place going is_call_true is once e =
       ⊎_elim (λ (same : p ≡ q). let clash : None ≡ Some (start, Some answer) = sym once.0 ∙ (sym (ap going same) ∙ is) in absurd (cc))
-      (λ (ne : p ≢ q). told p start answer r es (place + 1) (put q (Some (s, None)) going) t (put_other q p (Some (s, None)) going ne ∙ is) once.1 e)
+      (λ (ne : p ≢ q). told p start answer r es (place + 1) (put q (Some (s, None)) going) is_call_true (put_other q p (Some (s, None)) going ne ∙ is) once.1 e)
       (cases_eq p q)
-  told p start answer r (Acted q s a ∷ es) place going t is once e =
+  told p start answer r (Acted q s a ∷ es) place going is_call_true is once e =
       ⊎_elim (λ (same : p ≡ q). absurd (acted_clash start s answer (sym is ∙ (ap going same ∙ once.0))))
-      (λ (ne : p ≢ q). told p start answer r es (place + 1) (put q (Some (s, Some a)) going) t (put_other q p (Some (s, Some a)) going ne ∙ is) once.1 e)
+      (λ (ne : p ≢ q). told p start answer r es (place + 1) (put q (Some (s, Some a)) going) is_call_true
+      (put_other q p (Some (s, Some a)) going ne ∙ is) once.1 e)
       (cases_eq p q)
-  told p start answer r (Finished q s a ∷ es) place going t is once e =
+  told p start answer r (Finished q s a ∷ es) place going is_call_true is once e =
       ⊎_elim mine
-      (λ (ne : q ≢ p). told p start answer r es (place + 1) (put q None going) t
+      (λ (ne : q ≢ p). told p start answer r es (place + 1) (put q None going) is_call_true
       (put_other q p None going (λ h. ne (sym h)) ∙ is) once.1 (sym (passed p q s a es place ne) ∙ e))
       (cases_eq q p)
     where
       mine : q ≡ p → answer ≡ r.answer
       mine same =
-          let here : Some answer ≡ Some a = ends_as s a (going q) start (Some answer) (ap going same ∙ is) t once.0 in
+          let here : Some answer ≡ Some a = ends_as s a (going q) start (Some answer) (ap going same ∙ is) is_call_true once.0 in
           let its : response_at place a ≡ r = same_response (response_at place a) r (sym (responded p q s a es place same) ∙ e) in
           let last : a ≡ r.answer = ap (λ (r : Response T). r.answer) its in
           cc
-  told p start answer r (e ∷ es) place going t is once h = told p start answer r es (place + 1) going t is once h
+  told p start answer r (e ∷ es) place going is_call_true is once h = told p start answer r es (place + 1) going is_call_true is once h
 
   -- a call that has not acted yet acts before it ends
   pub acts_before : (p : ℕ) (start : Start T) (r : Response T) (es : List (Event T)) (place : ℕ)
       (going : ℕ → Standing T) (begun : ℕ → ℕ)
       → is_call start ≡ true → going p ≡ Some (start, None) → ActsOnce es going → response_in p es place ≡ Some r
       → Contains (order_in es place begun) (entry_at (begun p) p start (Some r) r.answer)
-  acts_before p start r [] place going begun t is once e = absurd (cc)
-  acts_before p start r (Begun q s ∷ es) place going begun t is once e =
+  acts_before p start r [] place going begun is_call_true is once e = absurd (cc)
+  acts_before p start r (Begun q s ∷ es) place going begun is_call_true is once e =
       ⊎_elim (λ (same : p ≡ q). let clash : None ≡ Some (start, None) = sym once.0 ∙ (sym (ap going same) ∙ is) in absurd (cc))
       (λ (ne : p ≢ q).
       subst (λ n. Contains (order_in es (place + 1) (put q place begun)) (entry_at n p start (Some r) r.answer)) (put_other q p place begun ne)
-      (acts_before p start r es (place + 1) (put q (Some (s, None)) going) (put q place begun) t (put_other q p (Some (s, None)) going ne ∙ is) once.1 e))
+      (acts_before p start r es (place + 1) (put q (Some (s, None)) going) (put q place begun) is_call_true
+      (put_other q p (Some (s, None)) going ne ∙ is) once.1 e))
       (cases_eq p q)
-  acts_before p start r (Acted q s a ∷ es) place going begun t is once e =
+  acts_before p start r (Acted q s a ∷ es) place going begun is_call_true is once e =
       ⊎_elim mine
       (λ (ne : p ≢ q).
       later (is_call s) (entry_at (begun q) q s (response_in q es (place + 1)) a) (entry_at (begun p) p start (Some r) r.answer) (order_in es (place + 1) begun)
-      (acts_before p start r es (place + 1) (put q (Some (s, Some a)) going) begun t (put_other q p (Some (s, Some a)) going ne ∙ is) once.1 e))
+      (acts_before p start r es (place + 1) (put q (Some (s, Some a)) going) begun is_call_true (put_other q p (Some (s, Some a)) going ne ∙ is) once.1 e))
       (cases_eq p q)
     where
       mine : p ≡ q → Contains (order_in (Acted q s a ∷ es) place begun) (entry_at (begun p) p start (Some r) r.answer)
@@ -185,25 +187,25 @@ module _ {T : Type 0} (is_call : Start T → Bool) where
           let now : put q (Some (s, Some a)) going p ≡ Some (start, Some a) =
           ap (put q (Some (s, Some a)) going) same ∙ (put_same q (Some (s, Some a)) going ∙ ap (λ (n : Start T). Some (n, Some a)) name)
           in
-          let its : a ≡ r.answer = told p start a r es (place + 1) (put q (Some (s, Some a)) going) t now once.1 e in
+          let its : a ≡ r.answer = told p start a r es (place + 1) (put q (Some (s, Some a)) going) is_call_true now once.1 e in
           first (is_call s) (entry_at (begun q) q s (response_in q es (place + 1)) a)
           (entry_at (begun p) p start (Some r) r.answer) (order_in es (place + 1) begun)
-          (ap is_call name ∙ t)
+          (ap is_call name ∙ is_call_true)
           (same_entry (begun q) (begun p) q p s start (response_in q es (place + 1)) (Some r) a r.answer
           (sym (ap begun same)) (sym same) name (ap (λ n. response_in n es (place + 1)) (sym same) ∙ e) its)
-  acts_before p start r (Finished q s a ∷ es) place going begun t is once e =
-      ⊎_elim (λ (same : q ≡ p). let clash : None ≡ Some a = ends_as s a (going q) start None (ap going same ∙ is) t once.0 in absurd (cc))
-      (λ (ne : q ≢ p). acts_before p start r es (place + 1) (put q None going) begun t
+  acts_before p start r (Finished q s a ∷ es) place going begun is_call_true is once e =
+      ⊎_elim (λ (same : q ≡ p). let clash : None ≡ Some a = ends_as s a (going q) start None (ap going same ∙ is) is_call_true once.0 in absurd (cc))
+      (λ (ne : q ≢ p). acts_before p start r es (place + 1) (put q None going) begun is_call_true
       (put_other q p None going (λ h. ne (sym h)) ∙ is) once.1 (sym (passed p q s a es place ne) ∙ e))
       (cases_eq q p)
-  acts_before p start r (e ∷ es) place going begun t is once h = acts_before p start r es (place + 1) going begun t is once h
+  acts_before p start r (e ∷ es) place going begun is_call_true is once h = acts_before p start r es (place + 1) going begun is_call_true is once h
 
   pub completed_act : (es : List (Event T)) (place : ℕ) (going : ℕ → Standing T) (begun : ℕ → ℕ) → ActsOnce es going
       → (c : Call T) (r : Response T) → Contains (calls_from es place) c → c.response ≡ Some r → is_call c.start ≡ true
       → Contains (order_in es place begun) (c, r.answer)
-  completed_act [] place going begun once c r h e t = absurd (none_there c h)
-  completed_act (Begun p start ∷ es) place going begun once c r h e t =
-      ⊎_elim mine (λ more. completed_act es (place + 1) (put p (Some (start, None)) going) (put p place begun) once.1 c r more e t)
+  completed_act [] place going begun once c r h e is_call_true = absurd (none_there c h)
+  completed_act (Begun p start ∷ es) place going begun once c r h e is_call_true =
+      ⊎_elim mine (λ more. completed_act es (place + 1) (put p (Some (start, None)) going) (put p place begun) once.1 c r more e is_call_true)
       (split (call_at place p start (response_in p es (place + 1))) c (calls_from es (place + 1)) h)
     where
       mine : call_at place p start (response_in p es (place + 1)) ≡ c → Contains (order_in es (place + 1) (put p place begun)) (c, r.answer)
@@ -216,9 +218,10 @@ module _ {T : Type 0} (is_call : Start T → Bool) where
           in
           subst (Contains (order_in es (place + 1) (put p place begun))) whole
           (acts_before p start r es (place + 1) (put p (Some (start, None)) going) (put p place begun)
-          (ap is_call name ∙ t) (put_same p (Some (start, None)) going) once.1 its)
-  completed_act (Acted p start answer ∷ es) place going begun once c r h e t =
+          (ap is_call name ∙ is_call_true) (put_same p (Some (start, None)) going) once.1 its)
+  completed_act (Acted p start answer ∷ es) place going begun once c r h e is_call_true =
       later (is_call start) (entry_at (begun p) p start (response_in p es (place + 1)) answer) (c, r.answer) (order_in es (place + 1) begun)
-      (completed_act es (place + 1) (put p (Some (start, Some answer)) going) begun once.1 c r h e t)
-  completed_act (Finished p start answer ∷ es) place going begun once c r h e t = completed_act es (place + 1) (put p None going) begun once.1 c r h e t
-  completed_act (x ∷ es) place going begun once c r h e t = completed_act es (place + 1) going begun once c r h e t
+      (completed_act es (place + 1) (put p (Some (start, Some answer)) going) begun once.1 c r h e is_call_true)
+  completed_act (Finished p start answer ∷ es) place going begun once c r h e is_call_true =
+      completed_act es (place + 1) (put p None going) begun once.1 c r h e is_call_true
+  completed_act (x ∷ es) place going begun once c r h e is_call_true = completed_act es (place + 1) going begun once c r h e is_call_true

@@ -22,30 +22,30 @@ module _ {T : Type 0} where
 
   others_of_list : (kind : QueueKind) (capacity : ℕ) (items : List (Item T)) (start : Start T)
       → is_push_or_pop start ≡ false → (list_of kind capacity).after items start ≡ items
-  others_of_list queue_kinds.IndexQueue capacity items start t = bounded start t
+  others_of_list queue_kinds.IndexQueue capacity items start is_push_or_pop_false = bounded start is_push_or_pop_false
     where
       bounded : (start : Start T) → is_push_or_pop start ≡ false → (list_of queue_kinds.IndexQueue capacity).after items start ≡ items
-      bounded (starts.Queues (queues.PushIndex index)) t = absurd (cc)
-      bounded (starts.Queues (queues.Push value)) t = absurd (cc)
-      bounded (starts.Queues queues.Pop) t = absurd (cc)
-      bounded (starts.Queues other) t = refl
-      bounded other t = refl
-  others_of_list queue_kinds.Overflow capacity items start t = overflowing start t
+      bounded (starts.Queues (queues.PushIndex index)) is_push_or_pop_false = absurd (cc)
+      bounded (starts.Queues (queues.Push value)) is_push_or_pop_false = absurd (cc)
+      bounded (starts.Queues queues.Pop) is_push_or_pop_false = absurd (cc)
+      bounded (starts.Queues other) is_push_or_pop_false = refl
+      bounded other is_push_or_pop_false = refl
+  others_of_list queue_kinds.Overflow capacity items start is_push_or_pop_false = overflowing start is_push_or_pop_false
     where
       overflowing : (start : Start T) → is_push_or_pop start ≡ false → (list_of queue_kinds.Overflow capacity).after items start ≡ items
-      overflowing (starts.Queues (queues.PushIndex index)) t = absurd (cc)
-      overflowing (starts.Queues (queues.Push value)) t = absurd (cc)
-      overflowing (starts.Queues queues.Pop) t = absurd (cc)
-      overflowing (starts.Queues other) t = refl
-      overflowing other t = refl
-  others_of_list queue_kinds.Queue capacity items start t = bounded start t
+      overflowing (starts.Queues (queues.PushIndex index)) is_push_or_pop_false = absurd (cc)
+      overflowing (starts.Queues (queues.Push value)) is_push_or_pop_false = absurd (cc)
+      overflowing (starts.Queues queues.Pop) is_push_or_pop_false = absurd (cc)
+      overflowing (starts.Queues other) is_push_or_pop_false = refl
+      overflowing other is_push_or_pop_false = refl
+  others_of_list queue_kinds.Queue capacity items start is_push_or_pop_false = bounded start is_push_or_pop_false
     where
       bounded : (start : Start T) → is_push_or_pop start ≡ false → (list_of queue_kinds.Queue capacity).after items start ≡ items
-      bounded (starts.Queues (queues.PushIndex index)) t = absurd (cc)
-      bounded (starts.Queues (queues.Push value)) t = absurd (cc)
-      bounded (starts.Queues queues.Pop) t = absurd (cc)
-      bounded (starts.Queues other) t = refl
-      bounded other t = refl
+      bounded (starts.Queues (queues.PushIndex index)) is_push_or_pop_false = absurd (cc)
+      bounded (starts.Queues (queues.Push value)) is_push_or_pop_false = absurd (cc)
+      bounded (starts.Queues queues.Pop) is_push_or_pop_false = absurd (cc)
+      bounded (starts.Queues other) is_push_or_pop_false = refl
+      bounded other is_push_or_pop_false = refl
 
   queue_linearizable : (kind : QueueKind) (t : Trace T) → IsKeptBy (queue_promises.promise kind) t → IsLinearizable (as_list kind t.world.capacity) t.events
   queue_linearizable kind t kept =

@@ -259,4 +259,4 @@ module _ {T State : Type 0} (spec : Specification T State) where
           begins (Later h) = h
 
           go : Comes spec.is_call x history 0 (λ p. None) (λ p. 0) → (spec.is_call x.0.start ≡ true) × Contains (calls_of history) x.0
-          go c = (c.call, begins c.source)
+          go comes_holds = (comes_holds.call, begins comes_holds.source)

@@ -65,8 +65,8 @@ module _ {T : Type 0} where
 
   begins : (n : ℕ) (w : World T) (p : ℕ) (start : Start T) → p < n → (o : Option (Flight T)) → is_none o ≡ false → flight_in w p ≡ None
       → Counts n w (after_begin w p start o) 0 1
-  begins n w p start below None e free = absurd (cc)
-  begins n w p start below (Some flight) e free =
+  begins n w p start below None is_none_false free = absurd (cc)
+  begins n w p start below (Some flight) is_none_false free =
       let moved = moves n w (after_begin w p start (Some flight)) p below (λ q ne. begun_stays w p start (Some flight) q ne) in
       let here : flight_in (after_begin w p start (Some flight)) p ≡ Some flight = ap (λ o. flight_of (doing_of o)) (party_put_same p _ w.latest) in
       let one : under (after_begin w p start (Some flight)) p ≡ 1 = rw here refl in
@@ -77,10 +77,10 @@ module _ {T : Type 0} where
   goes : (n : ℕ) (w : World T) (p : ℕ) (x : Party T) (ask : Option Ask) (answer : ℕ) (doing : Doing T) (flight : Flight T) → p < n
       → flight_in w p ≡ Some flight → party_of p w.latest ≡ Some x → x.doing ≡ doing
       → Counts n w (after_answer w p x ask answer doing) (ends (events_of_answer w p x answer doing)) 0
-  goes n w p x ask answer (Over others) flight below is found e =
-      let none : flight_in w p ≡ None = ap (λ o. flight_of (doing_of o)) found ∙ ap (λ d. flight_of (Some d)) e in
+  goes n w p x ask answer (Over others) flight below is found same_doing =
+      let none : flight_in w p ≡ None = ap (λ o. flight_of (doing_of o)) found ∙ ap (λ d. flight_of (Some d)) same_doing in
       absurd (cc)
-  goes n w p x ask answer (Going now since) flight below is found e = by_after s.after refl
+  goes n w p x ask answer (Going now since) flight below is found same_doing = by_after s.after refl
     where
       s : Step (Flight T) (Registry T) T
       s = step_in w p x now answer
@@ -96,9 +96,9 @@ module _ {T : Type 0} where
 
       here : (a : After (Flight T) (Answer T)) → s.after ≡ a
           → flight_in new p ≡ flight_of (Some (doing_after (w.changes + change_of w.words ask) (since + change_of w.words ask) a))
-      here a e =
+      here a same_doing =
           ap (λ o. flight_of (doing_of o)) (party_put_same p _ w.latest)
-          ∙ ap (λ a. flight_of (Some (doing_after (w.changes + change_of w.words ask) (since + change_of w.words ask) a))) e
+          ∙ ap (λ a. flight_of (Some (doing_after (w.changes + change_of w.words ask) (since + change_of w.words ask) a))) same_doing
 
       ended : ends (events_of_step p x.start s) ≡ ends (ending_of p x.start (answer_in s.after))
       ended =
@@ -107,16 +107,16 @@ module _ {T : Type 0} where
           omega arith
 
       by_after : (a : After (Flight T) (Answer T)) → s.after ≡ a → Counts n w new (ends (events_of_step p x.start s)) 0
-      by_after (GoOn next) e =
-          let there : under new p ≡ 1 = rw (here (GoOn next) e) refl in
-          let none : ends (ending_of p x.start (answer_in s.after)) ≡ 0 = rw e refl in
+      by_after (GoOn next) same_doing =
+          let there : under new p ≡ 1 = rw (here (GoOn next) same_doing) refl in
+          let none : ends (ending_of p x.start (answer_in s.after)) ≡ 0 = rw same_doing refl in
           let all = ended in
           let move = moved in
           let was = one in
           omega arith
-      by_after (Done result) e =
-          let there : under new p ≡ 0 = rw (here (Done result) e) refl in
-          let end : ends (ending_of p x.start (answer_in s.after)) ≡ 1 = rw e refl in
+      by_after (Done result) same_doing =
+          let there : under new p ≡ 0 = rw (here (Done result) same_doing) refl in
+          let end : ends (ending_of p x.start (answer_in s.after)) ≡ 1 = rw same_doing refl in
           let all = ended in
           let move = moved in
           let was = one in

@@ -41,7 +41,7 @@ module _ {T : Type 0} (M : WordMeasure T) where
 
   pub falls_by : (w : World T) (p : ℕ) (new : List ℕ) (now : Registry T) (steps : ℕ) (was : Flight T) (after : After (Flight T) (Answer T))
       → FallsIn w.words new steps was after → (next : Flight T) → after ≡ GoOn next → Falls (of_words M) w p new now steps was next
-  falls_by w p new now steps was after h next e = falls_there w p new now steps was next (subst (FallsIn w.words new steps was) e h)
+  falls_by w p new now steps was after falls_in_holds next e = falls_there w p new now steps was next (subst (FallsIn w.words new steps was) e falls_in_holds)
 
   -- a step of a call in these words, by its own table
   abbrev pub StepFalls : Coding T → List ℕ → Flight T → Type 0

@@ -43,7 +43,7 @@ module _ {T : Type 0} (kind : Kind) (F : Coding T → ℕ → Family T) (M : ℕ
       pub reached : IsReachedOn t
 
     there_sound : (c : ℕ) (t : Trace T) → IsThere c t → SoundThere t
-    there_sound c t h = L.sound t h.is h.reached
+    there_sound c t is_there = L.sound t is_there.is is_there.reached
 
     owed : (c n : ℕ) → Owed (M c) call_refusal (IsThere c) (IsBelow n)
     owed c n =

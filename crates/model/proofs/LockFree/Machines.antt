@@ -53,12 +53,12 @@ module _ {T : Type 0} where
       (((passes t.world turn all.0).on, rest.0), (here, rest.1))
 
   reached_on : (t : Trace T) → is_loan t.world.kind ≡ false → IsReached t → IsReachedOn t
-  reached_on t no_loan r =
+  reached_on t no_loan reached =
       kept_by_runs IsReachedOn (λ u turn e h. reached_on_more u turn (passes u.world turn e).on h) t
       (λ queue queued.
       subst IsReachedOn (sym (opened_others t.world.coding t.world.kind t.world.capacity queue t.world.parties no_loan))
-      (reached_on_opening t.world.coding t.world.kind t.world.capacity t.world.parties r.coded r.admitted))
-      r
+      (reached_on_opening t.world.coding t.world.kind t.world.capacity t.world.parties reached.coded reached.admitted))
+      reached
 
   pub machines : (kind : Kind) → is_loan kind ≡ false → (bound : Bound) → IsLockFree T kind bound → HasLockFreeRuns T kind bound
   machines kind no_loan bound free t is r turns all many =

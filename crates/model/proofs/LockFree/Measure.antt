@@ -205,11 +205,11 @@ module _ {T : Type 0} (M : Measure T) where
                 omega arith
 
         go : (after : After (Flight T) (Answer T)) → s.after ≡ after → Shows w new (step_count ask) (ends (events_of_step p x.start s))
-        go (GoOn next) e = goes_on next e
-        go (Done answer) e =
+        go (GoOn next) same_after = goes_on next same_after
+        go (Done answer) same_after =
             let most = at_most new within in
             let one = steps_small ask in
             let more = ended_more s.wrote (ending_of p x.start (answer_in s.after)) in
-            let end : ends (ending_of p x.start (answer_in s.after)) ≡ 1 = rw e refl in
+            let end : ends (ending_of p x.start (answer_in s.after)) ≡ 1 = rw same_after refl in
             let paid = worth 1 (ends (events_of_step p x.start s)) (bound + 1) (omega arith) in
             omega arith

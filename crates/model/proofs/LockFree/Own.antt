@@ -147,7 +147,7 @@ module _ {T : Type 0} (K : Outline T) where
       pub calls : (p : ℕ) → OwnParty w w.kept p (party_of p w.latest)
 
     laws_of : (w : World T) → IsOwn w → OwnLaws w.coding w.capacity
-    laws_of w h = laws w.coding w.capacity h.coded h.admitted
+    laws_of w own = laws w.coding w.capacity own.coded own.admitted
 
     -- ---- every turn keeps it
 
@@ -181,72 +181,72 @@ module _ {T : Type 0} (K : Outline T) where
 
     answer_keeps : (w : World T) (p : ℕ) (x : Party T) (ask : Option Ask) (answer : ℕ) (doing : Doing T) → IsOwn w
         → OwnDoing w w.kept p x.start doing → IsOwn (after_answer w p x ask answer doing)
-    answer_keeps w p x ask answer (Over others) h own = h
-    answer_keeps w p x ask answer (Going flight since) h own =
+    answer_keeps w p x ask answer (Over others) is_own own = is_own
+    answer_keeps w p x ask answer (Going flight since) is_own own =
         let beside = beside_of w.words w.kept w.latest p in
-        let L = laws_of w h in
-        let told = L.told w.words beside p x.start flight answer w.kept own.0 h.kept in
-        let goes = L.goes p x.start flight answer w.kept own.0 h.kept own.1 in
-        let stays = L.stays w.words beside p x.start flight answer w.kept own.0 h.kept in
+        let L = laws_of w is_own in
+        let told = L.told w.words beside p x.start flight answer w.kept own.0 is_own.kept in
+        let goes = L.goes p x.start flight answer w.kept own.0 is_own.kept own.1 in
+        let stays = L.stays w.words beside p x.start flight answer w.kept own.0 is_own.kept in
         let s = step_in w p x flight answer in
         record {
-          kind = h.kind;
-          coded = h.coded;
-          admitted = h.admitted;
+          kind = is_own.kind;
+          coded = is_own.coded;
+          admitted = is_own.admitted;
           kept = stays.0;
-          wide = as_long w.words ask ∙ h.wide;
+          wide = as_long w.words ask ∙ is_own.wide;
           calls =
               put_own w s.kept p (party_after x since w.changes (step_count ask) (change_of w.words ask) s) w.latest stays.1
               (doing_own w s.kept p x.start (w.changes + change_of w.words ask) (since + change_of w.words ask) s.after stays.1
-              (subst (OwnAfter w.coding w.capacity x.start) (sym told) goes.0) (subst (KnownAfter p w.kept) (sym told) goes.1)) h.calls;
+              (subst (OwnAfter w.coding w.capacity x.start) (sym told) goes.0) (subst (KnownAfter p w.kept) (sym told) goes.1)) is_own.calls;
         }
 
     own_there : (w : World T) → IsOwn w → (p : ℕ) (x : Party T) → party_of p w.latest ≡ Some x → OwnDoing w w.kept p x.start x.doing
-    own_there w h p x found = subst (OwnParty w w.kept p) found (h.calls p)
+    own_there w own p x found = subst (OwnParty w w.kept p) found (own.calls p)
 
     next_keeps : (w : World T) (p : ℕ) → IsOwn w → (o : Option (Party T)) → party_of p w.latest ≡ o → IsOwn (after_next w p o)
-    next_keeps w p h None found = h
-    next_keeps w p h (Some x) found =
-        answer_keeps w p x (ask_of_doing w.coding x.doing) (old_of w.words (ask_of_doing w.coding x.doing)) x.doing h (own_there w h p x found)
+    next_keeps w p own None found = own
+    next_keeps w p own (Some x) found =
+        answer_keeps w p x (ask_of_doing w.coding x.doing) (old_of w.words (ask_of_doing w.coding x.doing)) x.doing own (own_there w own p x found)
 
     decision_keeps : (w : World T) (p : ℕ) (said : Bool) → IsOwn w → (o : Option (Party T)) → party_of p w.latest ≡ o
         → IsOwn (after_decision w p said o)
-    decision_keeps w p said h None found = h
-    decision_keeps w p said h (Some x) found = answer_keeps w p x None (number_of said) x.doing h (own_there w h p x found)
+    decision_keeps w p said own None found = own
+    decision_keeps w p said own (Some x) found = answer_keeps w p x None (number_of said) x.doing own (own_there w own p x found)
 
     begun_keeps : (w : World T) (p : ℕ) (start : Start T) → K.Such start → IsOwn w → (o : Option (Flight T)) → first_of w.kind w.capacity start w.kept ≡ o
         → IsOwn (after_begin w p start o)
-    begun_keeps w p start such h None e = h
-    begun_keeps w p start such h (Some flight) e =
-        let L = laws_of w h in
-        let first : first_of K.kind w.capacity start w.kept ≡ Some flight = subst (λ kind. first_of kind w.capacity start w.kept ≡ Some flight) h.kind e in
-        let own = L.begins start w.kept flight such h.kept first in
-        let knows = L.knows start w.kept flight p h.kept first in
+    begun_keeps w p start such own None e = own
+    begun_keeps w p start such is_own (Some flight) e =
+        let L = laws_of w is_own in
+        let first : first_of K.kind w.capacity start w.kept ≡ Some flight = subst (λ kind. first_of kind w.capacity start w.kept ≡ Some flight) is_own.kind e in
+        let own = L.begins start w.kept flight such is_own.kept first in
+        let knows = L.knows start w.kept flight p is_own.kept first in
         record {
-          kind = h.kind;
-          coded = h.coded;
-          admitted = h.admitted;
+          kind = is_own.kind;
+          coded = is_own.coded;
+          admitted = is_own.admitted;
           kept = own.1 p;
-          wide = h.wide;
+          wide = is_own.wide;
           calls =
               put_own w (kept_after_begin w.coding w.capacity start p w.kept) p (party_at_begin start flight w.changes) w.latest knows.1
-              (own.0, knows.0) h.calls;
+              (own.0, knows.0) is_own.calls;
         }
 
     turn_keeps : (w : World T) (turn : Turn T) → BeginsSuch K.Such turn → IsOwn w → IsOwn (world_after w turn)
-    turn_keeps w (Begin p start) such h = begun_keeps w p start such h (first_of w.kind w.capacity start w.kept) refl
-    turn_keeps w (Next p) such h = next_keeps w p h (party_of p w.latest) refl
-    turn_keeps w (Decide p said) such h = decision_keeps w p said h (party_of p w.latest) refl
-    turn_keeps w (Die owner) such h =
-        let L = laws_of w h in
-        let dies = L.dies w.kept owner h.kept in
+    turn_keeps w (Begin p start) such own = begun_keeps w p start such own (first_of w.kind w.capacity start w.kept) refl
+    turn_keeps w (Next p) such own = next_keeps w p own (party_of p w.latest) refl
+    turn_keeps w (Decide p said) such own = decision_keeps w p said own (party_of p w.latest) refl
+    turn_keeps w (Die owner) such own =
+        let L = laws_of w own in
+        let dies = L.dies w.kept owner own.kept in
         record {
-          kind = h.kind;
-          coded = h.coded;
-          admitted = h.admitted;
+          kind = own.kind;
+          coded = own.coded;
+          admitted = own.admitted;
           kept = dies.0;
-          wide = h.wide;
-          calls = λ p. party_lasts w w.kept (kept_after_death w.kept owner) dies.1 p (party_of p w.latest) (h.calls p);
+          wide = own.wide;
+          calls = λ p. party_lasts w w.kept (kept_after_death w.kept owner) dies.1 p (party_of p w.latest) (own.calls p);
         }
 
     opens : (code : Coding T) (c parties : ℕ) → IsCoding code → capacity_error K.kind c ≡ None → IsOwn (opening code K.kind c parties).world
@@ -256,23 +256,23 @@ module _ {T : Type 0} (K : Outline T) where
 
     attempt_keeps : (t : Trace T) (turn : Turn T) → BeginsSuch K.Such turn → IsOwn t.world → (o : Option Refusal)
         → IsOwn (unless_refused t (after_turn t turn) o).world
-    attempt_keeps t turn such h None = turn_keeps t.world turn such h
-    attempt_keeps t turn such h (Some refusal) = h
+    attempt_keeps t turn such own None = turn_keeps t.world turn such own
+    attempt_keeps t turn such own (Some refusal) = own
 
     -- ---- each call under way
 
     call_there : (w : World T) → IsOwn w → (p : ℕ) (x : Party T) (flight : Flight T) (since : ℕ) → party_of p w.latest ≡ Some x
         → x.doing ≡ Going flight since → K.At w.coding w.capacity x.start flight × K.Known p w.kept flight
-    call_there w h p x flight since found doing = subst (OwnDoing w w.kept p x.start) doing (own_there w h p x found)
+    call_there w own p x flight since found doing = subst (OwnDoing w w.kept p x.start) doing (own_there w own p x found)
 
     pub record Stands (w : World T) (flight : Flight T) : Type 0 where
       pub start : Start T
       pub at : K.At w.coding w.capacity start flight
 
     stands : (w : World T) → IsOwn w → (p : ℕ) (flight : Flight T) → flight_in w p ≡ Some flight → Stands w flight
-    stands w h p flight e =
+    stands w own p flight e =
         let under = under_way w p flight e in
-        let there = call_there w h p under.party flight under.since under.found under.doing in
+        let there = call_there w own p under.party flight under.since under.found under.doing in
         record { start = under.party.start; at = there.0 }
 
     abbrev measure_of : World T → WordMeasure T
@@ -320,9 +320,9 @@ module _ {T : Type 0} (K : Outline T) where
 
     module _ (refuses : World T → Turn T → Option Refusal) (possible : (w : World T) (turn : Turn T) → refuses w turn ≡ None → IsPossible w turn) where
       run_keeps : (turns : List (Turn T)) (t : Trace T) → AllByRecursion (BeginsSuch K.Such) turns → IsOwn t.world → IsOwn (run_by refuses turns t).world
-      run_keeps [] t such h = h
-      run_keeps (turn ∷ turns) t such h =
-          run_keeps turns (attempt_by refuses t turn) such.1 (attempt_keeps t turn such.0 h (refuses t.world turn))
+      run_keeps [] t such own = own
+      run_keeps (turn ∷ turns) t such own =
+          run_keeps turns (attempt_by refuses t turn) such.1 (attempt_keeps t turn such.0 own (refuses t.world turn))
 
       reached_own : (t : Trace T) → t.world.kind ≡ K.kind → (r : IsReachedBy refuses t) → AllByRecursion (BeginsSuch K.Such) r.turns → IsOwn t.world
       reached_own t is r such =

@@ -38,8 +38,8 @@ module _ {T : Type 0} (refuses : World T → Turn T → Option Refusal) (possibl
     begins : (w : World T) (p : ℕ) (start : Start T) → p < n → (o : Option (Flight T)) → is_none o ≡ false → flight_in w p ≡ None
         → Harmless M w p w.words (kept_after_begin w.coding w.capacity start p w.kept)
         → IsWithin M n (after_begin w p start o) → 0 + weight M n (after_begin w p start o) ≤ weight M n w
-    begins w p start below None e free harmless within = absurd (cc)
-    begins w p start below (Some flight) e free harmless within = by_left M n w new p 0 below left here pays
+    begins w p start below None is_none_false free harmless within = absurd (cc)
+    begins w p start below (Some flight) is_none_false free harmless within = by_left M n w new p 0 below left here pays
       where
         new : World T
         new = after_begin w p start (Some flight)
@@ -54,8 +54,8 @@ module _ {T : Type 0} (refuses : World T → Turn T → Option Refusal) (possibl
             mine same = let most = within.left p in rw (same, free) most
 
             still : (o : Option (Flight T)) → q ≢ p → flight_in w q ≡ o → left_of M w.words new.kept o ≤ left_of M w.words w.kept o
-            still None ne e = omega arith
-            still (Some other) ne e = harmless q ne other e
+            still None ne is_none_false = omega arith
+            still (Some other) ne is_none_false = harmless q ne other is_none_false
 
             theirs : q ≢ p → left_at M new q ≤ left_at M w q
             theirs ne = rw (begun w p start (Some flight) q ne) (still (flight_in w q) ne refl)
@@ -83,12 +83,12 @@ module _ {T : Type 0} (refuses : World T → Turn T → Option Refusal) (possibl
             (after_answer t.world p x (ask_of_doing t.world.coding doing) (old_of t.world.words (ask_of_doing t.world.coding doing)) doing)
             (step_count (ask_of_flight t.world.coding (flight_of (Some doing))))
             (ends (events_of_answer t.world p x (old_of t.world.words (ask_of_doing t.world.coding doing)) doing))
-        go (Over others) e there =
-            let none : flight_in t.world p ≡ None = ap (λ o. flight_of (doing_of o)) found ∙ ap (λ d. flight_of (Some d)) e in
+        go (Over others) same_doing there =
+            let none : flight_in t.world p ≡ None = ap (λ o. flight_of (doing_of o)) found ∙ ap (λ d. flight_of (Some d)) same_doing in
             absurd (cc)
-        go (Going now since) e there =
+        go (Going now since) same_doing there =
             let ask = ask_of (want_of t.world.coding now) in
-            resumes M n t.world p x now since (old_of t.world.words ask) ask below found e (O.step t h p x now since found e) there
+            resumes M n t.world p x now since (old_of t.world.words ask) ask below found same_doing (O.step t h p x now since found same_doing) there
 
     decides : (t : Trace T) → P t → (p : ℕ) (said : Bool) → p < n → (flight : Flight T) → flight_in t.world p ≡ Some flight
         → is_due t.world.coding (flight_in t.world p) ≡ true → (o : Option (Party T)) → party_of p t.world.latest ≡ o
@@ -100,13 +100,13 @@ module _ {T : Type 0} (refuses : World T → Turn T → Option Refusal) (possibl
         go : (doing : Doing T) → x.doing ≡ doing → IsWithin M n (after_answer t.world p x None (number_of said) doing)
             → Shows M n t.world (after_answer t.world p x None (number_of said) doing) 0
             (ends (events_of_answer t.world p x (number_of said) doing))
-        go (Over others) e there =
-            let none : flight_in t.world p ≡ None = ap (λ o. flight_of (doing_of o)) found ∙ ap (λ d. flight_of (Some d)) e in
+        go (Over others) same_doing there =
+            let none : flight_in t.world p ≡ None = ap (λ o. flight_of (doing_of o)) found ∙ ap (λ d. flight_of (Some d)) same_doing in
             absurd (cc)
-        go (Going now since) e there =
-            let here : flight_in t.world p ≡ Some now = ap (λ o. flight_of (doing_of o)) found ∙ ap (λ d. flight_of (Some d)) e in
-            resumes M n t.world p x now since (number_of said) None below found e
-            (O.decision t h p x now since said found e (rw here at due)) there
+        go (Going now since) same_doing there =
+            let here : flight_in t.world p ≡ Some now = ap (λ o. flight_of (doing_of o)) found ∙ ap (λ d. flight_of (Some d)) same_doing in
+            resumes M n t.world p x now since (number_of said) None below found same_doing
+            (O.decision t h p x now since said found same_doing (rw here at due)) there
 
     -- an owner dies
     dead : (t : Trace T) → P t → (owner : ℕ) → refuses t.world (Die owner) ≡ None → May (Die owner)

@@ -14,7 +14,7 @@ module _ {T : Type 0} where
     pub backs : g.backs ≤ g.others
 
   -- the party's latest call in the events, and how far it has come
-  abbrev pub Progresses : Promise T → ℕ → ℕ → Span T → Option Progress → Type 0
+  abbrev pub Progresses : Promise T → (capacity size : ℕ) → Span T → Option Progress → Type 0
   Progresses promise capacity size Never None = Unit {0}
   Progresses promise capacity size Never (Some g) = ⊥
   Progresses promise capacity size (Open start wrote) None = ⊥

@@ -28,7 +28,7 @@ pub record HasGoneOn (asks over : Bool) (old new : Progress) : Type 0 where
   pub others : new.others ≡ old.others
   pub finished : new.finished ≡ over
 
-abbrev pub BothGoOn : Bool → Bool → Option Progress → Option Progress → Type 0
+abbrev pub BothGoOn : (asks over : Bool) → Option Progress → Option Progress → Type 0
 BothGoOn asks over (Some old) (Some new) = HasGoneOn asks over old new
 BothGoOn asks over (Some old) None = ⊥
 BothGoOn asks over None new = ⊥
@@ -108,7 +108,7 @@ module _ {T : Type 0} where
     pub changed : new.words ≢ old.words
         → after.others ≡ (if before.finished then before.others else before.others + 1)
 
-  abbrev pub BothSee : World T → World T → Option Progress → Option Progress → Type 0
+  abbrev pub BothSee : (old new : World T) → Option Progress → Option Progress → Type 0
   BothSee old new None None = Unit {0}
   BothSee old new (Some before) (Some after) = HasSeen old new before after
   BothSee old new None (Some after) = ⊥

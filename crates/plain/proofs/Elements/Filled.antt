@@ -47,7 +47,7 @@ module _ {V : Type 0} where
   filled_opened capacity container i h = none_in capacity i
 
   pub filled_counted : (s : Contents V) → IsFilled s → IsFilled (counted s)
-  filled_counted s h = h
+  filled_counted s filled = filled
 
   -- an index goes, and its value
   pub filled_gone : (s new : Contents V) (i : ℕ) → new.values ≡ slice_set s.values i None
@@ -63,7 +63,7 @@ module _ {V : Type 0} where
 
   pub filled_add : (owner : ℕ) (value : V) (s : Contents V) → length s.values ≡ length s.owners.owners → IsFilled s
       → IsFilled (after_add s owner value)
-  filled_add owner value s long h = added s owner value long h (acquired s.owners) refl
+  filled_add owner value s long filled = added s owner value long filled (acquired s.owners) refl
 
   pub filled_remove : (handle : ContainerHandle) (mode : ReleaseMode) (s : Contents V) → IsFilled s
       → IsFilled (after_remove s handle mode)

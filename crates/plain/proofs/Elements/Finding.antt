@@ -78,7 +78,7 @@ module _ {V R F : Type 0} (value_of : List ℕ → V) (words_in : R → List ℕ
         → Goes (want_both want (find_after size) kept owner) (after_both want (find_after size) kept owner)
         (plus (suc (length rest)) (suc (suc (suc (suc (size - 1)))))) (At ready done left) (with_room room a) words
         → Onward ready done a room now
-    goes_on rest before left room now (GoOn d) done short joined calls number low t =
+    goes_on rest before left room now (GoOn d) done short joined calls number low goes =
         record {
           before = before;
           left = left;
@@ -91,9 +91,9 @@ module _ {V R F : Type 0} (value_of : List ℕ → V) (words_in : R → List ℕ
               let few = ready.holds.0.few in
               let wide = ready.wide in
               omega arith)
-              t;
+              goes;
         }
-    goes_on rest before left room now (Done n) done short joined calls number low t = grind (arith, found_all)
+    goes_on rest before left room now (Done n) done short joined calls number low goes = grind (arith, found_all)
 
     -- a find that begins has come to nothing yet
     pub begins : (room : R) → size ≤ length (words_in room) → Finding ready 0 (first_find capacity) room f
@@ -221,10 +221,10 @@ module _ {V R F : Type 0} (value_of : List ℕ → V) (words_in : R → List ℕ
 pub takes_at : {V F : Type 0} (pre : F → V → ContainerHandle → Type 0) (step : F → V → ContainerHandle → CallbackProgression → F → Type 0)
     {a b : Contents V} {owner : ℕ} {f : F} → a ≡ b → TakesIndices (MaySee pre a owner) (Sees step a owner) (indices_of a.owners owner) f
     → TakesIndices (MaySee pre b owner) (Sees step b owner) (indices_of b.owners owner) f
-takes_at {V} {F} pre step {a} {b} {owner} {f} e h =
-    subst (λ (z : Contents V). TakesIndices (MaySee pre z owner) (Sees step z owner) (indices_of z.owners owner) f) e h
+takes_at {V} {F} pre step {a} {b} {owner} {f} e takes_indices =
+    subst (λ (z : Contents V). TakesIndices (MaySee pre z owner) (Sees step z owner) (indices_of z.owners owner) f) e takes_indices
 
 pub found_at : {V F : Type 0} (step : F → V → ContainerHandle → CallbackProgression → F → Type 0) {a b : Contents V} {owner : ℕ} {f last : F} {n : ℕ}
     → a ≡ b → HasFound (Sees step a owner) (indices_of a.owners owner) f n last → HasFound (Sees step b owner) (indices_of b.owners owner) f n last
-found_at {V} {F} step {a} {b} {owner} {f} {last} {n} e h =
-    subst (λ (z : Contents V). HasFound (Sees step z owner) (indices_of z.owners owner) f n last) e h
+found_at {V} {F} step {a} {b} {owner} {f} {last} {n} e found =
+    subst (λ (z : Contents V). HasFound (Sees step z owner) (indices_of z.owners owner) f n last) e found

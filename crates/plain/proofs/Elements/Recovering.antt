@@ -287,8 +287,8 @@ module _ {V R F : Type 0} (value_of : List ℕ → V) (words_in : R → List ℕ
       Further (Done state) then_room q = ⊥
 
       further : (a : After (Recover V R) ReleaseState) (q : F) → Onward t.0 (done + 1) a room q last → Further a room q
-      further (GoOn d) q h = (t.0, h)
-      further (Done state) q h = h
+      further (GoOn d) q onward_holds = (t.0, onward_holds)
+      further (Done state) q onward_holds = onward_holds
 
       -- so it is as the driver holds it, with the answer as a number
       pub further_so : (said : Bool) (q : F) → step p value said q → (answer : ℕ) → answer ≡ (if said then 1 else 0)
@@ -304,10 +304,10 @@ module _ {V R F : Type 0} (value_of : List ℕ → V) (words_in : R → List ℕ
 
 pub questions_at : {V F : Type 0} (pre : F → V → Type 0) (step : F → V → Bool → F → Type 0) (owner : ℕ) {a b : Contents V} {f : F}
     → a ≡ b → TakesQuestions (MayAsk pre a) (Says step a) (to_ask a owner) f → TakesQuestions (MayAsk pre b) (Says step b) (to_ask b owner) f
-questions_at {V} {F} pre step owner {a} {b} {f} e h =
-    subst (λ (z : Contents V). TakesQuestions (MayAsk pre z) (Says step z) (to_ask z owner) f) e h
+questions_at {V} {F} pre step owner {a} {b} {f} e takes_questions =
+    subst (λ (z : Contents V). TakesQuestions (MayAsk pre z) (Says step z) (to_ask z owner) f) e takes_questions
 
 pub recovered_at : {V F : Type 0} (step : F → V → Bool → F → Type 0) {a b new : Contents V} {owner : ℕ} {mode : ReleaseMode} {f last : F}
     → a ≡ b → HasRecovered step owner mode a new f last → HasRecovered step owner mode b new f last
-recovered_at {V} {F} step {a} {b} {new} {owner} {mode} {f} {last} e h =
-    subst (λ (z : Contents V). HasRecovered step owner mode z new f last) e h
+recovered_at {V} {F} step {a} {b} {new} {owner} {mode} {f} {last} e recovered =
+    subst (λ (z : Contents V). HasRecovered step owner mode z new f last) e recovered

@@ -74,13 +74,13 @@ module _ {V : Type 0} (value_of : List ℕ → V) (size : ℕ) (some : 1 ≤ siz
   -- a look that has ended with `true` has brought the state up to date
   brought_so : (room : Showing V) (last : List ℕ) → Ended true room last
       → Brought s old true (record old { seen = seen_of old.seen room; shown = room })
-  brought_so room last t =
+  brought_so room last ended =
       record {
-        answers = sym (ap not t.1);
+        answers = sym (ap not ended.1);
         of = (refl, refl);
         left = λ e. absurd (true≢false e);
         shows = λ h long.
-            let p = t.2 (h.long ∙ long ∙ capacity_is, h.counts, h.room) in
+            let p = ended.2 (h.long ∙ long ∙ capacity_is, h.counts, h.room) in
             let many : length old.seen.counts ≡ length room.elements =
             ap length (sym h.counts) ∙ length-map old.shown.elements number ∙ (h.long ∙ long ∙ capacity_is) ∙ sym p.long in
             let over = over_all old.seen.counts room.elements many in
@@ -96,13 +96,13 @@ module _ {V : Type 0} (value_of : List ℕ → V) (size : ℕ) (some : 1 ≤ siz
                     changes = s.changes;
                     counts = s.counts;
                     values = map (value_then s (snapshot_of old)) (range_with_len 0 (contents.capacity s));
-                  }) t.1),
+                  }) ended.1),
             );
       }
 
   pub words_kept : (end : Bool) (room : Showing V) (last : List ℕ) → Ended end room last → last ≡ words
-  words_kept true room last t = t.0
-  words_kept false room last t = t.0
+  words_kept true room last ended = ended.0
+  words_kept false room last ended = ended.0
 
   pub brought_if : (end : Bool) (room : Showing V) (last : List ℕ) → Ended end room last → end ≡ true
       → (new : ContainerState V) → new ≡ record old { seen = seen_of old.seen room; shown = room } → Brought s old true new
@@ -110,7 +110,7 @@ module _ {V : Type 0} (value_of : List ℕ → V) (size : ℕ) (some : 1 ≤ siz
 
   pub brought_not : (end : Bool) (room : Showing V) (last : List ℕ) → Ended end room last → end ≡ false
       → Brought s old false (record old { shown = room })
-  brought_not end room last t is = brought_without room last (subst (λ b. Ended b room last) is t)
+  brought_not end room last ended is = brought_without room last (subst (λ b. Ended b room last) is ended)
 
 -- ---- a new state
 

@@ -150,7 +150,7 @@ module _ {V : Type 0} (value_of : List ℕ → V) (size : ℕ) (some : 1 ≤ siz
   reads : (m i : ℕ) → i < capacity → (n k : ℕ) → k + suc n ≡ size → (room : Showing V)
       → From m (look_comes_to (first_look capacity) (i + 1)) (with_value value_of size (read_in with_word room words (cell i) k (suc n)) i (count i)) words
       → Ends (suc (suc (plus n m))) (at (looks.LoadsWord i (count i) k)) room words
-  reads m i near zero k end room h =
+  reads m i near zero k end room from =
       let place : element_word capacity size i k ≡ word_at (cell i) k =
       let w = cell_within value_of size capacity words fits i near wide in let a = all_small value_of size capacity words fits i near wide in omega arith in
       let c = count_word capacity i in
@@ -166,8 +166,8 @@ module _ {V : Type 0} (value_of : List ℕ → V) (size : ℕ) (some : 1 ≤ siz
       (if b then with_value value_of size next i (count i) else with_count next i (count i))
       (if b then slice_set words c (count i) else words))
       (sym (eq-eqb (count i) (count i) refl))
-      (subst (λ ws. From m (look_comes_to (first_look capacity) (i + 1)) (with_value value_of size next i (count i)) ws) (sym (set-get_or words c 0)) h)))
-  reads m i near (suc n) k end room h =
+      (subst (λ ws. From m (look_comes_to (first_look capacity) (i + 1)) (with_value value_of size next i (count i)) ws) (sym (set-get_or words c 0)) from)))
+  reads m i near (suc n) k end room from =
       let place : element_word capacity size i k ≡ word_at (cell i) k =
       let w = cell_within value_of size capacity words fits i near wide in let a = all_small value_of size capacity words fits i near wide in omega arith in
       subst (λ p. From (suc (suc (plus n m)))
@@ -176,7 +176,7 @@ module _ {V : Type 0} (value_of : List ℕ → V) (size : ℕ) (some : 1 ≤ siz
       (with_word room k (slice_index words p)) words)
       (sym place)
       (by_test (λ a. From (suc (suc (plus n m))) a (with_word room k (slice_index words (word_at (cell i) k))) words) (nat_lt (k + 1) size) _ _
-      (λ t. reads m i near n (k + 1) (omega arith) (with_word room k (slice_index words (word_at (cell i) k))) h)
+      (λ t. reads m i near n (k + 1) (omega arith) (with_word room k (slice_index words (word_at (cell i) k))) from)
       (λ t. let less : size ≤ k + 1 = grind (arith, nat_tests) in absurd (omega arith)))
 
   -- reading touches the copy alone
@@ -200,8 +200,8 @@ module _ {V : Type 0} (value_of : List ℕ → V) (size : ℕ) (some : 1 ≤ siz
 
   is_at : (i : ℕ) → i < capacity → (r : Showing V) → Meets → Part r i
       → (e : Element V) × (slice_get r.elements i ≡ Some e) × (slice_get first.elements i ≡ Some e)
-  is_at i near r m h =
-      let l = m.0 in
+  is_at i near r meets h =
+      let l = meets.0 in
       let e = element_at first.elements i (omega arith) in (e.0, h.rest i (omega arith) ∙ e.1, e.1)
 
   seen_at : (i : ℕ) (e : Element V) → Meets → slice_get first.elements i ≡ Some e → slice_index seen.counts i ≡ e.count

@@ -93,7 +93,7 @@ module _ {V : Type 0} (words_of : V → List ℕ) (value_of : List ℕ → V) (s
 
   same_place : (k : ℕ) (words vs : List ℕ) → ((i : ℕ) → k ≤ i → i < k + size → slice_index words i ≡ slice_index vs i)
       → value_of (words_from words k size) ≡ value_of (words_from vs k size)
-  same_place k words vs h = ap value_of (words_same words vs k size h)
+  same_place k words vs same_slice_index = ap value_of (words_same words vs k size same_slice_index)
 
   module _ (words : List ℕ) (fits : Represents size capacity words) (position : slice_index words 0 ≢ 2 ^ 64 - 1)
       (room : capacity ≢ 0) (near : slice_index words 0 - slice_index words 1 < capacity) where

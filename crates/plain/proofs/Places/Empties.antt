@@ -102,12 +102,12 @@ module _ {F : Type 0} (pre : F → ℕ → Type 0) (step : F → ℕ → Unit {0
   Folds f xs last = FoldsTo (λ p x q. step p x tt q) f xs last
 
   takes_first : (xs ys : List ℕ) (f : F) → Takes pre step (xs ++ ys) f → Takes pre step xs f
-  takes_first [] ys f t = tt
-  takes_first (x ∷ xs) ys f t = (t.0, λ next did. takes_first xs ys next (t.1 next did))
+  takes_first [] ys f takes_holds = tt
+  takes_first (x ∷ xs) ys f takes_holds = (takes_holds.0, λ next did. takes_first xs ys next (takes_holds.1 next did))
 
   takes_rest : (xs ys : List ℕ) (f last : F) → Takes pre step (xs ++ ys) f → Folds f xs last → Takes pre step ys last
-  takes_rest [] ys f last t is = subst (Takes pre step ys) is t
-  takes_rest (x ∷ xs) ys f last t went = takes_rest xs ys went.0 last (t.1 went.0 went.1) went.2
+  takes_rest [] ys f last takes_holds is = subst (Takes pre step ys) is takes_holds
+  takes_rest (x ∷ xs) ys f last takes_holds went = takes_rest xs ys went.0 last (takes_holds.1 went.0 went.1) went.2
 
   goes_further : (xs ys : List ℕ) (f mid last : F) → Folds f xs mid → Folds mid ys last → Folds f (xs ++ ys) last
   goes_further [] ys f mid last is went = subst (λ m. Folds m ys last) (sym is) went
@@ -126,16 +126,16 @@ module _ {F : Type 0} (pre : F → ℕ → Type 0) (step : F → ℕ → Unit {0
     -- where the flag of this place stands, it may be handed out, and those behind it after it
     both : (place left : ℕ) (visit : F) → place < end → Visiting place left visit → has_flag found place ≡ true
         → Takes pre step (place ∷ standing_in found (place + 1) (end - (place + 1))) visit
-    both place left visit low h some =
+    both place left visit low visiting some =
         subst (λ xs. Takes pre step xs visit)
         (next_in found place end low
         ∙ ap (λ b. if b then place ∷ standing_in found (place + 1) (end - (place + 1)) else standing_in found (place + 1) (end - (place + 1))) some)
-        h.takes
+        visiting.takes
 
     pub may_visit : (place left : ℕ) (visit : F) → place < end → Visiting place left visit → (stood : Bool)
         → stood ≡ has_flag found place → stood ≡ true → pre visit place
-    may_visit place left visit low h stood is some =
-        (both place left visit low h (sym is ∙ some)).0
+    may_visit place left visit low visiting stood is some =
+        (both place left visit low visiting (sym is ∙ some)).0
 
     -- once a place is handed out, if it stood, the element is under way at the next place
     pub visits_one : (place left next : ℕ) (visit : F) → place < end → end ≤ at + 64 → at ≤ place
@@ -143,34 +143,34 @@ module _ {F : Type 0} (pre : F → ℕ → Type 0) (step : F → ℕ → Unit {0
         → (stood ≡ true → step visit place tt later) → (stood ≡ false → later ≡ visit)
         → ((q : ℕ) → bit_of q ≢ bit_of place → has_flag next q ≡ has_flag left q)
         → Visiting (place + 1) next later
-    visits_one place left next visit low near from h true is later did same others =
+    visits_one place left next visit low near from visiting true is later did same others =
         let some : has_flag found place ≡ true = sym is in
         let list = next_in found place end low
         ∙ ap (λ b. if b then place ∷ standing_in found (place + 1) (end - (place + 1)) else standing_in found (place + 1) (end - (place + 1))) some in
         record {
-          same = λ q below high. others q (λ e. let f = e in absurd (omega arith)) ∙ h.same q (omega arith) high;
-          takes = (both place left visit low h some).1 later (did refl);
-          calls = λ last f. h.calls last (subst (λ xs. Folds visit xs last) (sym list) (later, did refl, f));
+          same = λ q below high. others q (λ e. let f = e in absurd (omega arith)) ∙ visiting.same q (omega arith) high;
+          takes = (both place left visit low visiting some).1 later (did refl);
+          calls = λ last f. visiting.calls last (subst (λ xs. Folds visit xs last) (sym list) (later, did refl, f));
         }
-    visits_one place left next visit low near from h false is later did same others =
+    visits_one place left next visit low near from visiting false is later did same others =
         let none : has_flag found place ≡ false = sym is in
         let list = next_in found place end low
         ∙ ap (λ b. if b then place ∷ standing_in found (place + 1) (end - (place + 1)) else standing_in found (place + 1) (end - (place + 1))) none in
         subst (Visiting (place + 1) next) (sym (same refl))
         (record {
-          same = λ q below high. others q (λ e. let f = e in absurd (omega arith)) ∙ h.same q (omega arith) high;
-          takes = subst (λ xs. Takes pre step xs visit) list h.takes;
-          calls = λ last f. h.calls last (subst (λ xs. Folds visit xs last) (sym list) f);
+          same = λ q below high. others q (λ e. let f = e in absurd (omega arith)) ∙ visiting.same q (omega arith) high;
+          takes = subst (λ xs. Takes pre step xs visit) list visiting.takes;
+          calls = λ last f. visiting.calls last (subst (λ xs. Folds visit xs last) (sym list) f);
         })
 
     -- no flag is left, or no place
     pub visited : (place left : ℕ) (visit : F) → Visiting place left visit
         → ((q : ℕ) → place ≤ q → q < end → has_flag left q ≡ false)
         → Folds first (standing_in found at (end - at)) visit
-    visited place left visit h none =
-        h.calls visit
+    visited place left visit visiting none =
+        visiting.calls visit
         (subst (λ xs. Folds visit xs visit)
-        (sym (none_in found place (end - place) (λ q low high. sym (h.same q low (omega arith)) ∙ none q low (omega arith))))
+        (sym (none_in found place (end - place) (λ q low high. sym (visiting.same q low (omega arith)) ∙ none q low (omega arith))))
         refl)
 
   -- ---- all elements

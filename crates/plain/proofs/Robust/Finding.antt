@@ -57,7 +57,7 @@ module _ {F : Type 0} (step : F → ℕ → CallbackProgression → F → Type 0
       → FoldsTo (λ p x q. step p x Continue q) f before now → length before ≡ done → done ≤ capacity
       → Goes (λ c. find_want c) (λ c old. find_after c owner old) (suc (length rest)) (StopsAt capacity owner g cells long few lives done left) a (g ∷ cells)
       → Onward done a now
-  goes_on rest before left now (GoOn d) done short joined calls number low t =
+  goes_on rest before left now (GoOn d) done short joined calls number low goes =
       record {
         before = before;
         left = left;
@@ -67,9 +67,9 @@ module _ {F : Type 0} (step : F → ℕ → CallbackProgression → F → Type 0
         low = low;
         run =
             halts (λ c (given : ℕ). find_want c) find_after owner (suc (length rest))
-            (StopsAt capacity owner g cells long few lives done left) d (g ∷ cells) (omega arith) t;
+            (StopsAt capacity owner g cells long few lives done left) d (g ∷ cells) (omega arith) goes;
       }
-  goes_on rest before left now (Done n) done short joined calls number low t = grind (arith, found_all)
+  goes_on rest before left now (Done n) done short joined calls number low goes = grind (arith, found_all)
 
   -- a find that begins has come to nothing yet
   pub begins : 1 ≤ capacity → Finding 0 (first_find capacity) f
@@ -151,11 +151,11 @@ module _ {F : Type 0} (step : F → ℕ → CallbackProgression → F → Type 0
       → Searching first done call now words
       → StopsAlike want find_after kept owner call tt words (stops.Ended n) r last
       → HasFound step (indices_of (owners_in first) owner) f n now × (last ≡ first)
-  ended_so [] done call now words n r last t alike = absurd t
-  ended_so (g ∷ cells) done call now words n r last t alike =
-      ended step f capacity owner g cells t.0 t.1 t.2 done call now t.4 last n
-      (stops_so want find_after kept owner _ call tt (g ∷ cells) t.4.run (stops.Ended n) r last
-      (subst (λ ws. StopsAlike want find_after kept owner call tt ws (stops.Ended n) r last) t.3 alike))
+  ended_so [] done call now words n r last searching alike = absurd searching
+  ended_so (g ∷ cells) done call now words n r last searching alike =
+      ended step f capacity owner g cells searching.0 searching.1 searching.2 done call now searching.4 last n
+      (stops_so want find_after kept owner _ call tt (g ∷ cells) searching.4.run (stops.Ended n) r last
+      (subst (λ ws. StopsAlike want find_after kept owner call tt ws (stops.Ended n) r last) searching.3 alike))
 
   -- over any words: the index that it asks about is one that the closure may get
   pub may_so : (first : List ℕ) (done : ℕ) (call : Find) (now : F) (words : List ℕ) (question : Question (Unit {0}))
@@ -164,12 +164,12 @@ module _ {F : Type 0} (step : F → ℕ → CallbackProgression → F → Type 0
       → StopsAlike want find_after kept owner call tt words (stops.Asked question asks) r last
       → (index : ℕ) → index ≡ index_in question
       → {pre : F → ℕ → Type 0} → TakesIndices pre step (indices_of (owners_in first) owner) f → pre now index
-  may_so [] done call now words question asks r last t alike index is {pre} may = absurd t
-  may_so (g ∷ cells) done call now words question asks r last t alike index is {pre} may =
+  may_so [] done call now words question asks r last searching alike index is {pre} may = absurd searching
+  may_so (g ∷ cells) done call now words question asks r last searching alike index is {pre} may =
       subst (pre now) (sym is)
-      (may_visit step f capacity owner g cells t.0 t.1 t.2 done call now t.4 last question asks
-      (stops_so want find_after kept owner _ call tt (g ∷ cells) t.4.run (stops.Asked question asks) r last
-      (subst (λ ws. StopsAlike want find_after kept owner call tt ws (stops.Asked question asks) r last) t.3 alike)) may)
+      (may_visit step f capacity owner g cells searching.0 searching.1 searching.2 done call now searching.4 last question asks
+      (stops_so want find_after kept owner _ call tt (g ∷ cells) searching.4.run (stops.Asked question asks) r last
+      (subst (λ ws. StopsAlike want find_after kept owner call tt ws (stops.Asked question asks) r last) searching.3 alike)) may)
 
   further : (g : ℕ) (cells : List ℕ) (long : length cells ≡ capacity) (few : capacity < 2 ^ 32) (lives : owner < empty) (done : ℕ)
       (a : After Find ℕ) (now : F) (words : List ℕ) → words ≡ g ∷ cells
@@ -183,13 +183,13 @@ module _ {F : Type 0} (step : F → ℕ → CallbackProgression → F → Type 0
       → StopsAlike want find_after kept owner call tt words (stops.Asked question asks) r last
       → (a : CallbackProgression) (next : F) → step now (index_in question) a next
       → Further first (done + 1) (find_after asks owner (as_answer a)) next last
-  goes_further [] done call now words question asks r last t alike a next called = absurd t
-  goes_further (g ∷ cells) done call now words question asks r last t alike a next called =
-      let at = stops_so want find_after kept owner _ call tt (g ∷ cells) t.4.run (stops.Asked question asks) r last
-      (subst (λ ws. StopsAlike want find_after kept owner call tt ws (stops.Asked question asks) r last) t.3 alike) in
-      further g cells t.0 t.1 t.2 (done + 1) (find_after asks owner (as_answer a)) next last
-      (same step f capacity owner g cells t.0 t.1 t.2 done call now t.4 last question asks at)
-      (onward step f capacity owner g cells t.0 t.1 t.2 done call now t.4 last question asks at a next called)
+  goes_further [] done call now words question asks r last searching alike a next called = absurd searching
+  goes_further (g ∷ cells) done call now words question asks r last searching alike a next called =
+      let at = stops_so want find_after kept owner _ call tt (g ∷ cells) searching.4.run (stops.Asked question asks) r last
+      (subst (λ ws. StopsAlike want find_after kept owner call tt ws (stops.Asked question asks) r last) searching.3 alike) in
+      further g cells searching.0 searching.1 searching.2 (done + 1) (find_after asks owner (as_answer a)) next last
+      (same step f capacity owner g cells searching.0 searching.1 searching.2 done call now searching.4 last question asks at)
+      (onward step f capacity owner g cells searching.0 searching.1 searching.2 done call now searching.4 last question asks at a next called)
 
   -- over any words: told either, it is under way or has found what it says
   pub further_so : (first : List ℕ) (done : ℕ) (call : Find) (now : F) (words : List ℕ)
@@ -199,9 +199,9 @@ module _ {F : Type 0} (step : F → ℕ → CallbackProgression → F → Type 0
       → (index : ℕ) → index ≡ index_in question → (a : CallbackProgression) (next : F) → step now index a next
       → (answer : ℕ) → answer ≡ as_answer a → (b : After Find ℕ) → b ≡ find_after asks owner answer
       → Further first (done + 1) b next last
-  further_so first done call now words question asks r last t alike index is a next called answer said b goes =
+  further_so first done call now words question asks r last searching alike index is a next called answer said b goes =
       subst (λ z. Further first (done + 1) z next last) (sym (goes ∙ ap (find_after asks owner) said))
-      (goes_further first done call now words question asks r last t alike a next (subst (λ i. step now i a next) is called))
+      (goes_further first done call now words question asks r last searching alike a next (subst (λ i. step now i a next) is called))
 
   -- it does not go on for ever
   pub few_rounds : (first : List ℕ) (done : ℕ) (call : Find) (now : F) (words : List ℕ) → Searching first done call now words → done < 2 ^ 64 - 1
@@ -209,8 +209,8 @@ module _ {F : Type 0} (step : F → ℕ → CallbackProgression → F → Type 0
 
 pub takes_at : {F : Type 0} {pre : F → ℕ → Type 0} {step : F → ℕ → CallbackProgression → F → Type 0} {a b : List ℕ} {f : F}
     → a ≡ b → TakesIndices pre step a f → TakesIndices pre step b f
-takes_at {F} {pre} {step} {a} {b} {f} e h = subst (λ z. TakesIndices pre step z f) e h
+takes_at {F} {pre} {step} {a} {b} {f} e takes_indices = subst (λ z. TakesIndices pre step z f) e takes_indices
 
 pub found_at : {F : Type 0} {step : F → ℕ → CallbackProgression → F → Type 0} {a b : List ℕ} {f last : F} {n : ℕ}
     → a ≡ b → HasFound step a f n last → HasFound step b f n last
-found_at {F} {step} {a} {b} {f} {last} {n} e h = subst (λ z. HasFound step z f n last) e h
+found_at {F} {step} {a} {b} {f} {last} {n} e found = subst (λ z. HasFound step z f n last) e found

@@ -80,10 +80,10 @@ next_small = grind (arith, by_test, greatest, nat_tests)
 -- ---- words and owners
 
 pub owner_free : (word : ℕ) → word ≡ empty → owner_in word ≡ None
-owner_free word e = ap (λ b. if b then None else Some word) (eq-eqb word empty e)
+owner_free word word_is_empty = ap (λ b. if b then None else Some word) (eq-eqb word empty word_is_empty)
 
 pub owner_some : (word : ℕ) → word ≢ empty → owner_in word ≡ Some word
-owner_some word n = ap (λ b. if b then None else Some word) (ne_eqb word empty n)
+owner_some word word_is_not_empty = ap (λ b. if b then None else Some word) (ne_eqb word empty word_is_not_empty)
 
 -- ---- count
 

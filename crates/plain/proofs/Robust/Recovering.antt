@@ -357,13 +357,13 @@ module _ {F S : Type 0} (step : F → ℕ → ℕ → Bool → F → Type 0) (te
 pub few_rounds : {F S : Type 0} (step : F → ℕ → ℕ → Bool → F → Type 0) (tell : S → ℕ → ℕ → S → Type 0) (mode : ReleaseMode)
     (f : F) (s : S) (capacity : ℕ) (first : List ℕ) → Represents capacity first → (done : ℕ) (call : Recover) (p : F) (q : S) (words : List ℕ)
     → Recovering step tell mode f s capacity first done call p q words → done < 2 ^ 64 - 1
-few_rounds step tell mode f s capacity [] fits done call p q words t = let e : 0 ≡ 1 + capacity = fits.long in absurd (omega arith)
-few_rounds step tell mode f s capacity (g ∷ cells) fits done call p q words t =
+few_rounds step tell mode f s capacity [] fits done call p q words recovering = let e : 0 ≡ 1 + capacity = fits.long in absurd (omega arith)
+few_rounds step tell mode f s capacity (g ∷ cells) fits done call p q words recovering =
     let e : suc (length cells) ≡ 1 + capacity = fits.long in
     let few = fits.few in
-    let all : length (said.questions t.asked) + length t.left ≡ length (to_recover (owners_in (g ∷ cells))) =
-    sym (length-append (said.questions t.asked) t.left) ∙ ap length t.joined in
-    let number : length (said.questions t.asked) ≡ done = length-map t.asked (λ (a : Asked). a.of) ∙ t.number in
+    let all : length (said.questions recovering.asked) + length recovering.left ≡ length (to_recover (owners_in (g ∷ cells))) =
+    sym (length-append (said.questions recovering.asked) recovering.left) ∙ ap length recovering.joined in
+    let number : length (said.questions recovering.asked) ≡ done = length-map recovering.asked (λ (a : Asked). a.of) ∙ recovering.number in
     let most : length (to_recover (owners_in (g ∷ cells))) ≤ length cells =
     by_test (λ l. length l ≤ length cells) (g == locked) [] (taken (owners_in (g ∷ cells)))
     (λ _. omega arith)
@@ -372,13 +372,14 @@ few_rounds step tell mode f s capacity (g ∷ cells) fits done call p q words t 
 
 pub questions_at : {F : Type 0} {pre : F → ℕ → ℕ → Type 0} {step : F → ℕ → ℕ → Bool → F → Type 0} {a b : List Owned} {f : F}
     → a ≡ b → TakesQuestions pre step a f → TakesQuestions pre step b f
-questions_at {F} {pre} {step} {a} {b} {f} e h = subst (λ z. TakesQuestions pre step z f) e h
+questions_at {F} {pre} {step} {a} {b} {f} e takes_questions = subst (λ z. TakesQuestions pre step z f) e takes_questions
 
 pub freed_at : {F S : Type 0} {step : F → ℕ → ℕ → Bool → F → Type 0} {pre : S → ℕ → ℕ → Type 0}
     {tell : S → ℕ → ℕ → S → Type 0} {a b : List Owned} {f : F} {s : S}
     → a ≡ b → TakesFreed step pre tell a f s → TakesFreed step pre tell b f s
-freed_at {F} {S} {step} {pre} {tell} {a} {b} {f} {s} e h = subst (λ z. TakesFreed step pre tell z f s) e h
+freed_at {F} {S} {step} {pre} {tell} {a} {b} {f} {s} e takes_freed = subst (λ z. TakesFreed step pre tell z f s) e takes_freed
 
 pub recovered_at : {F S : Type 0} {step : F → ℕ → ℕ → Bool → F → Type 0} {tell : S → ℕ → ℕ → S → Type 0} {mode : ReleaseMode} {a b new : Owners}
     {f f_last : F} {s s_last : S} → a ≡ b → HasRecovered step tell mode a new f s f_last s_last → HasRecovered step tell mode b new f s f_last s_last
-recovered_at {F} {S} {step} {tell} {mode} {a} {b} {new} {f} {f_last} {s} {s_last} e h = subst (λ z. HasRecovered step tell mode z new f s f_last s_last) e h
+recovered_at {F} {S} {step} {tell} {mode} {a} {b} {new} {f} {f_last} {s} {s_last} e has_recovered =
+    subst (λ z. HasRecovered step tell mode z new f s f_last s_last) e has_recovered

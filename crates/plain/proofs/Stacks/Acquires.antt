@@ -89,7 +89,7 @@ module _ (capacity : ℕ) where
     own = fits.below (p words) first_in
 
     rest_below : (i : ℕ) → is_in i (chain words (next words) m) ≡ true → i < capacity
-    rest_below i h = fits.below i (ap (is_in i) free_is ∙ in_rest i (p words) (chain words (next words) m) h)
+    rest_below i is_in_true = fits.below i (ap (is_in i) free_is ∙ in_rest i (p words) (chain words (next words) m) is_in_true)
 
     clear : claimed capacity (headed words) (p words) ≡ false
     clear = grind (arith, claimed_elsewhere, own, first_in)

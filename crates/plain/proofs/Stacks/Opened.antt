@@ -34,11 +34,11 @@ in_range i a (suc n) low high =
 
 -- and what is in it lies within its bounds
 pub range_within : (i a n : ℕ) → is_in i (range_with_len a n) ≡ true → (a ≤ i) × (i < a + n)
-range_within i a zero h = absurd (true≢false (sym h))
-range_within i a (suc n) h =
+range_within i a zero is_in_true = absurd (true≢false (sym is_in_true))
+range_within i a (suc n) is_in_true =
     ⊎_elim (λ (t : (eqb i a ≡ true) × (i ≡ a)). let e = t.1 in (omega arith, omega arith))
     (λ (t : (eqb i a ≡ false) × (i ≢ a)).
-    let r = range_within i (a + 1) n (sym (in_other i a (range_with_len (a + 1) n) t.1) ∙ h) in
+    let r = range_within i (a + 1) n (sym (in_other i a (range_with_len (a + 1) n) t.1) ∙ is_in_true) in
     let low = r.0 in let high = r.1 in (omega arith, omega arith))
     (eqb_tells i a)
 

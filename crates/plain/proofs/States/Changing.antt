@@ -23,12 +23,12 @@ use Rattle.plain.specs.Following.{MayChange, IsCounted, Follows, Keeps}
 -- ---- numbers
 
 is_odd : (n : ℕ) → is_even n ≡ false → n % 2 ≡ 1
-is_odd n t =
+is_odd n is_even_false =
     let other : n % 2 ≡ 0 → ⊥ = grind (arith, nat_tests) in
     omega arith
 
 even_is : (n : ℕ) → is_even n ≡ true → n % 2 ≡ 0
-even_is n t = grind (arith, nat_tests)
+even_is n is_even_true = grind (arith, nat_tests)
 
 is_even_so : (n : ℕ) → n % 2 ≡ 0 → is_even n ≡ true
 is_even_so n e = grind (arith, nat_tests)
@@ -75,23 +75,23 @@ module _ {V : Type 0} where
 
     -- a snapshot that follows the contents follows them still once they have moved
     follows_then : (seen : Snapshot V) → Follows s seen → Follows t seen
-    follows_then seen f =
+    follows_then seen follows =
         record {
           counted = counted_then;
-          counts = f.counts ∙ sym m.places;
-          values = f.values ∙ sym m.places;
-          fewer = let few = f.fewer in let more = m.changes in omega arith;
+          counts = follows.counts ∙ sym m.places;
+          values = follows.values ∙ sym m.places;
+          fewer = let few = follows.fewer in let more = m.changes in omega arith;
           numbers = λ i.
-              let low = f.numbers i in
+              let low = follows.numbers i in
               ⊎_elim (λ same. let n = same.0 in omega arith) (λ moved. let n = moved.more in omega arith) (m.at i);
           same = λ i e.
-              let low = f.numbers i in
-              ⊎_elim (λ same. f.same i (sym same.0 ∙ e) ∙ sym same.1) (λ moved. let n = moved.more in absurd (omega arith)) (m.at i);
-          all = λ e. let few = f.fewer in let more = m.changes in absurd (omega arith);
+              let low = follows.numbers i in
+              ⊎_elim (λ same. follows.same i (sym same.0 ∙ e) ∙ sym same.1) (λ moved. let n = moved.more in absurd (omega arith)) (m.at i);
+          all = λ e. let few = follows.fewer in let more = m.changes in absurd (omega arith);
         }
 
   moves_keep : (s t : Contents V) → (IsCounted s → Moves s t) → Keeps s t
-  moves_keep s t m = record { counts = λ c. counted_then s t c (m c); follows = λ seen f. follows_then s t f.counted (m f.counted) seen f }
+  moves_keep s t moves = record { counts = λ c. counted_then s t c (moves c); follows = λ seen f. follows_then s t f.counted (moves f.counted) seen f }
 
   keeps_same : (s : Contents V) → Keeps s s
   keeps_same s = record { counts = λ c. c; follows = λ seen f. f }

@@ -63,35 +63,35 @@ module _ {V : Type 0} where
 
   -- a state that follows its container follows it when brought up to date, and shows its values
   pub updates : (s : Contents V) (seen : Snapshot V) → Follows s seen → Follows s (updated s seen) × ((updated s seen).values ≡ s.values)
-  updates s seen f = go (s.changes == seen.changes) refl
+  updates s seen follows = go (s.changes == seen.changes) refl
     where
       go : (b : Bool) → (s.changes == seen.changes) ≡ b
           → Follows s (if b then seen else record { changes = s.changes; counts = s.counts; values = map (value_then s seen) (range_with_len 0 (capacity s)) })
           × ((if b then seen else
           record { changes = s.changes; counts = s.counts; values = map (value_then s seen) (range_with_len 0 (capacity s)) }).values
           ≡ s.values)
-      go true t = let is : s.changes ≡ seen.changes = grind (arith, nat_tests) in (f, shows_all s seen f is)
-      go false t = (follows_now s seen f, now_is s seen f)
+      go true t = let is : s.changes ≡ seen.changes = grind (arith, nat_tests) in (follows, shows_all s seen follows is)
+      go false t = (follows_now s seen follows, now_is s seen follows)
 
   -- ---- a new state
 
   -- a snapshot that shows nothing follows any contents that are counted
   blank_follows : (s : Contents V) → IsCounted s → Follows s (blank (capacity s))
-  blank_follows s c =
+  blank_follows s is_counted =
       record {
-        counted = c;
+        counted = is_counted;
         counts = length-replicate (capacity s) 0;
         values = length-replicate (capacity s) None;
         fewer = omega arith;
         numbers = λ i. zero_most (get_or (replicate (capacity s) 0) i 0) (get_or s.counts i 0) (same_all (capacity s) i 0);
-        same = λ i e. same_all (capacity s) i None ∙ sym (c.even i (even_zero (get_or s.counts i 0) (e ∙ same_all (capacity s) i 0)));
+        same = λ i e. same_all (capacity s) i None ∙ sym (is_counted.even i (even_zero (get_or s.counts i 0) (e ∙ same_all (capacity s) i 0)));
         all = λ none.
-            ext_get_or 0 s.counts (replicate (capacity s) 0) (c.counts ∙ sym (length-replicate (capacity s) 0))
-            (λ i below. none_yet (get_or s.counts i 0) (get_or (replicate (capacity s) 0) i 0) s.changes (c.few i) none (same_all (capacity s) i 0));
+            ext_get_or 0 s.counts (replicate (capacity s) 0) (is_counted.counts ∙ sym (length-replicate (capacity s) 0))
+            (λ i below. none_yet (get_or s.counts i 0) (get_or (replicate (capacity s) 0) i 0) s.changes (is_counted.few i) none (same_all (capacity s) i 0));
       }
     where
       even_zero : (n : ℕ) → n ≡ 0 → is_even n ≡ true
       even_zero n e = ap is_even e
 
   pub gets : (s : Contents V) → IsCounted s → Follows s (updated s (blank (capacity s))) × ((updated s (blank (capacity s))).values ≡ s.values)
-  gets s c = updates s (blank (capacity s)) (blank_follows s c)
+  gets s counted = updates s (blank (capacity s)) (blank_follows s counted)

@@ -37,7 +37,7 @@ abbrev wrong : Snapshot ℕ
 wrong = record { changes = 2; counts = 1 ∷ 1 ∷ []; values = Some 4 ∷ Some 6 ∷ [] }
 
 pub no_other_value : Follows two wrong → ⊥
-no_other_value f = absurd (apart (f.same 0 refl))
+no_other_value follows = absurd (apart (follows.same 0 refl))
   where
     apart : ◌≡◌ {A = Option ℕ} (Some 4) (Some 5) → ⊥
     apart e = cc
@@ -47,7 +47,7 @@ abbrev late : Snapshot ℕ
 late = record { changes = 5; counts = 1 ∷ 3 ∷ []; values = Some 5 ∷ Some 7 ∷ [] }
 
 pub no_missed_number : Follows last late → ⊥
-no_missed_number f = absurd (apart (f.all refl))
+no_missed_number follows = absurd (apart (follows.all refl))
   where
     apart : ◌≡◌ {A = List ℕ} (3 ∷ 3 ∷ []) (1 ∷ 3 ∷ []) → ⊥
     apart e = cc

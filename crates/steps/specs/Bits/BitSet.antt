@@ -15,7 +15,7 @@ use Rattle.steps.specs.declared.bits.bit_set.ResetNextStage.{ResetNextStage}
 use Rattle.steps.specs.declared.bits.bit_set.ResetNextStage.TheVariants as resets
 
 -- writes the word where it is still as it was found
-abbrev pub exchange : ℕ → ℕ → ℕ → Want (Unit {0})
+abbrev pub exchange : (word found new : ℕ) → Want (Unit {0})
 exchange word found new =
     wants.Ask (record { word = word; op = Exchange found new })
 
@@ -37,19 +37,19 @@ abbrev pub set_want : Set → ℕ → Want (Unit {0})
 set_want call place = set_asks call.stage place
 
 -- where the flag stands, nothing is to be done
-abbrev pub set_tests : ℕ → ℕ → After Set Bool
+abbrev pub set_tests : (place found : ℕ) → After Set Bool
 set_tests place found =
     if has_flag found place
     then Done false
     else GoOn (at_set (sets.ExchangesElement found))
 
 -- where the element has changed, it is tested again
-abbrev pub set_takes : SetStage → ℕ → ℕ → After Set Bool
+abbrev pub set_takes : SetStage → (place old : ℕ) → After Set Bool
 set_takes sets.LoadsElement place old = set_tests place old
 set_takes (sets.ExchangesElement found) place old =
     if old == found then Done true else set_tests place old
 
-abbrev pub set_after : Set → ℕ → ℕ → After Set Bool
+abbrev pub set_after : Set → (place old : ℕ) → After Set Bool
 set_after call place old = set_takes call.stage place old
 
 abbrev pub set_turns_back : SetStage → ℕ → Bool
@@ -66,7 +66,7 @@ abbrev pub at_reset : ResetNext → ResetNextStage → ResetNext
 at_reset call stage = record { capacity = call.capacity; stage = stage }
 
 -- the place that comes after so many places from the start: after the last one comes 0
-abbrev pub place_after : ℕ → ℕ → ℕ → ℕ
+abbrev pub place_after : (capacity start passed : ℕ) → ℕ
 place_after capacity start passed =
     if nat_lt (start + passed) capacity then start + passed else start + passed - capacity
 
@@ -85,20 +85,20 @@ abbrev pub reset_want : ResetNext → Want (Unit {0})
 reset_want call = reset_asks call.capacity call.stage
 
 -- it comes to the next place, if there is one that it has not passed
-abbrev pub reset_comes_to : ResetNext → ℕ → ℕ → After ResetNext (Option ℕ)
+abbrev pub reset_comes_to : ResetNext → (start passed : ℕ) → After ResetNext (Option ℕ)
 reset_comes_to call start passed =
     if nat_lt passed call.capacity
     then GoOn (at_reset call (resets.LoadsElement start passed))
     else Done None
 
 -- where the flag is clear, it goes on to the next place
-abbrev pub reset_tests : ResetNext → ℕ → ℕ → ℕ → After ResetNext (Option ℕ)
+abbrev pub reset_tests : ResetNext → (start passed found : ℕ) → After ResetNext (Option ℕ)
 reset_tests call start passed found =
     if has_flag found (place_after call.capacity start passed)
     then GoOn (at_reset call (resets.ExchangesElement start passed found))
     else reset_comes_to call start (passed + 1)
 
-abbrev pub at_most : ℕ → ℕ → ℕ
+abbrev pub at_most : (capacity position : ℕ) → ℕ
 at_most capacity position = if nat_lt capacity position then capacity else position
 
 -- where the element has changed, the flag is tested again

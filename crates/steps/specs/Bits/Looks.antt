@@ -12,7 +12,7 @@ use Rattle.steps.specs.declared.bits.looks.Count.{Count}
 abbrev pub is_set_want : IsSet → ℕ → Want (Unit {0})
 is_set_want call place = load (element_of place)
 
-abbrev pub is_set_after : IsSet → ℕ → ℕ → After IsSet Bool
+abbrev pub is_set_after : IsSet → (place old : ℕ) → After IsSet Bool
 is_set_after call place old = Done (has_flag old place)
 
 -- load the count of the place

@@ -8,6 +8,6 @@ abbrev pub first_place : ℕ → ℕ
 first_place word = (word - 1) * 64
 
 -- the places in this word whose flags it has, ascending
-abbrev pub places_in : ℕ → ℕ → List ℕ
+abbrev pub places_in : (word found : ℕ) → List ℕ
 places_in word found =
     filter (λ place. has_flag found place) (range_with_len (first_place word) 64)

@@ -2,7 +2,7 @@
 use Rattle.std.specs.Prelude.{ℕ, ◌+◌, ◌-◌, ◌/◌, ◌%◌, ◌^◌, ◌==◌, Bool, not, List, bit_and, bit_or, slice_index}
 
 -- whether the bit i of a word stands
-abbrev pub bit_stands : ℕ → ℕ → Bool
+abbrev pub bit_stands : (word i : ℕ) → Bool
 bit_stands word i = not (bit_and word (2 ^ i) == 0)
 
 -- the flag of a place is this bit of its element
@@ -17,14 +17,14 @@ element_of place = 1 + place / 64
 abbrev pub elements : ℕ → ℕ
 elements capacity = (capacity + 63) / 64
 
-abbrev pub with_flag : ℕ → ℕ → ℕ
+abbrev pub with_flag : (word place : ℕ) → ℕ
 with_flag word place = bit_or word (2 ^ bit_of place)
 
-abbrev pub without_flag : ℕ → ℕ → ℕ
+abbrev pub without_flag : (word place : ℕ) → ℕ
 without_flag word place = bit_and word (2 ^ 64 - 1 - 2 ^ bit_of place)
 
 -- whether the flag of a place stands in the word of its element
-abbrev pub has_flag : ℕ → ℕ → Bool
+abbrev pub has_flag : (word place : ℕ) → Bool
 has_flag word place = bit_stands word (bit_of place)
 
 -- whether a place stands in the words of a bit set

@@ -47,7 +47,7 @@ module _ {T : Type 0} where
 
   -- acquire; load the number of the element; hide what stands there; store
   -- the words; add 1 to the number; add 1 to the changes
-  abbrev pub add_asks : (T → List ℕ) → ℕ → ℕ → AddStage → Owned T → Want (Unit {0})
+  abbrev pub add_asks : (T → List ℕ) → (size capacity : ℕ) → AddStage → Owned T → Want (Unit {0})
   add_asks words_of size capacity (adds.Acquires stage) given =
       acquire_asks stage given.owner
   add_asks words_of size capacity (adds.LoadsCount index) given =

@@ -15,7 +15,7 @@ use Rattle.steps.specs.declared.container.find.FindStage.TheVariants as finds
 
 -- load the cells; load the number of the element; load its words;
 -- exchange the number for itself; ask about the value
-abbrev pub find_asks : ℕ → ℕ → FindStage → Want (Unit {0})
+abbrev pub find_asks : (size capacity : ℕ) → FindStage → Want (Unit {0})
 find_asks size capacity (finds.LoadsCell index found) = load (cell_word index)
 find_asks size capacity (finds.LoadsCount index found) =
     load (count_word capacity index)
@@ -36,7 +36,7 @@ find_keeps with_word (finds.ChecksCount index found count) room old = room
 find_keeps with_word (finds.Asks index found) room old = room
 
 -- it goes down at each step, since a value has at most 128 words
-abbrev pub find_left : ℕ → ℕ → FindStage → ℕ
+abbrev pub find_left : (size capacity : ℕ) → FindStage → ℕ
 find_left size capacity (finds.LoadsCell index found) = 140 * (capacity - index) + 139
 find_left size capacity (finds.LoadsCount index found) = 140 * (capacity - index) + 138
 find_left size capacity (finds.LoadsWord index found count at) =
@@ -57,7 +57,7 @@ module _ {T R : Type 0} where
   find_want size call = find_asks size call.capacity call.stage
 
   -- the next cell, if there is one
-  abbrev pub find_comes_to : Find T R → ℕ → ℕ → After (Find T R) ℕ
+  abbrev pub find_comes_to : Find T R → (index found : ℕ) → After (Find T R) ℕ
   find_comes_to call index found =
       if nat_lt index call.capacity
       then GoOn (at_find call (finds.LoadsCell index found))
@@ -65,7 +65,7 @@ module _ {T R : Type 0} where
 
   -- each index of the owner counts, also one without an element, one whose element has changed
   -- meanwhile, and that on which it is told to stop
-  abbrev pub find_takes : ℕ → Find T R → FindStage → ℕ → ℕ → After (Find T R) ℕ
+  abbrev pub find_takes : ℕ → Find T R → FindStage → (owner old : ℕ) → After (Find T R) ℕ
   find_takes size call (finds.LoadsCell index found) owner old =
       if old == owner
       then GoOn (at_find call (finds.LoadsCount index (one_more found)))
@@ -85,7 +85,7 @@ module _ {T R : Type 0} where
   find_takes size call (finds.Asks index found) owner old =
       if old == 0 then Done found else find_comes_to call (index + 1) found
 
-  abbrev pub find_after : ℕ → Find T R → ℕ → ℕ → After (Find T R) ℕ
+  abbrev pub find_after : ℕ → Find T R → (owner old : ℕ) → After (Find T R) ℕ
   find_after size call owner old = find_takes size call call.stage owner old
 
   abbrev pub find_kept : (R → ℕ → ℕ → R) → Find T R → R → ℕ → R

@@ -13,7 +13,7 @@ use Rattle.steps.specs.declared.container.look.LookStage.TheVariants as looks
 
 -- load the number of changes; for each index load the number of its element, load its words,
 -- exchange the number for itself
-abbrev pub look_asks : ℕ → ℕ → LookStage → Want (Unit {0})
+abbrev pub look_asks : (size capacity : ℕ) → LookStage → Want (Unit {0})
 look_asks size capacity looks.LoadsChange = load (change_word capacity)
 look_asks size capacity (looks.LoadsCount index) = load (count_word capacity index)
 look_asks size capacity (looks.LoadsWord index count at) =
@@ -46,7 +46,7 @@ module _ {T : Type 0} where
       else Done true
 
   -- another number was found: where it is odd the words are read
-  abbrev pub look_finds : Look T → ℕ → ℕ → After (Look T) Bool
+  abbrev pub look_finds : Look T → (index count : ℕ) → After (Look T) Bool
   look_finds call index count =
       if is_even count
       then look_comes_to call (index + 1)

@@ -25,7 +25,7 @@ use Rattle.steps.specs.declared.container.recover.DeadOwner.{DeadOwner}
 -- load the counter; for each index load the cell, load the number of the element, load its words,
 -- exchange the number for itself, ask, exchange the cell from the owner to empty, hide what stands
 -- there, raise, lock; load the counter; add 1 to the changes
-abbrev pub recover_asks : ℕ → ℕ → RecoverStage → ℕ → Want (Unit {0})
+abbrev pub recover_asks : (size capacity : ℕ) → RecoverStage → ℕ → Want (Unit {0})
 recover_asks size capacity recovers.LoadsCounter owner = load 0
 recover_asks size capacity (recovers.LoadsCell index) owner = load (cell_word index)
 recover_asks size capacity (recovers.LoadsCount index) owner =
@@ -97,7 +97,7 @@ module _ {T R : Type 0} where
       else recovers.LoadsCounterAgain)
 
   -- an element is copied; where there is none the index is freed without a question
-  abbrev pub recover_sees : Recover T R → ℕ → ℕ → After (Recover T R) ReleaseState
+  abbrev pub recover_sees : Recover T R → (index count : ℕ) → After (Recover T R) ReleaseState
   recover_sees call index count =
       goes_to call
       (if is_even count

@@ -22,7 +22,7 @@ abbrev pub Removed : Type 0
 Removed = Result ReleaseState ContainerRemoveError
 
 -- an index past the capacity is refused
-abbrev pub first_remove : ℕ → ℕ → Remove
+abbrev pub first_remove : (capacity index : ℕ) → Remove
 first_remove capacity index =
     record {
       capacity = capacity;

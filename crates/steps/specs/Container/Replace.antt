@@ -33,7 +33,7 @@ module _ {T : Type 0} where
   at_replace call stage = record call { stage = stage }
 
   -- an index past the capacity is refused
-  abbrev pub first_replace : ℕ → ℕ → Replace T
+  abbrev pub first_replace : (capacity index : ℕ) → Replace T
   first_replace capacity index =
       record {
         capacity = capacity;
@@ -45,8 +45,7 @@ module _ {T : Type 0} where
 
   -- load the cell; load the number of the element; hide what stands there;
   -- store the words; add 1 to the number; add 1 to the changes
-  abbrev pub replace_asks : (T → List ℕ) → ℕ → ℕ → ReplaceStage → Replacement T
-      → Want (Unit {0})
+  abbrev pub replace_asks : (T → List ℕ) → (size capacity : ℕ) → ReplaceStage → Replacement T → Want (Unit {0})
   replace_asks words_of size capacity replaces.Refuses given =
       wants.Nothing
   replace_asks words_of size capacity replaces.LoadsCell given =

@@ -28,7 +28,7 @@ module _ {T : Type 0} where
   no_element value_of size =
       record { count = 0; value = value_in value_of size (replicate 128 0) }
 
-  abbrev pub shows_nothing : (List ℕ → T) → ℕ → ℕ → Showing T
+  abbrev pub shows_nothing : (List ℕ → T) → (size capacity : ℕ) → Showing T
   shows_nothing value_of size capacity =
       record {
         change = 0;
@@ -57,21 +57,21 @@ module _ {T : Type 0} where
   abbrev pub with_change : Showing T → ℕ → Showing T
   with_change s change = record s { change = change }
 
-  abbrev pub counted : Option (Element T) → List (Element T) → ℕ → ℕ → List (Element T)
+  abbrev pub counted : Option (Element T) → List (Element T) → (index count : ℕ) → List (Element T)
   counted None elements index count = elements
   counted (Some e) elements index count =
       slice_set elements index (record { count = count; value = e.value })
 
   -- another number at the index, with the value that stands there
-  abbrev pub with_count : Showing T → ℕ → ℕ → Showing T
+  abbrev pub with_count : Showing T → (index count : ℕ) → Showing T
   with_count s index count =
       record s { elements = counted (slice_get s.elements index) s.elements index count }
 
-  abbrev pub with_word : Showing T → ℕ → ℕ → Showing T
+  abbrev pub with_word : Showing T → (at word : ℕ) → Showing T
   with_word s at word = record s { copy = slice_set s.copy at word }
 
   -- at the index this number, and the value whose words were read
-  abbrev pub with_value : (List ℕ → T) → ℕ → Showing T → ℕ → ℕ → Showing T
+  abbrev pub with_value : (List ℕ → T) → ℕ → Showing T → (index count : ℕ) → Showing T
   with_value value_of size s index count =
       record s {
         elements = slice_set s.elements index

@@ -6,13 +6,13 @@ use Rattle.steps.specs.declared.indices.head.HeadDetails.{HeadDetails}
 abbrev pub next_word : ℕ → ℕ
 next_word index = 1 + index
 
-abbrev pub flag_word : ℕ → ℕ → ℕ
+abbrev pub flag_word : (capacity index : ℕ) → ℕ
 flag_word capacity index = 1 + capacity + index / 64
 
 abbrev pub flag : ℕ → ℕ
 flag index = 2 ^ (index % 64)
 
-abbrev pub has_flag : ℕ → ℕ → Bool
+abbrev pub has_flag : (word index : ℕ) → Bool
 has_flag word index = not (bit_and word (flag index) == 0)
 
 -- the head word: 24 bits of the free index that is proposed next, 16 bits that count the exchanges,

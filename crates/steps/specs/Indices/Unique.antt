@@ -20,7 +20,7 @@ use Rattle.steps.specs.declared.indices.unique.ReleaseStage.TheVariants as relea
 use Rattle.steps.specs.declared.indices.looks.BorrowedIndices.{BorrowedIndices}
 use Rattle.steps.specs.declared.indices.looks.IsLocked.{IsLocked}
 
-abbrev pub exchange_head : ℕ → ℕ → Want (Unit {0})
+abbrev pub exchange_head : (from to : ℕ) → Want (Unit {0})
 exchange_head from to = wants.Ask (record { word = 0; op = Exchange from to })
 
 -- ---- acquire
@@ -36,7 +36,7 @@ abbrev pub at_acquire : Acquire → AcquireStage → Acquire
 at_acquire call stage = record call { stage = stage }
 
 -- one index more is borrowed, and the next one is proposed
-abbrev pub head_taken : ℕ → ℕ → ℕ
+abbrev pub head_taken : (head next : ℕ) → ℕ
 head_taken head next =
     head_word
     (record {
@@ -45,7 +45,7 @@ head_taken head next =
       borrowed_indices = borrowed head + 1;
     })
 
-abbrev pub claim : ℕ → ℕ → Want (Unit {0})
+abbrev pub claim : (capacity index : ℕ) → Want (Unit {0})
 claim capacity index =
     wants.Ask (record { word = flag_word capacity index; op = Or (flag index) })
 
@@ -73,13 +73,13 @@ acquire_sees call head =
     else GoOn (at_acquire call (acquires.ExchangesHead head (proposed head)))
 
 -- the proposed index is claimed first, else the flags are tried from 0 on, again and again
-abbrev pub first_claim : ℕ → ℕ → AcquireStage
+abbrev pub first_claim : (capacity head : ℕ) → AcquireStage
 first_claim capacity head =
     if nat_lt (proposed head) capacity
     then acquires.Claims (proposed head)
     else acquires.Scans 0
 
-abbrev pub scanned_next : ℕ → ℕ → ℕ
+abbrev pub scanned_next : (capacity index : ℕ) → ℕ
 scanned_next capacity index = if nat_lt (index + 1) capacity then index + 1 else 0
 
 abbrev pub acquire_takes : Acquire → AcquireStage → ℕ → After Acquire Acquired
@@ -114,7 +114,7 @@ acquire_goes_back capacity (acquires.Scans index) old =
 -- ---- release
 
 -- one index less is borrowed, and this one is proposed
-abbrev pub head_given_back : ℕ → ℕ → ℕ
+abbrev pub head_given_back : (head index : ℕ) → ℕ
 head_given_back head index =
     head_word
     (record {
@@ -124,7 +124,7 @@ head_given_back head index =
     })
 
 -- the last index is given back, and the set is locked
-abbrev pub head_locked : ℕ → ℕ → ℕ
+abbrev pub head_locked : (head index : ℕ) → ℕ
 head_locked head index =
     head_word
     (record { head = index; aba = (aba head + 1) % 2 ^ 16; borrowed_indices = locked })
@@ -132,13 +132,13 @@ head_locked head index =
 abbrev pub locks : Bool → ℕ → Bool
 locks lock head = lock && (borrowed head == 1)
 
-abbrev pub head_released : Bool → ℕ → ℕ → ℕ
+abbrev pub head_released : Bool → (head index : ℕ) → ℕ
 head_released lock head index =
     if locks lock head then head_locked head index else head_given_back head index
 
 -- clear the flag; load the head; store what it proposes as the next
 -- index of this one; exchange the head; subtract 1 from the head
-abbrev pub release_asks : Bool → ℕ → ℕ → ReleaseStage → Want (Unit {0})
+abbrev pub release_asks : Bool → (capacity index : ℕ) → ReleaseStage → Want (Unit {0})
 release_asks lock capacity index releases.ClearsFlag =
     wants.Ask
     (record { word = flag_word capacity index; op = And (2 ^ 64 - 1 - flag index) })

@@ -17,7 +17,7 @@ abbrev pub inner_release : ℕ → ReleaseStage → Release DefaultMode
 inner_release slots stage = record { capacity = slots; stage = stage; of = record {} }
 
 -- what it asks for, and how it goes on; the set's words come first
-abbrev pub back_asks : ℕ → ℕ → ReleaseStage → Want (Unit {0})
+abbrev pub back_asks : (slots index : ℕ) → ReleaseStage → Want (Unit {0})
 back_asks slots index stage = release_asks false slots index stage
 
 abbrev pub back_takes : ℕ → ReleaseStage → ℕ → After (Release DefaultMode) ReleaseState

@@ -55,7 +55,7 @@ back_tells slots index stage m n t =
     (release_tells false (inner_release slots stage) stage index tt m n t).0
 
 -- after the store of the write position: the read position moves where the queue was full, else the value is added
-abbrev stored : Send → ℕ → ℕ → Bool → After Push PushEnd
+abbrev stored : Send → (write read : ℕ) → Bool → After Push PushEnd
 stored c write read full =
     if full
     then GoOn (overflow.at_push (send.inner_push c.queue (pushes.StoresWrite write read)) (pushes.MovesRead read))

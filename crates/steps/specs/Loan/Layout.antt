@@ -6,9 +6,9 @@ abbrev pub submission_word : ℕ → ℕ
 submission_word slots = 1 + slots + (slots + 63) / 64
 
 -- behind two positions, two roles and a cell more than the queue's capacity
-abbrev pub completion_word : ℕ → ℕ → ℕ
+abbrev pub completion_word : (slots queue : ℕ) → ℕ
 completion_word slots queue = submission_word slots + (5 + queue)
 
 -- two positions, two roles and a cell for each slot
-abbrev pub total_words : ℕ → ℕ → ℕ
+abbrev pub total_words : (slots queue : ℕ) → ℕ
 total_words slots queue = completion_word slots queue + (4 + slots)

@@ -21,5 +21,5 @@ sent_within places from (suc left) =
     else sent_within places (from + 1) left
 
 -- the first index from this one on that is sent, in a channel of so many slots
-abbrev pub next_sent : List Place → ℕ → ℕ → Option ℕ
+abbrev pub next_sent : List Place → (slots from : ℕ) → Option ℕ
 next_sent places slots from = sent_within places from (slots - from)

@@ -25,7 +25,7 @@ use Rattle.steps.specs.declared.queues.overflow.PopStage.TheVariants as overflow
 use Rattle.steps.specs.declared.queues.ring.Pop.{Pop}
 use Rattle.steps.specs.declared.queues.ring.PopStage.TheVariants as ring_stages
 
-abbrev pub first_reclaim : ℕ → ℕ → Reclaim
+abbrev pub first_reclaim : (slots queue : ℕ) → Reclaim
 first_reclaim slots queue =
     record { slots = slots; queue = queue; stage = Drains (overflow.first_pop queue).stage }
 
@@ -37,7 +37,7 @@ abbrev pub inner_overflow_pop : ℕ → PopStage → overflow_pops.Pop
 inner_overflow_pop queue stage = record { capacity = queue; stage = stage }
 
 -- pop the submission queue; pop the completion queue; release
-abbrev pub reclaim_asks : ℕ → ℕ → ReclaimStage → Want (Unit {0})
+abbrev pub reclaim_asks : (slots queue : ℕ) → ReclaimStage → Want (Unit {0})
 reclaim_asks slots queue (Drains stage) =
     shifted (submission_word slots) (overflow.pop_asks queue stage)
 reclaim_asks slots queue (Empties stage) =
@@ -58,7 +58,7 @@ abbrev pub reclaim_releases : Reclaim → ℕ → Option ℕ → After Reclaim �
 reclaim_releases call number None = Done number
 reclaim_releases call number (Some index) = at_reclaim call (Releases number index ClearsFlag)
 
-abbrev pub reclaim_comes_to : Reclaim → List Place → ℕ → ℕ → After Reclaim ℕ
+abbrev pub reclaim_comes_to : Reclaim → List Place → (number from : ℕ) → After Reclaim ℕ
 reclaim_comes_to call places number from =
     reclaim_releases call number (next_sent places call.slots from)
 
@@ -68,8 +68,8 @@ reclaim_emptied call places (Done true) =
     at_reclaim call (Empties ring_stages.LoadsRead)
 reclaim_emptied call places (Done false) = reclaim_comes_to call places 0 0
 
-abbrev pub reclaim_released : Reclaim → List Place → ℕ → ℕ
-    → After (Release DefaultMode) ReleaseState → After Reclaim ℕ
+abbrev pub reclaim_released : Reclaim → List Place → (number index : ℕ) → After (Release DefaultMode) ReleaseState
+    → After Reclaim ℕ
 reclaim_released call places number index (GoOn release) =
     at_reclaim call (Releases number index release.stage)
 reclaim_released call places number index (Done state) =

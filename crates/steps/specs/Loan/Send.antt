@@ -19,7 +19,7 @@ use Rattle.steps.specs.declared.queues.overflow.PushStage.{PushStage}
 use Rattle.steps.specs.declared.queues.overflow.PushEnd.{PushEnd}
 use Rattle.steps.specs.declared.queues.overflow.PushEnd.TheVariants.{Added, Own, Oldest}
 
-abbrev pub first_send : ℕ → ℕ → Send
+abbrev pub first_send : (slots queue : ℕ) → Send
 first_send slots queue =
     record { slots = slots; queue = queue; stage = Pushes (first_push queue).stage }
 
@@ -31,7 +31,7 @@ abbrev pub inner_push : ℕ → PushStage → Push
 inner_push queue stage = record { capacity = queue; stage = stage }
 
 -- push the index; release the one that came back
-abbrev pub send_asks : ℕ → ℕ → SendStage → ℕ → Want (Unit {0})
+abbrev pub send_asks : (slots queue : ℕ) → SendStage → ℕ → Want (Unit {0})
 send_asks slots queue (Pushes stage) given =
     shifted (submission_word slots) (push_asks queue stage given)
 send_asks slots queue (Releases index stage) given = back_asks slots index stage
@@ -43,7 +43,7 @@ abbrev pub releases : Send → ℕ → After Send (Option ℕ)
 releases call index = GoOn (at_send call (Releases index ClearsFlag))
 
 -- where the queue was full, the oldest index is the last word that the push has read
-abbrev pub send_pushed : Send → ℕ → ℕ → After Push PushEnd → After Send (Option ℕ)
+abbrev pub send_pushed : Send → (given old : ℕ) → After Push PushEnd → After Send (Option ℕ)
 send_pushed call given old (GoOn push) = GoOn (at_send call (Pushes push.stage))
 send_pushed call given old (Done Added) = Done None
 send_pushed call given old (Done Own) = releases call given
@@ -53,11 +53,11 @@ abbrev pub send_released : Send → ℕ → After (Release DefaultMode) ReleaseS
 send_released call index (GoOn release) = GoOn (at_send call (Releases index release.stage))
 send_released call index (Done state) = Done (Some index)
 
-abbrev pub send_takes : Send → SendStage → ℕ → ℕ → After Send (Option ℕ)
+abbrev pub send_takes : Send → SendStage → (given old : ℕ) → After Send (Option ℕ)
 send_takes call (Pushes stage) given old =
     send_pushed call given old (push_takes (inner_push call.queue stage) stage old)
 send_takes call (Releases index stage) given old =
     send_released call index (back_takes call.slots stage old)
 
-abbrev pub send_after : Send → ℕ → ℕ → After Send (Option ℕ)
+abbrev pub send_after : Send → (given old : ℕ) → After Send (Option ℕ)
 send_after call given old = send_takes call call.stage given old

@@ -21,7 +21,7 @@ use Rattle.steps.specs.declared.queues.ring.PopStage.{PopStage}
 use Rattle.steps.specs.declared.queues.ring.PopStage.TheVariants.{LoadsRead}
 
 -- nothing is read yet
-abbrev pub first_take_back : ℕ → ℕ → TakeBack
+abbrev pub first_take_back : (slots queue : ℕ) → TakeBack
 first_take_back slots queue =
     record { slots = slots; queue = queue; stage = Pops LoadsRead (record { 0 = 0 }) }
 
@@ -33,7 +33,7 @@ abbrev pub inner_pop : ℕ → PopStage → Pop ℕ OneWord
 inner_pop slots stage = record { capacity = slots; stage = stage; of = record {} }
 
 -- pop an index; release it
-abbrev pub take_back_asks : ℕ → ℕ → TakeBackStage → Want (Unit {0})
+abbrev pub take_back_asks : (slots queue : ℕ) → TakeBackStage → Want (Unit {0})
 take_back_asks slots queue (Pops stage found) =
     shifted (completion_word slots queue) (pop_asks stage)
 take_back_asks slots queue (Releases index stage) = back_asks slots index stage

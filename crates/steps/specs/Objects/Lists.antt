@@ -11,7 +11,7 @@ pub record Bounded (V : Type 0) : Type 0 where
   pub values : List V
 
 module _ {V : Type 0} where
-  abbrev pub opened_at : ℕ → ℕ → Bounded V
+  abbrev pub opened_at : (capacity position : ℕ) → Bounded V
   opened_at capacity position =
       record { capacity = capacity; first = position; values = [] }
 

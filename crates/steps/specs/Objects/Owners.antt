@@ -23,7 +23,7 @@ pub record Owned : Type 0 where
   pub owner : ℕ
   pub index : ℕ
 
-abbrev pub opened_at : ℕ → ℕ → Owners
+abbrev pub opened_at : (capacity generation : ℕ) → Owners
 opened_at capacity generation =
     record { owners = replicate capacity None; generation = generation }
 
@@ -96,7 +96,7 @@ owns None owner = false
 owns (Some other) owner = other == owner
 
 -- whether this index is that owner's
-abbrev pub has : Owners → ℕ → ℕ → Bool
+abbrev pub has : Owners → (index owner : ℕ) → Bool
 has s index owner = owns (slice_index_or s.owners index None) owner
 
 -- It is locked where a count finds no index with an owner. The count raises the generation too, and
@@ -118,14 +118,13 @@ abbrev pub release_state : ReleaseMode → Owners → ReleaseState
 release_state Default s = Unlocked
 release_state LockIfLastIndex s = state_of s
 
-abbrev pub released : Owners → ℕ → ℕ → ReleaseMode
-    → Result ReleaseState RobustUniqueIndexSetReleaseError
+abbrev pub released : Owners → (index owner : ℕ) → ReleaseMode → Result ReleaseState RobustUniqueIndexSetReleaseError
 released s index owner mode =
     if has s index owner
     then Ok (release_state mode (given_back mode s index))
     else Err IndexIsNotOwnedByProvidedOwner
 
-abbrev pub after_release : Owners → ℕ → ℕ → ReleaseMode → Owners
+abbrev pub after_release : Owners → (index owner : ℕ) → ReleaseMode → Owners
 after_release s index owner mode =
     if has s index owner then given_back mode s index else s
 

@@ -9,7 +9,7 @@ use Rattle.steps.specs.declared.queues.lengths.LenStage.{LenStage}
 use Rattle.steps.specs.declared.queues.lengths.LenStage.TheVariants.{LoadsWrite, LoadsRead, LoadsWriteAgain, LoadsReadAgain}
 
 -- a queue of capacity 0 has no value, whatever its words say
-abbrev pub number_waiting : ℕ → ℕ → ℕ → ℕ
+abbrev pub number_waiting : (capacity write read : ℕ) → ℕ
 number_waiting capacity write read = if capacity == 0 then 0 else distance write read
 
 abbrev pub first_len : ℕ → Len

@@ -17,11 +17,11 @@ use Rattle.steps.specs.declared.queues.overflow.PopStage.{PopStage}
 use Rattle.steps.specs.declared.queues.overflow.PopStage.TheVariants as pops
 
 -- the word of the position's cell: there is one cell more than the capacity
-abbrev pub cell_word : ℕ → ℕ → ℕ
+abbrev pub cell_word : (capacity position : ℕ) → ℕ
 cell_word capacity position = 4 + position % (capacity + 1)
 
 -- moves the word on from this position
-abbrev pub move : ℕ → ℕ → Want (Unit {0})
+abbrev pub move : (word position : ℕ) → Want (Unit {0})
 move word position =
     wants.Ask (record { word = word; op = Exchange position (after_position position) })
 
@@ -89,7 +89,7 @@ abbrev pub push_kept : Push → OneWord → ℕ → OneWord
 push_kept call room old = push_keeps room call.stage old
 
 -- of the value that was given and the one that was read
-abbrev pub push_answer : ℕ → ℕ → PushEnd → Option ℕ
+abbrev pub push_answer : (given oldest : ℕ) → PushEnd → Option ℕ
 push_answer given oldest Added = None
 push_answer given oldest Own = Some given
 push_answer given oldest Oldest = Some oldest

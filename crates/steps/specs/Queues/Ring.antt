@@ -18,21 +18,21 @@ abbrev pub after_position : ℕ → ℕ
 after_position position = (position + 1) % 2 ^ 64
 
 -- how far the read position is behind the write position, which wraps
-abbrev pub distance : ℕ → ℕ → ℕ
+abbrev pub distance : (write read : ℕ) → ℕ
 distance write read = (write + 2 ^ 64 - read) % 2 ^ 64
 
 -- the first word of the position's cell
-abbrev pub cell_word : ℕ → ℕ → ℕ → ℕ
+abbrev pub cell_word : (capacity size position : ℕ) → ℕ
 cell_word capacity size position = if capacity == 0 then 4 else 4 + size * (position % capacity)
 
 -- the word of a cell at this place, by its first word
-abbrev pub word_at : ℕ → ℕ → ℕ
+abbrev pub word_at : (cell at : ℕ) → ℕ
 word_at cell at = (cell + at) % 2 ^ 64
 
 abbrev pub load : ℕ → Want (Unit {0})
 load word = wants.Ask (record { word = word; op = Load })
 
-abbrev pub store : ℕ → ℕ → Want (Unit {0})
+abbrev pub store : (word new : ℕ) → Want (Unit {0})
 store word new = wants.Ask (record { word = word; op = Store new })
 
 module _ {V : Type 0} where

@@ -55,7 +55,7 @@ robust_call name ws = do
 -- ---- how they print
 
 -- an index and its owner
-abbrev pub owned_text : ℕ → ℕ → List ℕ
+abbrev pub owned_text : (index owner : ℕ) → List ℕ
 owned_text index owner = decimal index ++ codes " " ++ decimal owner
 
 abbrev pub call_text : RobustStart → List ℕ

@@ -81,7 +81,7 @@ module _ {T : Type 0} where
   wrote capacity (Atomic start) answer events = moments events ≡ moments_of start answer
   wrote capacity start answer events = ⊥
 
-  abbrev pub most : ℕ → ℕ → Start T → ℕ → ℕ
+  abbrev pub most : (capacity size : ℕ) → Start T → ℕ → ℕ
   most capacity size (Atomic start) backs = most_steps size start backs
   most capacity size start backs = 0
 

@@ -92,7 +92,7 @@ module _ {T : Type 0} where
   BitsWrote capacity (Bits (IsSet bit)) (Truth answer) wrote = wrote ≡ []
   BitsWrote capacity start answer wrote = ⊥
 
-  abbrev pub most_of_bits : ℕ → ℕ → Start T → ℕ → ℕ
+  abbrev pub most_of_bits : (capacity size : ℕ) → Start T → ℕ → ℕ
   most_of_bits capacity size (Bits start) backs = most_bits_steps capacity start backs
   most_of_bits capacity size start backs = 0
 
@@ -174,7 +174,7 @@ module _ {T : Type 0} where
   MayCount place start wrote = ⊥
 
   -- a reset of all takes out what is above 0, ascending
-  abbrev pub MayTake : ℕ → ℕ → Start T → List (Event T) → Type 0
+  abbrev pub MayTake : (place number : ℕ) → Start T → List (Event T) → Type 0
   MayTake place number (Bits ResetAll) wrote =
       (1 ≤ number) × ((b : ℕ) → place ≤ b → takes b wrote ≡ 0)
   MayTake place number start wrote = ⊥
@@ -192,7 +192,7 @@ module _ {T : Type 0} where
   CountsWrote capacity (Bits (Count place)) (Number number) wrote = wrote ≡ []
   CountsWrote capacity start answer wrote = ⊥
 
-  abbrev pub most_of_counts : ℕ → ℕ → Start T → ℕ → ℕ
+  abbrev pub most_of_counts : (capacity size : ℕ) → Start T → ℕ → ℕ
   most_of_counts capacity size (Bits start) backs = most_counts_steps capacity start
   most_of_counts capacity size start backs = 0
 

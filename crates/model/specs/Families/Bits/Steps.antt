@@ -15,13 +15,13 @@ use Rattle.model.specs.Step.{Step}
 
 module _ {T : Type 0} where
   -- an exchange that found the element as it was sets the bit
-  abbrev pub set_events : ℕ → ℕ → SetStage → ℕ → List (Event T)
+  abbrev pub set_events : (p bit : ℕ) → SetStage → ℕ → List (Event T)
   set_events p bit sets.LoadsElement old = []
   set_events p bit (sets.ExchangesElement found) old =
       if old == found then events.Set p bit ∷ [] else []
 
   -- or clears it
-  abbrev pub reset_events : ℕ → ℕ → ResetNextStage → ℕ → List (Event T)
+  abbrev pub reset_events : (p capacity : ℕ) → ResetNextStage → ℕ → List (Event T)
   reset_events p capacity (resets.ExchangesElement start passed found) old =
       if old == found
       then events.Cleared p (place_after capacity start passed) ∷ []
@@ -29,11 +29,11 @@ module _ {T : Type 0} where
   reset_events p capacity stage old = []
 
   -- a swap of the element in this word clears each bit that stood in it, ascending
-  abbrev pub clear_events : ℕ → ℕ → ℕ → List (Event T)
+  abbrev pub clear_events : (p word old : ℕ) → List (Event T)
   clear_events p word old = map (λ bit. events.Cleared p bit) (places_in word old)
 
   -- a swap of a count above 0 takes it out
-  abbrev pub take_events : ℕ → ℕ → ℕ → List (Event T)
+  abbrev pub take_events : (p place old : ℕ) → List (Event T)
   take_events p place old = if old == 0 then [] else events.TakenOut p place old ∷ []
 
   -- what the step writes that is handed this old value of its word

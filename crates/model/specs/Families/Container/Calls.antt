@@ -41,7 +41,7 @@ use Rattle.model.specs.Step.{Going, as_call}
 -- ---- the calls that begin
 
 -- an index, or the capacity for any index past it
-abbrev pub place_of : ℕ → ℕ → ℕ
+abbrev pub place_of : (capacity index : ℕ) → ℕ
 place_of capacity index = if nat_lt index capacity then index else capacity
 
 module _ {T : Type 0} where
@@ -55,7 +55,7 @@ module _ {T : Type 0} where
         room = tt;
       })
 
-  abbrev pub remove_of : ℕ → ℕ → ℕ → ReleaseMode → ContainerFlight T
+  abbrev pub remove_of : (capacity index owner : ℕ) → ReleaseMode → ContainerFlight T
   remove_of capacity index owner mode =
       Remove
       (record {
@@ -64,7 +64,7 @@ module _ {T : Type 0} where
         room = tt;
       })
 
-  abbrev pub replace_of : ℕ → ℕ → T → ℕ → ContainerFlight T
+  abbrev pub replace_of : (capacity index : ℕ) → T → ℕ → ContainerFlight T
   replace_of capacity index value owner =
       Replace
       (record {
@@ -73,11 +73,11 @@ module _ {T : Type 0} where
         room = tt;
       })
 
-  abbrev pub find_of : ℕ → ℕ → ContainerFlight T
+  abbrev pub find_of : (capacity owner : ℕ) → ContainerFlight T
   find_of capacity owner =
       Find (record { call = first_find capacity; given = owner; room = fresh_cell })
 
-  abbrev pub recover_of : ℕ → ℕ → ReleaseMode → ContainerFlight T
+  abbrev pub recover_of : (capacity owner : ℕ) → ReleaseMode → ContainerFlight T
   recover_of capacity owner mode =
       Recover
       (record {

@@ -41,14 +41,14 @@ module _ {T : Type 0} where
 
   -- An update that answers false has taken one step. That step has left its state, so the state is as it
   -- was when the update had begun.
-  abbrev pub FalseAtOnce : Trace T → Trace T → Type 0
+  abbrev pub FalseAtOnce : (old new : Trace T) → Type 0
   FalseAtOnce old new =
       (p : ℕ) → EndsLook p UpdateState (Truth false) old new
       → (steps_of (progress_in new.world p) ≡ 1)
       × (state_in new.world.kept p ≡ state_in old.world.kept p)
 
   -- each value that a finished get_state shows was copied by that very call
-  abbrev pub ShowsOwnCopies : Trace T → Trace T → Type 0
+  abbrev pub ShowsOwnCopies : (old new : Trace T) → Type 0
   ShowsOwnCopies old new =
       (p i : ℕ) (answer : Answer T) (state : ContainerState T) (value : T)
       → EndsLook p GetState answer old new

@@ -87,7 +87,7 @@ module _ {T : Type 0} where
         → shows state i ≡ contents_of i events
 
   -- each index shows what stood there at a moment of the look, or that nothing did
-  abbrev pub ShowsMoments : ℕ → ℕ → ContainerState T → List (Event T) → Type 0
+  abbrev pub ShowsMoments : (p capacity : ℕ) → ContainerState T → List (Event T) → Type 0
   ShowsMoments p capacity state events =
       (i : ℕ) → i < capacity → HeldSometime p (λ part. shows state i ≡ contents_of i part) events
 
@@ -100,8 +100,8 @@ module _ {T : Type 0} where
   AnswersOfState start answer before state = Unit {0}
 
   -- a look that has gone through the indices says true
-  abbrev pub MomentsOfState : ℕ → ℕ → ContainerStart T → Answer T → ContainerState T
-      → List (Event T) → Type 0
+  abbrev pub MomentsOfState : (p capacity : ℕ) → ContainerStart T → Answer T → ContainerState T → List (Event T)
+      → Type 0
   MomentsOfState p capacity UpdateState (Truth true) state events =
       ShowsMoments p capacity state events
   MomentsOfState p capacity start answer state events = Unit {0}

@@ -23,7 +23,7 @@ use Rattle.model.specs.Step.{Beginning}
 
 -- the words of its set of indices; then how often it has changed, the number of each element, and
 -- the words of each
-abbrev pub opening_words : ℕ → ℕ → List ℕ
+abbrev pub opening_words : (size capacity : ℕ) → List ℕ
 opening_words size capacity =
     robust.opening_words capacity ++ replicate (1 + capacity + size * capacity) 0
 

@@ -79,11 +79,11 @@ module _ {T : Type 0} where
   AsksRight before e = Unit {0}
 
   -- the recovery was shown that nothing stood at the index
-  abbrev pub WasShown : ℕ → ℕ → List (Event T) → Type 0
+  abbrev pub WasShown : (p index : ℕ) → List (Event T) → Type 0
   WasShown p index events = IsOneOf (Sees index) (acts_of p events)
 
   -- a recovery frees for its own owner, who is dead, what it was told to free or shown
-  abbrev pub FreedRight : ℕ → ℕ → ℕ → List (Event T) → Span T → Type 0
+  abbrev pub FreedRight : (p index owner : ℕ) → List (Event T) → Span T → Type 0
   FreedRight p index owner before (Open (Container (Recover o mode)) wrote) =
       (owner ≡ o) × (is_dead owner before ≡ true)
       × (IsOneOf (Yes index owner) (set_acts_of p before) ⊎ WasShown p index before)
@@ -233,7 +233,7 @@ module _ {T : Type 0} where
         → HeldThroughout p (λ part. is_some (contents_of index part) ≡ true) events
         → (value : T) × IsOneOf (Copies index value) (acts_of p events)
 
-  abbrev pub CountsRight : ℕ → ℕ → ℕ → ℕ → List (Event T) → Trace T → Type 0
+  abbrev pub CountsRight : (p owner bound number : ℕ) → List (Event T) → Trace T → Type 0
   CountsRight p owner bound number events new =
       IsCount p (IsFilledWith owner) bound number events
       × (IsWellFormedRun new → IsFoundWhole p owner bound number events)
@@ -293,7 +293,7 @@ module _ {T : Type 0} where
   wrote capacity (Container start) answer events = HasDone start answer (set_acts events) (acts events)
   wrote capacity start answer events = ⊥
 
-  abbrev pub most : ℕ → ℕ → Start T → ℕ → ℕ
+  abbrev pub most : (capacity size : ℕ) → Start T → ℕ → ℕ
   most capacity size (Container start) backs = most_steps capacity size start backs
   most capacity size start backs = 0
 

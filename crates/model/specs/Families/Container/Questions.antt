@@ -57,7 +57,7 @@ module _ {T : Type 0} where
   -- ---- what a turn writes of it
 
   -- a find and a recovery come to indices that were their owner's at a moment of the call
-  abbrev pub WasOwners : ℕ → ℕ → List (Event T) → Span T → Type 0
+  abbrev pub WasOwners : (p index : ℕ) → List (Event T) → Span T → Type 0
   WasOwners p index before (Open (Container (Find owner)) wrote) =
       HeldSometime p (IsFilledWith owner index) before
   WasOwners p index before (Open (Container (Recover owner mode)) wrote) =
@@ -65,7 +65,7 @@ module _ {T : Type 0} where
   WasOwners p index before span = Unit {0}
 
   -- and ask at once about what they copy there
-  abbrev pub AsksAtOnce : ℕ → ℕ → T → Trace T → Span T → Type 0
+  abbrev pub AsksAtOnce : (p index : ℕ) → T → Trace T → Span T → Type 0
   AsksAtOnce p index value new (Open (Container (Find owner)) wrote) =
       question_at new p ≡ Some (index, value)
   AsksAtOnce p index value new (Open (Container (Recover owner mode)) wrote) =
@@ -95,7 +95,7 @@ module _ {T : Type 0} where
     pub is : new.events ≡ old.events ++ (before ++ e ∷ after)
 
   -- a question comes in the turn that copies its value, and in no other
-  abbrev pub AsksOnce : Trace T → Trace T → Type 0
+  abbrev pub AsksOnce : (old new : Trace T) → Type 0
   AsksOnce old new =
       (p index : ℕ) (value : T) → question_at new p ≡ Some (index, value)
       → question_at old p ≢ Some (index, value)

@@ -33,7 +33,7 @@ module _ {T : Type 0} where
   VisitsRight before e = Unit {0}
 
   -- so it is of all that a turn writes
-  abbrev pub VisitsUnlocked : Trace T → Trace T → Type 0
+  abbrev pub VisitsUnlocked : (old new : Trace T) → Type 0
   VisitsUnlocked old new =
       (wrote : List (Event T)) → new.events ≡ old.events ++ wrote
       → AllByRecursion (VisitsRight old.events) wrote
@@ -46,7 +46,7 @@ module _ {T : Type 0} where
       HeldSometime p (λ part. IsUnlocked part × (set_acts_of p part ≡ set_acts_of p events)) events
 
   -- in the mode that locks, some index was filled after each that it freed
-  abbrev pub FilledSinceEach : ReleaseMode → ℕ → ℕ → List (Event T) → Type 0
+  abbrev pub FilledSinceEach : ReleaseMode → (p owner : ℕ) → List (Event T) → Type 0
   FilledSinceEach LockIfLastIndex p owner events =
       (index : ℕ) → IsOneOf (Frees index owner) (set_acts_of p events)
       → FilledSinceFreed p owner index events

@@ -11,7 +11,7 @@ use Rattle.model.specs.Moments.{HeldSometime}
 
 module _ {T : Type 0} where
   -- nothing stood at the index at a moment of the party's call after it had freed it
-  abbrev pub EmptySinceFreed : ℕ → ℕ → ℕ → List (Event T) → Type 0
+  abbrev pub EmptySinceFreed : (p owner index : ℕ) → List (Event T) → Type 0
   EmptySinceFreed p owner index events =
       HeldSometime p
       (λ part. IsOneOf (Frees index owner) (set_acts_of p part) × (contents_of index part ≡ None))

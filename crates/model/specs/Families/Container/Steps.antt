@@ -32,19 +32,19 @@ use Rattle.model.specs.Step.{Step}
 
 module _ {T : Type 0} where
   -- the count of an element was even before 1 was added to it
-  abbrev pub placed : ℕ → ℕ → T → ℕ → List (Event T)
+  abbrev pub placed : (p index : ℕ) → T → ℕ → List (Event T)
   placed p index value old = if is_even old then Placed p index value ∷ [] else []
 
   -- the exchange of an odd count for the next
-  abbrev pub hidden : ℕ → ℕ → ℕ → ℕ → List (Event T)
+  abbrev pub hidden : (p index count old : ℕ) → List (Event T)
   hidden p index count old = if old == count then Hidden p index ∷ [] else []
 
   -- the exchange of a count for itself
-  abbrev pub copied : ℕ → ℕ → ℕ → T → ℕ → List (Event T)
+  abbrev pub copied : (p index count : ℕ) → T → ℕ → List (Event T)
   copied p index count value old = if old == count then Copied p index value ∷ [] else []
 
   -- a recovery finds an even count
-  abbrev pub shown : ℕ → ℕ → ℕ → List (Event T)
+  abbrev pub shown : (p index old : ℕ) → List (Event T)
   shown p index old = if is_even old then Shown p index ∷ [] else []
 
   abbrev pub add_effects : ℕ → Owned T → AddStage → ℕ → List (Event T)
@@ -84,7 +84,7 @@ module _ {T : Type 0} where
   find_effects p value (finds.Asks index found) old = []
 
   -- what a recovery finds at the number of an element: the copy, whole, or that nothing stands there
-  abbrev pub checked : ℕ → ℕ → ℕ → T → ℕ → List (Event T)
+  abbrev pub checked : (p index count : ℕ) → T → ℕ → List (Event T)
   checked p index count value old =
       if old == count then Copied p index value ∷ [] else shown p index old
 

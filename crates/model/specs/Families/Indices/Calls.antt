@@ -27,7 +27,7 @@ abbrev pub acquire_of : ℕ → IndexFlight
 acquire_of capacity =
     Acquire (record { call = first_acquire capacity; given = tt; room = tt })
 
-abbrev pub release_of : ℕ → ℕ → ReleaseMode → IndexFlight
+abbrev pub release_of : (capacity index : ℕ) → ReleaseMode → IndexFlight
 release_of capacity index Default =
     ReleaseDefault (record { call = first_release capacity; given = index; room = tt })
 release_of capacity index LockIfLastIndex =

@@ -97,7 +97,7 @@ module _ {T : Type 0} where
   wrote capacity (Indices start) answer events = done_by start answer ≡ Some (set_acts events)
   wrote capacity start answer events = ⊥
 
-  abbrev pub most : ℕ → ℕ → Start T → ℕ → ℕ
+  abbrev pub most : (capacity size : ℕ) → Start T → ℕ → ℕ
   most capacity size (Indices start) backs = most_steps capacity start backs
   most capacity size start backs = 0
 

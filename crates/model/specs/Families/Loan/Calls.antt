@@ -36,19 +36,19 @@ use Rattle.model.specs.Step.{Going, as_call}
 abbrev pub loan_of : ℕ → LoanFlight
 loan_of slots = Loan (record { call = first_acquire slots; given = tt; room = tt })
 
-abbrev pub send_of : ℕ → ℕ → ℕ → LoanFlight
+abbrev pub send_of : (slots queue index : ℕ) → LoanFlight
 send_of slots queue index =
     Send (record { call = first_send slots queue; given = index; room = tt })
 
-abbrev pub give_up_of : ℕ → ℕ → LoanFlight
+abbrev pub give_up_of : (slots index : ℕ) → LoanFlight
 give_up_of slots index = GiveUp (record { call = first_release slots; given = index; room = tt })
 
-abbrev pub take_back_of : ℕ → ℕ → LoanFlight
+abbrev pub take_back_of : (slots queue : ℕ) → LoanFlight
 take_back_of slots queue =
     TakeBack (record { call = first_take_back slots queue; given = tt; room = tt })
 
 -- by this receiver: a pop of the submission queue
-abbrev pub receive_of : ℕ → ℕ → ℕ → LoanFlight
+abbrev pub receive_of : (slots queue p : ℕ) → LoanFlight
 receive_of slots queue p =
     Receive p
     (record {
@@ -58,7 +58,7 @@ receive_of slots queue p =
     })
 
 -- and a push of the completion queue
-abbrev pub give_back_of : ℕ → ℕ → ℕ → ℕ → LoanFlight
+abbrev pub give_back_of : (slots queue p index : ℕ) → LoanFlight
 give_back_of slots queue p index =
     GiveBack p
     (record {
@@ -67,7 +67,7 @@ give_back_of slots queue p index =
       room = tt;
     })
 
-abbrev pub reclaim_of : ℕ → ℕ → LoanFlight
+abbrev pub reclaim_of : (slots queue : ℕ) → LoanFlight
 reclaim_of slots queue = Reclaim (first_reclaim slots queue)
 
 abbrev pub first : ℕ → Book → LoanStart → LoanFlight

@@ -28,12 +28,12 @@ abbrev pub queue_words : ℕ → List ℕ
 queue_words cells = 0 ∷ 0 ∷ 1 ∷ 1 ∷ replicate cells 0
 
 -- the indices, the submission queue, and a completion queue with as many cells as slots
-abbrev pub opening_words : ℕ → ℕ → List ℕ
+abbrev pub opening_words : (slots queue : ℕ) → List ℕ
 opening_words slots queue =
     index_opening.opening_words slots ++ (queue_words (queue + 1) ++ queue_words slots)
 
 -- each index is free, party 1 is the receiver, and nobody has died
-abbrev pub opening_book : ℕ → ℕ → Book
+abbrev pub opening_book : (slots queue : ℕ) → Book
 opening_book slots queue =
     record {
       queue = queue;

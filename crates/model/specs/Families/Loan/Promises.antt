@@ -75,7 +75,7 @@ module _ {T : Type 0} where
       × ((spot ≡ With (receiver_of before)) ⊎ (spot ≡ Passing (receiver_of before)))
 
   -- an index that is freed was in passing in the call that frees it, or a reclaim frees what a receiver has left
-  abbrev pub MayFree : ℕ → ℕ → List (Event T) → Type 0
+  abbrev pub MayFree : (p index : ℕ) → List (Event T) → Type 0
   MayFree p index before =
       (spot_of index before ≡ Passing p)
       ⊎ (IsReclaiming (span_of p before) × IsLeft before (spot_of index before))
@@ -139,11 +139,11 @@ module _ {T : Type 0} where
   -- ---- the words
 
   -- what waits in the submission queue, and what is to be taken back, by the words
-  abbrev pub sent_in : Coding T → ℕ → ℕ → List ℕ → List (Item T)
+  abbrev pub sent_in : Coding T → (slots queue : ℕ) → List ℕ → List (Item T)
   sent_in code slots queue words =
       waiting_in code Overflow queue (drop (submission_word slots) words)
 
-  abbrev pub given_back_in : Coding T → ℕ → ℕ → List ℕ → List (Item T)
+  abbrev pub given_back_in : Coding T → (slots queue : ℕ) → List ℕ → List (Item T)
   given_back_in code slots queue words =
       waiting_in code IndexQueue slots (drop (completion_word slots queue) words)
 
@@ -227,7 +227,7 @@ module _ {T : Type 0} where
   wrote slots (Loan start) answer events = Wrote start answer events
   wrote slots start answer events = ⊥
 
-  abbrev pub most : ℕ → ℕ → Start T → ℕ → ℕ
+  abbrev pub most : (slots size : ℕ) → Start T → ℕ → ℕ
   most slots size (Loan start) backs = most_steps slots start backs
   most slots size start backs = 0
 

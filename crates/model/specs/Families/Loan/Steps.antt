@@ -47,22 +47,22 @@ abbrev pub read_in : ℕ → List ℕ → ℕ
 read_in base words = slice_index words (word_at base 1)
 
 -- what stands in a cell of the submission queue, which begins at this word, by its position
-abbrev pub sent_at : ℕ → ℕ → List ℕ → ℕ → ℕ
+abbrev pub sent_at : (base queue : ℕ) → List ℕ → ℕ → ℕ
 sent_at base queue words position = slice_index words (word_at base (cell_word queue position))
 
 -- and of the completion queue, with a cell for each slot
-abbrev pub given_back_at : ℕ → ℕ → List ℕ → ℕ → ℕ
+abbrev pub given_back_at : (base slots : ℕ) → List ℕ → ℕ → ℕ
 given_back_at base slots words position =
     slice_index words (word_at base (ring.cell_word slots 1 position))
 
 -- ---- a send that has published over a full queue, and acts once the read position goes on
 
-abbrev pub pending_push : ℕ → ℕ → PushStage → Option ℕ
+abbrev pub pending_push : (position index : ℕ) → PushStage → Option ℕ
 pending_push position index (overflow_pushes.MovesRead read) =
     if read == position then Some index else None
 pending_push position index stage = None
 
-abbrev pub pending_send : ℕ → ℕ → SendStage → Option ℕ
+abbrev pub pending_send : (position index : ℕ) → SendStage → Option ℕ
 pending_send position index (sends.Pushes stage) = pending_push position index stage
 pending_send position index (sends.Releases other stage) = None
 
@@ -84,7 +84,7 @@ module _ {T : Type 0} where
 
 -- A send that finds the queue full waits for the read position to go on: it acts at its own move, or where a receive
 -- moves it first. Where it has gone on already, there is room. The submission queue begins at the first word.
-abbrev pub push_effect : ℕ → ℕ → List ℕ → ℕ → PushStage → ℕ → Effect
+abbrev pub push_effect : (base queue : ℕ) → List ℕ → ℕ → PushStage → ℕ → Effect
 push_effect base queue words index (overflow_pushes.StoresWrite write read) old =
     if distance write read == queue && (read_in base words == read)
     then effects.Publishes index
@@ -98,14 +98,14 @@ abbrev pub release_effect : ℕ → ReleaseStage → Effect
 release_effect index releases.ClearsFlag = effects.Frees index
 release_effect index stage = effects.Quiet
 
-abbrev pub send_effect : ℕ → ℕ → List ℕ → ℕ → SendStage → ℕ → Effect
+abbrev pub send_effect : (base queue : ℕ) → List ℕ → ℕ → SendStage → ℕ → Effect
 send_effect base queue words index (sends.Pushes stage) old =
     push_effect base queue words index stage old
 send_effect base queue words index (sends.Releases back stage) old =
     release_effect back stage
 
 -- beside a send that waits for the read position
-abbrev pub receive_effect : ℕ → ℕ → List ℕ → Option (ℕ × ℕ) → PopStage → ℕ → Effect
+abbrev pub receive_effect : (base queue : ℕ) → List ℕ → Option (ℕ × ℕ) → PopStage → ℕ → Effect
 receive_effect base queue words push (overflow_pops.LoadsWrite read) old =
     if old == read then effects.FindsNone else effects.Quiet
 receive_effect base queue words push (overflow_pops.MovesRead read) old =
@@ -122,17 +122,17 @@ abbrev pub give_back_effect : ℕ → pushes.PushStage → Effect
 give_back_effect index (pushes.TheVariants.StoresWrite write) = effects.Returns index
 give_back_effect index stage = effects.Quiet
 
-abbrev pub drains_effect : ℕ → ℕ → List ℕ → PopStage → ℕ → Effect
+abbrev pub drains_effect : (base queue : ℕ) → List ℕ → PopStage → ℕ → Effect
 drains_effect base queue words (overflow_pops.MovesRead read) old =
     if old == read then effects.HandsOut (sent_at base queue words read) else effects.Quiet
 drains_effect base queue words stage old = effects.Quiet
 
-abbrev pub empties_effect : ℕ → ℕ → List ℕ → pops.PopStage → Effect
+abbrev pub empties_effect : (base slots : ℕ) → List ℕ → pops.PopStage → Effect
 empties_effect base slots words (pops.TheVariants.StoresRead read) =
     effects.TakesBack (given_back_at base slots words read)
 empties_effect base slots words stage = effects.Quiet
 
-abbrev pub reclaim_effect : ℕ → ℕ → List ℕ → ReclaimStage → ℕ → Effect
+abbrev pub reclaim_effect : (slots queue : ℕ) → List ℕ → ReclaimStage → ℕ → Effect
 reclaim_effect slots queue words (reclaims.Drains stage) old =
     drains_effect (submission_word slots) queue words stage old
 reclaim_effect slots queue words (reclaims.Empties stage) old =

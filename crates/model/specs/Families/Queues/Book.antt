@@ -25,7 +25,7 @@ module _ {T : Type 0} (code : Coding T) where
       Value (code.value_of (take code.size (drop cell words)))
 
   -- the first word of a position's cell, in a queue of this capacity
-  abbrev pub cell_of : QueueKind → ℕ → ℕ → ℕ
+  abbrev pub cell_of : QueueKind → (capacity position : ℕ) → ℕ
   cell_of kind capacity position =
       cell_word (cells_of kind capacity) (words_of_cell code.size kind) position
 

@@ -172,7 +172,7 @@ abbrev pub read_in : {T : Type 0} → Coding T → buffers.Buffer 128 → T
 read_in code room = value_in code.value_of code.size room.words
 
 -- a word is put to its place in the room
-abbrev pub kept_at : buffers.Buffer 128 → ℕ → ℕ → buffers.Buffer 128
+abbrev pub kept_at : buffers.Buffer 128 → (at word : ℕ) → buffers.Buffer 128
 kept_at room at word = record room { words = slice_set room.words at word }
 
 -- an end that is the answer

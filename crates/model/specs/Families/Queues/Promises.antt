@@ -107,7 +107,7 @@ module _ {T : Type 0} where
   wrote kind capacity (Queues start) answer events = Wrote kind capacity start answer events
   wrote kind capacity start answer events = ⊥
 
-  abbrev pub most : QueueKind → ℕ → ℕ → Start T → ℕ → ℕ
+  abbrev pub most : QueueKind → (capacity size : ℕ) → Start T → ℕ → ℕ
   most kind capacity size (Queues start) backs = most_steps size kind start backs
   most kind capacity size start backs = 0
 

@@ -35,7 +35,7 @@ use Rattle.model.specs.Step.{Step, answer_in}
 
 -- ---- a push that has published over a full queue, and acts once the read position goes on
 
-abbrev pub pending_from : ℕ → ℕ → PushStage → Option ℕ
+abbrev pub pending_from : (position value : ℕ) → PushStage → Option ℕ
 pending_from position value (overflow_pushes.MovesRead read) =
     if read == position then Some value else None
 pending_from position value other = None

@@ -1,3 +1,4 @@
+-- `enter` (src/parts.rt): its returns meet the clauses `latest_stays` and `latest`.
 use Rattle.std.proofs.Common.{sym, ap, ◌∙◌}
 use Rattle.std.proofs.lemmas.Map.Steps.{set_value_same}
 use Rattle.std.specs.BTreeMap.{is_at}
@@ -11,6 +12,7 @@ returns-then-not-keep-clause-latest_stays g c stays =
     (c.get_mut.follows.holds c.in-Some.seat.now).0
     ∙ set_value_same (is_at (nat_cmp c.args.number)) c.args.latest.now.entries c.in-Some.seat.now (sym c.in-Some.ensures.value)
 
+-- where the party has begun a call before, its new one stands in its place
 pub returns-in-Some-clause-latest : goal.returns-in-Some-clause-latest
 returns-in-Some-clause-latest g c is =
     let y = c.reseat.new.seat in

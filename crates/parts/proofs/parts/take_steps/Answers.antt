@@ -1,3 +1,4 @@
+-- `take_steps` (src/parts.rt): each iteration keeps the invariant of its loop.
 use Rattle.std.proofs.Common.{◌≡◌, ◌+◌, refl, subst, arith}
 use Rattle.model.specs.Coding.{coding_by}
 use Rattle.model.specs.Small.{HasSmallCounts}
@@ -5,6 +6,7 @@ use Rattle.parts.specs.Parts.{around}
 use Rattle.parts.proofs.Steps.{around_small, one_more_step}
 use Rattle.parts.proofs.parts.take_steps.Goals as goal
 
+-- with each step that was taken there is one step more, and the counts stay small
 pub loop-taken-preserved : goal.loop-taken-preserved
 loop-taken-preserved g c =
     let code = coding_by g.T.Words in

@@ -1,3 +1,4 @@
+-- So many steps were taken, one after another, and the counts stay small.
 use Rattle.std.proofs.Common.{◌+◌, ◌≤◌}
 use Rattle.model.specs.Coding.{coding_by}
 use Rattle.model.specs.Small.{HasSmallCounts}

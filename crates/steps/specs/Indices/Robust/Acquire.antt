@@ -38,7 +38,7 @@ abbrev pub acquire_want : Acquire → ℕ → Want (Unit {0})
 acquire_want call owner = acquire_asks call.stage owner
 
 -- the next cell; after the last one the counter is checked
-abbrev pub acquire_tries : Acquire → ℕ → ℕ → After Acquire Acquired
+abbrev pub acquire_tries : Acquire → (counter index : ℕ) → After Acquire Acquired
 acquire_tries call counter index =
     GoOn
     (at_acquire call

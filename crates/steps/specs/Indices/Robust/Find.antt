@@ -27,14 +27,14 @@ abbrev pub find_want : Find → Want (Unit {0})
 find_want call = find_asks call.stage
 
 -- the next cell, if there is one
-abbrev pub find_comes_to : Find → ℕ → ℕ → After Find ℕ
+abbrev pub find_comes_to : Find → (index found : ℕ) → After Find ℕ
 find_comes_to call index found =
     if nat_lt index call.capacity
     then GoOn (at_find call (finds.LoadsCell index found))
     else Done found
 
 -- each index of the owner counts, also that on which it is told to stop
-abbrev pub find_takes : Find → FindStage → ℕ → ℕ → After Find ℕ
+abbrev pub find_takes : Find → FindStage → (owner old : ℕ) → After Find ℕ
 find_takes call (finds.LoadsCell index found) owner old =
     if old == owner
     then GoOn (at_find call (finds.Asks index (one_more found)))
@@ -42,7 +42,7 @@ find_takes call (finds.LoadsCell index found) owner old =
 find_takes call (finds.Asks index found) owner old =
     if old == 0 then Done found else find_comes_to call (index + 1) found
 
-abbrev pub find_after : Find → ℕ → ℕ → After Find ℕ
+abbrev pub find_after : Find → (owner old : ℕ) → After Find ℕ
 find_after call owner old = find_takes call call.stage owner old
 
 -- it goes down at each step

@@ -36,7 +36,7 @@ greatest = 2 ^ 64 - 2
 abbrev pub one_more : ℕ → ℕ
 one_more number = (number + 1) % 2 ^ 64
 
-abbrev pub exchange : ℕ → ℕ → ℕ → Want (Unit {0})
+abbrev pub exchange : (word from to : ℕ) → Want (Unit {0})
 exchange word from to = wants.Ask (record { word = word; op = Exchange from to })
 
 -- ---- raise
@@ -74,7 +74,7 @@ count_want (counts.ExchangesCounter counter filled) =
     exchange 0 counter (one_more counter)
 
 -- the next cell; after the last one the count is closed, at its end by nothing
-abbrev pub count_comes_to : ℕ → ℕ → ℕ → ℕ → After Count Counted
+abbrev pub count_comes_to : (capacity counter index filled : ℕ) → After Count Counted
 count_comes_to capacity counter index filled =
     if nat_lt index capacity
     then GoOn (counts.LoadsCell counter index filled)

@@ -25,11 +25,11 @@ use Rattle.model.specs.Step.{Going, as_call}
 -- ---- the calls that begin
 
 -- on a set of this capacity
-abbrev pub acquire_of : ℕ → ℕ → RobustFlight
+abbrev pub acquire_of : (capacity owner : ℕ) → RobustFlight
 acquire_of capacity owner =
     Acquire (record { call = first_acquire capacity; given = owner; room = tt })
 
-abbrev pub release_of : ℕ → ℕ → ℕ → ReleaseMode → RobustFlight
+abbrev pub release_of : (capacity index owner : ℕ) → ReleaseMode → RobustFlight
 release_of capacity index owner mode =
     Release
     (record {
@@ -38,7 +38,7 @@ release_of capacity index owner mode =
       room = tt;
     })
 
-abbrev pub find_of : ℕ → ℕ → RobustFlight
+abbrev pub find_of : (capacity owner : ℕ) → RobustFlight
 find_of capacity owner =
     Find (record { call = first_find capacity; given = owner; room = tt })
 

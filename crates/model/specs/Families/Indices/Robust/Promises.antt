@@ -64,7 +64,7 @@ module _ {T : Type 0} where
   abbrev pub IsFilled : ℕ → List (Event T) → Type 0
   IsFilled index events = is_some (filled_of index events) ≡ true
 
-  abbrev pub IsFilledWith : ℕ → ℕ → List (Event T) → Type 0
+  abbrev pub IsFilledWith : (owner index : ℕ) → List (Event T) → Type 0
   IsFilledWith owner index events = filled_of index events ≡ Some owner
 
   abbrev pub IsUnlocked : List (Event T) → Type 0
@@ -113,7 +113,7 @@ module _ {T : Type 0} where
   -- A release or a remove that frees was begun where its index might be given back for its owner: the
   -- acquire or the add that was granted it had finished, and no other release or remove of it for that
   -- owner had begun since.
-  abbrev pub MayGiveBack : ℕ → ℕ → List (Event T) → Span T → Type 0
+  abbrev pub MayGiveBack : (p index : ℕ) → List (Event T) → Span T → Type 0
   MayGiveBack p index before (Open (Robust (Release i owner mode)) wrote) =
       SinceBegin p (λ part since. settled_of index part ≡ Some owner) before
   MayGiveBack p index before (Open (Container (Remove i owner mode)) wrote) =
@@ -158,7 +158,7 @@ module _ {T : Type 0} where
         (λ part. IsOneOf (Frees index owner) (set_acts_of p part) × IsFilled other part) events
 
   -- the index was filled with this owner, or the recovery has freed it
-  abbrev pub StillToFree : ℕ → ℕ → ℕ → List (Event T) → Type 0
+  abbrev pub StillToFree : (p owner index : ℕ) → List (Event T) → Type 0
   StillToFree p owner index part =
       IsFilledWith owner index part ⊎ IsOneOf (Frees index owner) (set_acts_of p part)
 
@@ -222,7 +222,7 @@ module _ {T : Type 0} where
   wrote capacity (Robust start) answer events = HasDone start answer (set_acts events)
   wrote capacity start answer events = ⊥
 
-  abbrev pub most : ℕ → ℕ → Start T → ℕ → ℕ
+  abbrev pub most : (capacity size : ℕ) → Start T → ℕ → ℕ
   most capacity size (Robust start) backs = most_steps capacity start backs
   most capacity size start backs = 0
 

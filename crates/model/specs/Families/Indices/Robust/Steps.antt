@@ -24,7 +24,7 @@ use Rattle.model.specs.Step.{Step}
 
 module _ {T : Type 0} where
   -- the exchange of a cell from its owner to empty
-  abbrev pub freed : ℕ → ℕ → ℕ → ℕ → List (Event T)
+  abbrev pub freed : (p index owner old : ℕ) → List (Event T)
   freed p index owner old = if old == owner then FreedOf p index owner ∷ [] else []
 
   -- the exchange of the counter to locked
@@ -34,12 +34,12 @@ module _ {T : Type 0} where
       if old == counter then Locked p ∷ [] else []
 
   -- an index is granted at the end of a raise that the lock has not met
-  abbrev pub granted : ℕ → ℕ → ℕ → After Raise ReleaseState → List (Event T)
+  abbrev pub granted : (p index owner : ℕ) → After Raise ReleaseState → List (Event T)
   granted p index owner (Done Unlocked) = Granted p index owner ∷ []
   granted p index owner outcome = []
 
   -- the exchange of a cell from empty to its owner fills it
-  abbrev pub acquire_effects : ℕ → ℕ → AcquireStage → ℕ → List (Event T)
+  abbrev pub acquire_effects : (p owner : ℕ) → AcquireStage → ℕ → List (Event T)
   acquire_effects p owner acquires.LoadsCounter old = []
   acquire_effects p owner (acquires.FillsCell counter index) old =
       if old == empty then Filled p index owner ∷ [] else []

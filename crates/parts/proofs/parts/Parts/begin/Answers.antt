@@ -1,3 +1,4 @@
+-- `Parts::begin` (src/parts.rt): its return meets the clauses `allowed` and `refused`.
 use Rattle.std.proofs.Common.{◌≡◌, ◌<◌, ◌≤◌, inl, inr, ⊎_elim, true, false, is_some, refl, sym, subst, arith}
 use Rattle.std.proofs.lemmas.Result.{err_from_is_err_and}
 use Rattle.std.specs.Prelude.{IfErr}
@@ -9,6 +10,7 @@ use Rattle.parts.specs.Parts.{trace_of}
 use Rattle.parts.proofs.Going.{begin_passes, begin_refuses, begins_nowhere, is_busy, none_found, some_found}
 use Rattle.parts.proofs.parts.Parts.begin.Goals as goal
 
+-- a begin that is taken is not refused by the machine
 pub returns-clause-allowed : goal.returns-clause-allowed
 returns-clause-allowed g c =
     let w = (trace_of (coding_by g.T.Words) c.args.self.now).world in
@@ -17,6 +19,7 @@ returns-clause-allowed g c =
     none_found c.flight_of.result (flight_in w c.args.number) c.flight_of.ensures c.if-is_some.ensures in
     begin_passes w c.args.number c.args.start c.requires within free c.in_ok-flight.ensures.allowed
 
+-- where the family refuses the begin, or memory for the call is refused, the machine refuses it so
 pub returns-in_err-flight-clause-refused : goal.returns-in_err-flight-clause-refused
 returns-in_err-flight-clause-refused g c =
     let w = (trace_of (coding_by g.T.Words) c.args.self.now).world in
@@ -33,6 +36,7 @@ returns-in_err-flight-clause-refused g c =
     subst (λ r. IfErr r (IsRefusal w turn)) (sym passed.1)
     (subst (λ row. IsRefusal w turn row) (sym passed.2) refused)
 
+-- where memory for the event is refused, the machine would not refuse the begin
 pub returns-in_default-clause-refused : goal.returns-in_default-clause-refused
 returns-in_default-clause-refused g c =
     let w = (trace_of (coding_by g.T.Words) c.args.self.now).world in
@@ -41,6 +45,7 @@ returns-in_default-clause-refused g c =
     none_found c.flight_of.result (flight_in w c.args.number) c.flight_of.ensures c.if-is_some.ensures in
     inr (begin_passes w c.args.number c.args.start c.requires within free c.in_ok-flight.ensures.allowed, refl)
 
+-- where memory for the party is refused, the machine would not refuse the begin
 pub returns-then-not-enter-clause-refused : goal.returns-then-not-enter-clause-refused
 returns-then-not-enter-clause-refused g c =
     let w = (trace_of (coding_by g.T.Words) c.args.self.now).world in
@@ -55,6 +60,7 @@ returns-then-number-self-clause-refused g c =
     let beyond : c.args.self.now.parties ≤ c.args.number = omega arith in
     inl (begins_nowhere w c.args.number c.requires c.args.start beyond)
 
+-- where the party has a call under way, the machine refuses the begin as Busy
 pub returns-then-is_some-clause-refused : goal.returns-then-is_some-clause-refused
 returns-then-is_some-clause-refused g c =
     let w = (trace_of (coding_by g.T.Words) c.args.self.now).world in

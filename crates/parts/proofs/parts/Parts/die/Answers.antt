@@ -1,3 +1,4 @@
+-- `Parts::die` (src/parts.rt): its returns meet the clauses `refused`, `err` and `ok`.
 use Rattle.std.proofs.Common.{◌≡◌, inl, inr, false, None, Some, refl, sym}
 use Rattle.model.specs.Coding.{coding_by}
 use Rattle.model.specs.Families.{lacks_party, death_rows, kept_after_death}
@@ -6,6 +7,7 @@ use Rattle.parts.specs.Parts.{trace_of}
 use Rattle.parts.proofs.Going.{death_passes, death_refuses}
 use Rattle.parts.proofs.parts.Parts.die.Goals as goal
 
+-- where a row refuses the death, the machine refuses it so
 pub returns-in-Some-clause-refused : goal.returns-in-Some-clause-refused
 returns-in-Some-clause-refused g c =
     let w = (trace_of (coding_by g.T.Words) c.args.self.now).world in
@@ -13,6 +15,7 @@ returns-in-Some-clause-refused g c =
     let row : first_row (death_rows c.args.self.now.kept c.args.owner) ≡ Some c.in-Some.refusal = sym c.in-Some.ensures in
     inl (death_refuses w c.args.owner c.in-Some.refusal c.requires there row)
 
+-- where memory for the event is refused, the machine would not refuse the death
 pub returns-in_default-reserve-clause-refused : goal.returns-in_default-reserve-clause-refused
 returns-in_default-reserve-clause-refused g c =
     let w = (trace_of (coding_by g.T.Words) c.args.self.now).world in
@@ -20,6 +23,7 @@ returns-in_default-reserve-clause-refused g c =
     let rows : first_row (death_rows c.args.self.now.kept c.args.owner) ≡ None = sym c.in_default.ensures in
     inr (death_passes w c.args.owner c.requires there rows, refl)
 
+-- where memory to mark the owner as dead is refused, the machine would not refuse the death
 pub returns-then-not-mark_dead-clause-refused : goal.returns-then-not-mark_dead-clause-refused
 returns-then-not-mark_dead-clause-refused g c =
     let w = (trace_of (coding_by g.T.Words) c.args.self.now).world in

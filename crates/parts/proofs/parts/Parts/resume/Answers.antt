@@ -1,3 +1,5 @@
+-- `Parts::resume` (src/parts.rt): its call of `take_step` meets the requirement `small`, and its
+-- returns meet the clauses `allowed`, `ok`, `refused` and `err`.
 use Rattle.std.proofs.Common.{◌≡◌, ◌<◌, ◌≤◌, inl, Some, None, refl, sym, ap, ◌∙◌, arith}
 use Rattle.std.proofs.lemmas.Map.Steps.{set_value_same}
 use Rattle.std.specs.BTreeMap.{is_at}
@@ -13,6 +15,7 @@ pub take_step-gone-requires-clause-small : goal.take_step-gone-requires-clause-s
 take_step-gone-requires-clause-small g c =
     c.requires.small.latest c.args.number c.deref_mut.result.now (sym c.in-Some.ensures.value ∙ ap Some (sym (c.deref_mut.ensures.value ∙ c.seat.view_is)))
 
+-- a turn that is taken is not refused by the machine
 pub returns-in-Ok-clause-allowed : goal.returns-in-Ok-clause-allowed
 returns-in-Ok-clause-allowed g c =
     let within : c.args.number < c.args.self.now.parties = omega arith in
@@ -22,6 +25,7 @@ returns-in-Ok-clause-allowed g c =
     c.args.number c.args.said x c.requires.turns within found
     ∙ c.in-Ok.ensures.allowed
 
+-- a turn that is taken leaves the machine as the turn does
 pub returns-in-Ok-clause-ok : goal.returns-in-Ok-clause-ok
 returns-in-Ok-clause-ok g c =
     let w = (trace_of (coding_by g.T.Words) c.args.self.now).world in
@@ -34,6 +38,7 @@ returns-in-Ok-clause-ok g c =
     let is = rw c.look_beside-beside.ensures at c.in-Ok.ensures.ok in
     going_is w c.args.number c.args.said c.args.self.now.events.items x _ (c.get_mut.follows.lender y).entries found c.in-Ok.ensures.allowed is written
 
+-- where the step is refused, the machine refuses the turn so
 pub returns-in-Err-clause-refused : goal.returns-in-Err-clause-refused
 returns-in-Err-clause-refused g c =
     let within : c.args.number < c.args.self.now.parties = omega arith in
@@ -42,6 +47,7 @@ returns-in-Err-clause-refused g c =
     is_refusal (trace_of (coding_by g.T.Words) c.args.self.now).world
     c.args.number c.args.said x c.in-Err.refusal c.requires.turns within found c.in-Err.ensures.refused
 
+-- where the step is refused, the machine is as before
 pub returns-in-Err-clause-err : goal.returns-in-Err-clause-err
 returns-in-Err-clause-err g c =
     let w = (trace_of (coding_by g.T.Words) c.args.self.now).world in
@@ -60,6 +66,7 @@ returns-then-number-self-clause-refused g c =
     let beyond : c.args.self.now.parties ≤ c.args.number = omega arith in
     inl (goes_on_nowhere w c.args.number c.requires.turns c.args.said beyond)
 
+-- where the party has begun no call, the machine refuses the turn as Idle
 pub returns-in_default-clause-refused : goal.returns-in_default-clause-refused
 returns-in_default-clause-refused g c =
     let w = (trace_of (coding_by g.T.Words) c.args.self.now).world in

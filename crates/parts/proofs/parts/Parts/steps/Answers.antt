@@ -1,3 +1,5 @@
+-- `Parts::steps` (src/parts.rt): its call of `take_steps` meets the requirement `small`, and its
+-- return meets the clauses `allowed` and `ok`.
 use Rattle.std.proofs.Common.{◌≡◌, ◌+◌, ◌-◌, ◌^◌, ◌<◌, ◌≤◌, Some, sym, ap, ◌∙◌, arith}
 use Rattle.model.specs.Coding.{coding_by}
 use Rattle.model.specs.Parties.{party_of, put}
@@ -11,6 +13,7 @@ pub take_steps-taken-requires-clause-small : goal.take_steps-taken-requires-clau
 take_steps-taken-requires-clause-small g c =
     c.requires.latest c.args.number c.deref_mut.result.now (sym c.in-Some.ensures.value ∙ ap Some (sym (c.deref_mut.ensures.value ∙ c.seat.view_is)))
 
+-- none of the turns that were taken is refused by the machine
 pub returns-clause-allowed : goal.returns-clause-allowed
 returns-clause-allowed g c =
     let w = (trace_of (coding_by g.T.Words) c.args.self.now).world in
@@ -25,6 +28,7 @@ returns-clause-allowed g c =
     (steps_are w c.args.number x c.args.self.now.events.items c.take_steps-taken.result _ c.in-Some.ensures.ordered
     found within few c.take_steps-taken.ensures.steps).0
 
+-- the turns that were taken leave the machine as those turns do
 pub returns-clause-ok : goal.returns-clause-ok
 returns-clause-ok g c =
     let w = (trace_of (coding_by g.T.Words) c.args.self.now).world in

@@ -1,3 +1,5 @@
+-- `tell_cleared` (src/families/bits/effects.rt): each iteration keeps the invariant of its loop,
+-- and its return meets the clause `items`.
 use Rattle.std.proofs.Common.{◌≡◌, ◌+◌, ◌++◌, ◌∷◌, [], sym, ap, ◌∙◌, append_assoc, arith}
 use Rattle.std.specs.Prelude.{vec_len, vec_capacity}
 use Rattle.model.specs.declared.event.Event.TheVariants.{Cleared}
@@ -5,6 +7,8 @@ use Rattle.turns.proofs.Places.{clears_so_far, stood_more, clear_more}
 use Rattle.turns.proofs.families.bits.effects.tell_cleared.Goals as goal
 use Rattle.turns.proofs.families.bits.effects.tell_cleared.Goals.{then-has_flag, else-has_flag}
 
+-- with each bit the events are those of the bits so far whose flag was found, and there is room
+-- for the rest
 pub bits-preserved : goal.bits-preserved
 bits-preserved g c =
     let number = c.args.number in
@@ -37,6 +41,7 @@ bits-preserved g c =
           (now, omega arith, omega arith)
     ]
 
+-- in the end the events are those of all bits whose flag was found
 pub returns-clause-items : goal.returns-clause-items
 returns-clause-items g c =
     let all : c.bits.bit ≡ 64 = omega arith in

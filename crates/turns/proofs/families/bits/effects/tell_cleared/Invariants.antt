@@ -1,3 +1,4 @@
+-- The events are those of the bits so far whose flag was found, and there is room for the rest.
 use Rattle.std.proofs.Common.{◌≡◌, ◌≤◌, ◌+◌, ◌++◌}
 use Rattle.std.specs.Prelude.{vec_len, vec_capacity}
 use Rattle.turns.proofs.Places.{clears_so_far}

@@ -1,3 +1,5 @@
+-- `perform` (src/families/container/effects.rt): its return meets the clauses `after`, `states`
+-- and `wrote`.
 use Rattle.std.proofs.Common.{◌≡◌, List, ◌++◌, sym, ap, ◌∙◌, append_assoc, append-nil}
 use Rattle.std.specs.Prelude.{option_to_list}
 use Rattle.model.specs.declared.event.Event.{Event}
@@ -20,6 +22,7 @@ returns-clause-after g c = c.feed-done.ensures.after
 pub returns-clause-states : goal.returns-clause-states
 returns-clause-states g c = c.feed-done.ensures.states
 
+-- the events are those before, those of the step's effects, and those of its questions
 pub returns-clause-wrote : goal.returns-clause-wrote
 returns-clause-wrote g c =
     let told : List (Event g.row.T.Denot) = option_to_list c.effect.result in

@@ -1,3 +1,5 @@
+-- `open` (src/families/indices/opening.rt): its call of `push_reserved` meets what that requires,
+-- each iteration keeps the invariant of its loop, and its return meets the clause `words`.
 use Rattle.std.proofs.Common.{◌≡◌, ℕ, zero, suc, ◌+◌, ◌-◌, [], ◌∷◌, ◌++◌, length, take, sym, ap, ◌∙◌, arith}
 use Rattle.std.proofs.lemmas.List.{take_all}
 use Rattle.std.proofs.lemmas.List.FromFn.{length-range_with_len}
@@ -12,6 +14,7 @@ one_more (suc n) a =
     let e : a + 1 + n ≡ a + suc n = omega arith in
     ap (λ l. a ∷ l) (one_more n (a + 1) ∙ ap (λ x. range_with_len (a + 1) n ++ x ∷ []) e)
 
+-- there is room for each word
 pub push_reserved-requires-in-loop-index : goal.push_reserved-requires-in-loop-index
 push_reserved-requires-in-loop-index g c =
     let len = c.loop-index.invariant.1 in
@@ -19,6 +22,7 @@ push_reserved-requires-in-loop-index g c =
     let below = c.loop-index-test.true in
     omega arith
 
+-- with each word more, behind the head stand the numbers from 1 on
 pub loop-index-preserved : goal.loop-index-preserved
 loop-index-preserved g c =
     let len = c.loop-index.invariant.1 in
@@ -34,6 +38,7 @@ loop-index-preserved g c =
     ap (range_with_len 1) (sym suc_is) ∙ one_more c.loop-index.index 1 in
     (here ∙ ap (λ ws. 0 ∷ ws) (sym grown), omega arith, omega arith)
 
+-- the words are those with which a unique index set of this capacity opens
 pub returns-clause-words : goal.returns-clause-words
 returns-clause-words g c =
     let end : c.loop-index.index ≡ c.args.capacity = omega arith in

@@ -1,3 +1,4 @@
+-- Behind the head stand the numbers from 1 on, and there is room for the rest.
 use Rattle.std.proofs.Common.{◌≡◌, ◌∷◌, ◌+◌, ◌≤◌}
 use Rattle.std.specs.List.{range_with_len}
 use Rattle.std.specs.Prelude.{vec_len, vec_capacity}

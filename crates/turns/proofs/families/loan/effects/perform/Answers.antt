@@ -1,6 +1,8 @@
+-- `perform` (src/families/loan/effects.rt): its return meets the clause `kept`.
 use Rattle.turns.proofs.families.loan.effects.perform.Goals as goal
 use Rattle.turns.proofs.LoanBooks.{kept_as}
 
+-- the book is the one that the step keeps
 pub returns-clause-kept : goal.returns-clause-kept
 returns-clause-kept g c =
     kept_as g.row.T.Denot c.args.words.now.items c.args.push c.args.number c.args.start c.args.flight.now
