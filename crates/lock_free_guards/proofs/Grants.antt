@@ -13,7 +13,9 @@ use Rattle.lock_free_owners.specs.Robust.Contracts.{HasTaken, WasFilled, WasGran
 use Rattle.lock_free_guards.specs.Held.{HoldsFor}
 use Rattle.lock_free_guards.specs.Acquired.{HasAcquired}
 
+-- v and w are what the pass knew before the acquire and after it
 module _ (owner index : ℕ) (v w : View ℕ) (h : HasTaken owner (Ok index) v w) where
+  -- an acquire for an owner that took an index leaves it held for him by what the pass made
   pub granted_holds : HoldsFor owner index w.made
   granted_holds =
       let p = h.by in

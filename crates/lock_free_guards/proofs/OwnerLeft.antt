@@ -37,6 +37,7 @@ module _ {A : Type 0} (x : A) where
   not_there : IsOneOf x [] → ⊥
   not_there h = none_here h.before h.after h.is
 
+  -- what stands in two lists one behind the other stands in one of them
   either_at : (xs ys before after : List A) → xs ++ ys ≡ before ++ x ∷ after → IsOneOf x xs ⊎ IsOneOf x ys
   either_at [] ys before after is = inr (record { before = before; after = after; is = is })
   either_at (y ∷ xs) ys [] after is =
@@ -77,6 +78,8 @@ module _ (p index owner : ℕ) where
   abbrev Answer : List SetAct → Type 0
   Answer acts = IsOneOf (Yes index owner) acts
 
+  -- where the rest asks nothing about the index of the owner: if the question before the rest, to
+  -- which the answer was yes, is about it, so is the yes
   yes_next : (i o : ℕ) (rest : List SetAct) → (Question rest → ⊥) → Question (Asks i o ∷ Yes i o ∷ rest) → Answer (Asks i o ∷ Yes i o ∷ rest)
   yes_next i o rest no_more h =
       ⊎_elim
@@ -104,6 +107,8 @@ module _ (p index owner : ℕ) where
       differ : Locks ≡ Asks index owner → ⊥
       differ e = absurd (cc)
 
+  -- of one visit, which was told yes just if the owner has the index: if it asked about the index
+  -- of the owner, it said yes
   yes_one : (i o : ℕ) (came : Came) → was_told came ≡ (o == owner) → Question (set_acts (wrote_to {T = ℕ} p i o came))
       → Answer (set_acts (wrote_to {T = ℕ} p i o came))
   yes_one i o HasAsked told h =
@@ -124,6 +129,7 @@ module _ (p index owner : ℕ) where
   acts_more : (v : Visit) (visits : List Visit) → acts (v ∷ visits) ≡ set_acts (wrote_of {T = ℕ} p v) ++ acts visits
   acts_more v visits = flat_map-append set_act (wrote_of {T = ℕ} p v) (wrote_by {T = ℕ} p visits)
 
+  -- of all visits: if they asked about the index of the owner, they said yes
   says_yes : (visits : List Visit) → All (IsToldFor owner) visits → Question (acts visits) → Answer (acts visits)
   says_yes [] all h = absurd (not_there (Asks index owner) h)
   says_yes (v ∷ visits) all h =
@@ -137,6 +143,7 @@ module _ (p index owner : ℕ) where
 
 -- ---- what stands before its end
 
+-- a list with up to four elements behind, added one at a time or all at once
 module _ {A : Type 0} (xs : List A) (a b c d : A) where
   two_more : (xs ++ a ∷ []) ++ b ∷ [] ≡ xs ++ a ∷ b ∷ []
   two_more = append_assoc xs (a ∷ []) (b ∷ [])
@@ -148,6 +155,7 @@ module _ {A : Type 0} (xs : List A) (a b c d : A) where
   four_more = ap (λ (ys : List A). ys ++ d ∷ []) three_more ∙ append_assoc xs (a ∷ b ∷ c ∷ []) (d ∷ [])
 
 module _ (p : ℕ) (start : Start ℕ) where
+  -- what a visit wrote belongs to the call that is under way
   grows_one : (es : List (Event ℕ)) (index owner : ℕ) (came : Came)
       → fold own_after (Open start es) (wrote_to p index owner came) ≡ Open start (es ++ wrote_to p index owner came)
   grows_one es index owner HasAsked = refl
@@ -157,6 +165,7 @@ module _ (p : ℕ) (start : Start ℕ) where
   grows_one es index owner HasLocked =
       ap (Open start) (four_more es (Asked p index owner) (Told p index owner) (FreedOf p index owner) (Locked p))
 
+  -- what all visits wrote belongs to the call that is under way
   grows : (es : List (Event ℕ)) (visits : List Visit) → fold own_after (Open start es) (wrote_by p visits) ≡ Open start (es ++ wrote_by p visits)
   grows es [] = ap (Open start) (sym (append-nil es))
   grows es (v ∷ visits) =
@@ -164,6 +173,8 @@ module _ (p : ℕ) (start : Start ℕ) where
       ∙ (ap (λ (s : Span ℕ). fold own_after s (wrote_by p visits)) (grows_one es v.index v.owner v.came)
       ∙ (grows (es ++ wrote_of p v) visits ∙ ap (Open start) (append_assoc es (wrote_of p v) (wrote_by p visits))))
 
+-- v and w are what the pass knew before the recovery and after it, q is the party that ended one
+-- last
 module _ (owner : ℕ) (mode : ReleaseMode) (state : ReleaseState) (v w : View ℕ) (h : HasRecoveredOwner owner mode state v w) (q : ℕ)
     (before : List (Event ℕ)) (is : w.seen ≡ before ++ Finished q (Robust (Recover mode)) (State state) ∷ []) where
   abbrev start : Start ℕ
@@ -198,6 +209,8 @@ module _ (owner : ℕ) (mode : ReleaseMode) (state : ReleaseState) (v w : View �
       gone_too : IsHonest before → (index : ℕ) → HeldThroughout q (StillToFree q owner index) before → filled_of index before ≢ Some owner
       gone_too honest index his = right.gone honest index owner (told index his)
 
+      -- an index that was the owner's through the whole call, until the call freed it, and that is
+      -- not his by the end, was freed by the call
       freed_or_his : (index : ℕ) → HeldThroughout q (StillToFree q owner index) before → filled_of index before ≢ Some owner
           → IsOneOf (Frees index owner) (set_acts_of q before)
       freed_or_his index his none =
@@ -206,6 +219,7 @@ module _ (owner : ℕ) (mode : ReleaseMode) (state : ReleaseState) (v w : View �
           (λ (freed : IsOneOf (Frees index owner) (set_acts_of q before)). freed)
           (his before [] (sym (append-nil before)) tt)
 
+-- a recovery that is told of one owner alone and is right answers right for this owner
 pub owner_answered : (owner : ℕ) (mode : ReleaseMode) (state : ReleaseState) (v w : View ℕ) → HasRecoveredOwner owner mode state v w
     → IsRightRecovery mode state v w → IsRightOwnerRecovery owner mode state v w
 owner_answered owner mode states.Locked v w h a = record { by = a.by; before = a.before; is = a.is; since = a.since; right = a.right }

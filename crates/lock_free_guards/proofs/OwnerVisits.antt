@@ -21,6 +21,8 @@ use Rattle.lock_free_guards.specs.Recovered.{IsToldFor, HasRecoveredOwner}
 
 -- ---- what the first closure said
 
+-- named is the owner that a closure is told of: with each call it stays, and the closure says yes
+-- just if it has the index
 module _ {F : Type 0} (step : F → ℕ → ℕ → Bool → F → Type 0) (named : F → ℕ) (owner : ℕ)
     (says : (p : F) (o i : ℕ) (b : Bool) (q : F) → step p o i b q → (named q ≡ named p) × (b ≡ (o == named p))) where
   told_for : (f last : F) (visits : List Visit) → named f ≡ owner → FoldsTo (asks step) f (questions_of visits) last → All (IsToldFor owner) visits
@@ -29,6 +31,8 @@ module _ {F : Type 0} (step : F → ℕ → ℕ → Bool → F → Type 0) (name
       let here = says f v.owner v.index (was_told v.came) h.0 h.1 in
       All-cons (IsToldFor owner) v visits (here.1 ∙ ap (λ n. v.owner == n) is) (told_for h.0 last visits (here.0 ∙ is) h.2)
 
+  -- a recovery whose first closure says yes about an owner's indices alone is a recovery for this
+  -- owner
   pub recovers_owner : {S : Type 0} (tell : S → ℕ → ℕ → S → Type 0) (mode : ReleaseMode) (state : ReleaseState) (f last : F) (s s_last : S) (v w : View ℕ)
       → named f ≡ owner → HasRecovered step tell mode state f s last s_last v w → HasRecoveredOwner owner mode state v w
   recovers_owner tell mode state f last s s_last v w is h =
@@ -44,6 +48,7 @@ module _ {F : Type 0} (step : F → ℕ → ℕ → Bool → F → Type 0) (name
 
 -- ---- what it freed
 
+-- with a visit more, one index more was freed if this visit freed it
 freed_more : (index owner : ℕ) (came : Came) (visits : List Visit)
     → length (freed_of (visit index owner came ∷ visits)) ≡ (if was_freed came then 1 else 0) + length (freed_of visits)
 freed_more index owner HasAsked visits = omega arith
@@ -52,6 +57,8 @@ freed_more index owner HasFreed visits = omega arith
 freed_more index owner HasLocked visits = omega arith
 
 module _ (owner p : ℕ) where
+  -- a visit that was told yes just if the owner has the index frees an index of this owner just if
+  -- it freed any
   one_of_owner : (index o : ℕ) (came : Came) → was_told came ≡ (o == owner)
       → sum_by (frees_of owner) (wrote_to p index o came) ≡ (if was_freed came then 1 else 0)
   one_of_owner index o HasAsked told = refl
@@ -59,6 +66,7 @@ module _ (owner p : ℕ) where
   one_of_owner index o HasFreed told = (let it : (o == owner) ≡ true = sym told in rw it refl)
   one_of_owner index o HasLocked told = (let it : (o == owner) ≡ true = sym told in rw it refl)
 
+  -- the visits freed as many indices of this owner as they freed in all
   all_of_owner : (visits : List Visit) → All (IsToldFor owner) visits → sum_by (frees_of owner) (wrote_by p visits) ≡ length (freed_of visits)
   all_of_owner [] all = refl
   all_of_owner (v ∷ visits) all =
@@ -78,6 +86,7 @@ module _ (owner p : ℕ) where
     none_of_other index o HasFreed told = (let it = is_another o told in rw it refl)
     none_of_other index o HasLocked told = (let it = is_another o told in rw it refl)
 
+    -- the visits freed no index of another owner
     none_of_others : (visits : List Visit) → All (IsToldFor owner) visits → sum_by (frees_of other) (wrote_by p visits) ≡ 0
     none_of_others [] all = refl
     none_of_others (v ∷ visits) all =

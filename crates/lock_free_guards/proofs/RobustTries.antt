@@ -26,6 +26,7 @@ as_many : (n : ℕ) → n ≤ n
 as_many = omega arith
 
 module _ (owner : ℕ) where
+  -- from u to v the pass has tried n times; it goes on from v to w
   module _ (n : ℕ) (u v w : View ℕ) (tried : HasTried n (start owner) u v) (goes : Goes v w) where
     pub acquired : (i : ℕ) → HasAcquired owner i v w → EndsTries n (start owner) (HasAcquired owner i) u w
     acquired i h = last_try (start owner) n u v w tried goes (HasAcquired owner i) h
@@ -40,6 +41,7 @@ module _ (owner : ℕ) where
   -- ---- the last of so many, by its answer
 
   module _ (tries : ℕ) (first v : Pass) (tried : HasTried (tries - 1) (start owner) (view first) (view v)) where
+    -- an index that the last of so many tries took ends them within their limit
     pub within : {R : Type 0} (r : Result (RobustIndex R) (UniqueIndexSetAcquireFailure × Pass)) → IfOk r (λ i. SamePass v (index_pass i))
         → IfOk r (λ i. HasAcquired owner (value_of i) (view v) (index_view i))
         → IfOk r (λ i. EndsWithin (start owner) (HasAcquired owner (value_of i)) tries (view first) (index_view i))

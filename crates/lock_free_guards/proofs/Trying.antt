@@ -30,6 +30,7 @@ module _ (start : Start ℕ) where
         made = sym (append-nil v.made);
       }
 
+  -- from u to v the pass has tried n times; it goes on from v to w
   module _ (n : ℕ) (u v w : View ℕ) (h : HasTried n start u v) (goes : Goes v w) where
     -- one more that took none
     pub one_more : (p : ℕ) → Called p start (NoIndex OutOfIndices) [] v w → HasTried (n + 1) start u w
@@ -70,6 +71,7 @@ module _ (start : Start ℕ) where
 
   -- a sum over what was made stays, where nothing of such a try counts
   module _ (f : Event ℕ → ℕ) (begins : (p : ℕ) → f (Begun p start) ≡ 0) (ends : (p : ℕ) → f (Finished p start (NoIndex OutOfIndices)) ≡ 0) where
+    -- the tries that took none count nothing, however many
     sum_refused : (ps : List ℕ) → sum_by f (flat_map (refused_by start) ps) ≡ 0
     sum_refused [] = refl
     sum_refused (p ∷ ps) =
@@ -82,6 +84,8 @@ module _ (start : Start ℕ) where
         let rest = sum_refused ps in
         omega arith
 
+    -- over tries that took none, a sum over what the pass made stays, if neither their begin nor
+    -- their end counts
     pub sum_stays : (n : ℕ) (u v : View ℕ) → HasTried n start u v → sum_by f v.made ≡ sum_by f u.made
     sum_stays n u v h =
         let made = ap (sum_by f) h.made in

@@ -32,7 +32,9 @@ lock_seen v w h =
     let last : IsBeginning h.answered.before w.seen = record { rest = Finished h.answered.by start (NoIndex IsLocked) ∷ []; is = h.answered.is } in
     lock_stays last h.answered.right
 
+-- from u to v the pass has tried n times
 module _ (n : ℕ) (u v : View ℕ) (tried : HasTried n start u v) where
+  -- after tries that took none the pass holds what it held
   pub holds_still : HoldsTheSame u.made v.made
   holds_still is held j =
       let a = sum_stays start (claims j) (λ p. refl) (λ p. refl) n u v tried in
@@ -43,6 +45,7 @@ module _ (n : ℕ) (u v : View ℕ) (tried : HasTried n start u v) where
   pub holds_more : (w : View ℕ) (i : ℕ) → HasAcquired i v w → HoldsMore i u.made w.made
   holds_more w i h is held = held_taken v w is i (holds_still is held) h.taken
 
+-- from first to v the pass has tried n times; it goes on from v to w
 module _ (n : ℕ) (first v w : Pass) (tried : HasTried n start (view first) (view v)) (same : SamePass v w) where
   module _ (i : ℕ) (h : HasAcquired i (view v) (view w)) where
     acquired_goes : Goes (view v) (view w)

@@ -37,6 +37,7 @@ use Rattle.lock_free_guards.specs.Tries.{refused_by, EndsTries, EndsSometime, En
 use Rattle.lock_free_guards.specs.Unique.{HoldsMore, HoldsTheSame}
 use Rattle.lock_free_guards.proofs.Trying.{unlocked_before}
 
+-- the call c of party p leads from v to w
 module _ (p : ℕ) (start : Start ℕ) (one : Answer ℕ) (wrote : List (Event ℕ)) (v w : View ℕ) (c : Called p start one wrote v w) where
   -- what a call makes
   makes : length w.made ≡ length v.made + (2 + length wrote)
@@ -243,3 +244,16 @@ split_many_splits_none v w h =
     let once = h.1.asked in
     let same = ap (λ (u : View ℕ). u.asked) h.2 in
     absurd (omega arith)
+
+-- each that it gives costs one split
+splits_many : (halves : List (View ℕ)) (v w : View ℕ) → AreCut HasSplit halves v w → w.asked ≡ v.asked + length halves
+splits_many [] v w h = (let same = ap (λ (u : View ℕ). u.asked) h in omega arith)
+splits_many (half ∷ halves) v w h =
+    let once = h.1.asked in
+    let rest = splits_many halves h.0 w h.2 in
+    omega arith
+
+-- it gives more than it splits off
+pub split_many_gives_more_than_it_splits : (halves : List (View ℕ)) (v w : View ℕ) → w.asked < v.asked + length halves
+    → AreCut HasSplit halves v w → ⊥
+split_many_gives_more_than_it_splits halves v w few h = (let all = splits_many halves v w h in absurd (omega arith))

@@ -5,7 +5,7 @@ use Rattle.model.specs.declared.event.Event.TheVariants.{FreedOf}
 use Rattle.model.specs.Families.Indices.Robust.Reading.{holder_of}
 
 -- the latest of these events that grants or frees the index grants it to this owner
-abbrev pub HoldsFor : ℕ → ℕ → List (Event ℕ) → Type 0
+abbrev pub HoldsFor : (owner index : ℕ) → List (Event ℕ) → Type 0
 HoldsFor owner index made = holder_of index made ≡ Some owner
 
 abbrev pub frees_of : ℕ → Event ℕ → ℕ

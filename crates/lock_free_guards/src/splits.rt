@@ -19,8 +19,8 @@ pub trait Splits: Sized + Drop {
 }
 
 /// Makes N further handles or passes of the same structure. Each is a split of this one, so it halves the share that is left. None
-/// where no further pass can be counted, or where there is no memory. What was split off by then is dropped, and so is its share. The
-/// atomic steps of N splits. This project's own.
+/// where no further pass can be counted, or where there is no memory (no clause says when). What was split off by then is dropped with
+/// its share, and no clause says what this one has left. The atomic steps of N splits. This project's own.
 pub fn split_many<const N: usize, H: Splits>(alloc: Global, handle: &mut H) -> Option<[H; N]>
     ensures { IfSome result (λ halves. AreCut H.cut halves handle.old handle.new) }
 {

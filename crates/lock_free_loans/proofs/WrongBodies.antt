@@ -24,6 +24,7 @@ makes p start answer wrote v w c =
     let made = ap length c.made in
     omega arith
 
+-- what a pass made is not the same after a call
 no_call : (p : ℕ) (start : Start ℕ) (answer : Answer ℕ) (wrote : List (Event ℕ)) (v w : View ℕ) → w.made ≡ v.made
     → Called p start answer wrote v w
     → ⊥
@@ -113,6 +114,7 @@ send_keeps_what_came_back index value old new sent within still k =
     let is : Sent ≡ Free = sym still ∙ (ap (λ (ps : List Place). place_at ps value) k.back ∙ free) in
     cc
 
+-- what the push handed back is out of the table, and the set does not get it back
 pub send_frees_nothing : (index value : ℕ) (old new : LoanSender)
     → is_sent (place_at (slice_set (places_of old) index Sent) value) ≡ true
     → (pass_view new).made ≡ (pass_view old).made

@@ -25,3 +25,4 @@ pub mod UpdateAnswers
 pub mod Steps
 pub mod CallAnswers
 pub mod Entries
+pub mod Stays

@@ -1,3 +1,4 @@
+-- What is known of whole calls on a robust set, and of finds and recoveries between two turns.
 pub mod Events
 pub mod Sound
 pub mod Facts

@@ -1,2 +1,3 @@
+-- What steps leave of a find or a recovery, and of its closures.
 pub mod Robust
 pub mod Container

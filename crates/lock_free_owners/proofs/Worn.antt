@@ -1,3 +1,4 @@
+-- That the counter of an owners' structure is at its end only after so many changes.
 pub mod Parts
 pub mod RobustPays
 pub mod RobustCalls

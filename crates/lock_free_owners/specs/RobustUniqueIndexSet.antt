@@ -62,7 +62,7 @@ pub record LeavesPass (most : ℕ) (old new : Pass) : Type 0 where
   pub aside : (view new).aside ≤ (view old).aside + most
 
 -- the same of each call but a find, which looks once a cell, beside one call
-abbrev pub SamePass : Pass → Pass → Type 0
+abbrev pub SamePass : (old new : Pass) → Type 0
 SamePass old new = LeavesPass 1 old new
 
 -- what a join leaves of a pass, which has what both had
@@ -76,7 +76,7 @@ abbrev pub set_refusal : ℕ → Option UniqueIndexCreationError
 set_refusal capacity = capacity_refusal 1 (2 ^ 32 - 1) capacity
 
 -- of one whose greatest capacity is part of its type
-abbrev pub reduced_refusal : ℕ → ℕ → Option UniqueIndexCreationError
+abbrev pub reduced_refusal : (greatest capacity : ℕ) → Option UniqueIndexCreationError
 reduced_refusal greatest capacity =
     if nat_lt (2 ^ 32 - 1) greatest || nat_lt greatest capacity
     then Some ProvidedCapacityGreaterThanMaxCapacity

@@ -7,6 +7,7 @@ pub mod Values
 pub mod Tests
 pub mod Grants
 pub mod Kinds
+pub mod Measuring
 pub mod OverEnded
 pub mod Filled
 pub mod Single

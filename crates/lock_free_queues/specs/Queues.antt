@@ -3,6 +3,7 @@ pub mod Roles
 pub mod Opened
 pub mod Bounded
 pub mod Kinds
+pub mod Measuring
 pub mod Rings
 pub mod Calls
 pub mod Values

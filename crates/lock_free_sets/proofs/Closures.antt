@@ -37,6 +37,7 @@ module _ {X : Type 0} (place : X → ℕ) (default : X) where
   abbrev Up : List X → Type 0
   Up xs = AllPairs (λ x y. place x < place y) xs
 
+  -- in a list of places that ascend, the place behind k others is at least k
   from_first : (xs : List X) → Up xs → (k : ℕ) → k < length xs → k ≤ place (get_or xs k default)
   from_first xs up zero within = omega arith
   from_first xs up (suc k) within =
@@ -47,6 +48,7 @@ module _ {X : Type 0} (place : X → ℕ) (default : X) where
   pub few_below : (xs : List X) (end : ℕ) → Up xs → All (λ x. place x < end) xs → length xs ≤ end
   few_below xs end up below = ⊎_elim some (λ none. omega arith) (cases_lt 0 (length xs))
     where
+      -- a list with a place, whose places ascend below a number, is no longer than this number
       some : 0 < length xs → length xs ≤ end
       some any =
           let k = length xs - 1 in

@@ -10,9 +10,13 @@ pub aside_most : {n m : ℕ} → (m ≡ n) ⊎ (m ≡ n + 1) → m ≤ n + 1
 aside_most (inl same) = omega arith
 aside_most (inr more) = omega arith
 
+-- base and w are what the pass knew before the call and after it, e is its end, m its room then;
+-- own: a pass that was a party makes it as this one
 module _ {C M E : Type 0} (kind : Kind) (call : Calling ℕ C M E)
     (own : (o : Option ℕ) (p : ℕ) → call.by o p → IfSome o (λ q. q ≡ p)) (base w : View ℕ) (e : E) (m : M)
     (ends : Ends one_word kind call base e m w) where
+  -- a call of a pass's own party that has ended leaves of the pass what each whole call on a set
+  -- leaves
   pub done : HasDone kind base w
   done =
       record {
@@ -31,6 +35,7 @@ module _ {C M E : Type 0} (kind : Kind) (call : Calling ℕ C M E)
       go None h = tt
       go (Some p) h = ends.mine ∙ ap Some (sym h)
 
+-- base and w are what the pass knew before the call and after it, e is its end, m its room then
 module _ {C M E : Type 0} (kind : Kind) (call : Calling ℕ C M E) (base w : View ℕ) (e : E) (m : M) (ends : Ends one_word kind call base e m w)
     (idle : base.going ≡ None) (wrote : ℕ → List (Event ℕ)) where
   pub has_made : ends.wrote ≡ wrote ends.party → HasMade call.start (call.answer e m) wrote base w

@@ -16,8 +16,10 @@ use Rattle.history.proofs.Sets.{bits_pays, counts_pays}
 use Rattle.lock_free_sets.specs.Sets.Kinds.{SetKind, Flags, Counts, machine_kind}
 use Rattle.lock_free_sets.specs.Sets.Stages.{empties_none}
 
+-- base and w are what the pass knew before the call and after it, e is its end, m its room then
 module _ {C M E : Type 0} (call : Calling ℕ C M E) (base w : View ℕ) (e : E) (m : M) (idle : base.going ≡ None) (capacity : ℕ)
     (size : base.capacity ≡ capacity) where
+  -- a call that has ended took no more operations than the model says of it
   take : (kind : Kind) → ((n : ℕ) → Pays {T = ℕ} one_word kind n) → AllowsOne (guarantee_of kind capacity one_word.size call.start)
       → Ends one_word kind call base e m w → TakesBy one_word kind capacity (guarantee_of kind capacity one_word.size call.start) base w
   take kind pays least ends =
@@ -39,6 +41,7 @@ module _ {C M E : Type 0} (call : Calling ℕ C M E) (base w : View ℕ) (e : E)
 
 -- ---- a call that takes no step of the machine is one look at most
 
+-- base and w are what the pass knew before the call and after it, e is its end, m its room then
 module _ (kind : Kind) {C M E : Type 0} (call : Calling ℕ C M E) (base w : View ℕ) (e : E) (m : M) (idle : base.going ≡ None)
     (pays : Pays {T = ℕ} one_word kind base.capacity) (none : guarantee_of kind base.capacity one_word.size call.start ≡ WaitFree 0)
     (ends : Ends one_word kind call base e m w) where
@@ -48,6 +51,7 @@ module _ (kind : Kind) {C M E : Type 0} (call : Calling ℕ C M E) (base w : Vie
   no_step : w.taken ≤ 0
   no_step = go (party_of ends.party known.world.latest) refl
     where
+      -- a call for which the model says no step has taken none
       go : (o : Option (Party ℕ)) → party_of ends.party known.world.latest ≡ o → w.taken ≤ 0
       go None is = (let no : ◌≡◌ {A = Option (Start ℕ)} None (Some call.start) = sym (ap started is) ∙ ends.named in absurd (cc))
       go (Some x) is =
@@ -69,6 +73,7 @@ module _ (kind : Kind) {C M E : Type 0} (call : Calling ℕ C M E) (base w : Vie
           let zero = no_step in
           omega arith
 
+-- emptying a set without places takes one operation at most
 pub none_takes : (kind : SetKind) (base w : View ℕ) (m : OneWord) → base.going ≡ None → base.capacity ≡ 0
     → Ends one_word (machine_kind kind) (empties_none kind) base tt m w → TakesAtMost 1 base w
 none_takes Flags base w m idle none ends =

@@ -33,6 +33,7 @@ pub seen_begins : (p : ℕ) (start : Start ℕ) (answer : Answer ℕ) (wrote : L
     → Called p start answer wrote old new → IsBeginning old.seen new.seen
 seen_begins p start answer wrote old new called = grind (arith, append_assoc)
 
+-- two lists that are the same with one element more each end with the same element
 pub same_last : {A : Type 0} → (xs ys : List A) (a b : A) → xs ++ a ∷ [] ≡ ys ++ b ∷ [] → a ≡ b
 same_last [] [] a b e = cc
 same_last [] (y ∷ []) a b e = absurd (cc)
@@ -47,6 +48,8 @@ begins_one p start [] ys none = absurd (none.0 refl)
 begins_one p start (Begun q other ∷ xs) ys none = begins_one p start xs ys none.1
 begins_one p start (x ∷ xs) ys none = begins_one p start xs ys none
 
+-- if a party begins no call in the rest of the events, all that came before any call that it began
+-- lies in the part before the rest
 pub reaches : (f : Event ℕ → ℕ) (p : ℕ) (start : Start ℕ) (xs ys part rest : List (Event ℕ))
     → xs ++ Begun p start ∷ ys ≡ part ++ rest → BeginsNone p rest → sum_by f xs ≤ sum_by f part
 reaches f p start [] ys part rest e none = let zero : sum_by f [] ≡ 0 = refl in omega arith

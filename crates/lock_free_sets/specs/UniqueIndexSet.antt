@@ -92,7 +92,7 @@ abbrev pub set_refusal : ℕ → Option UniqueIndexCreationError
 set_refusal capacity = capacity_refusal 1 (2 ^ 24 - 2) capacity
 
 -- of one whose greatest capacity is part of its type
-abbrev pub reduced_refusal : ℕ → ℕ → Option UniqueIndexCreationError
+abbrev pub reduced_refusal : (greatest capacity : ℕ) → Option UniqueIndexCreationError
 reduced_refusal greatest capacity =
     if nat_lt (2 ^ 24 - 2) greatest || nat_lt greatest capacity
     then Some ProvidedCapacityGreaterThanMaxCapacity

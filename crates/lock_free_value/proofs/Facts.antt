@@ -57,6 +57,8 @@ ends_at code x stages.AddsVersion n a t e = absurd (cc)
 module _ {T : Type 0} (code : Coding T) (base w : View T) (idle : base.going ≡ None) (one : base.capacity ≡ 1) where
   -- ---- what every call leaves
 
+  -- the pass goes on, with one operation more aside at most; it knows its history, has no call
+  -- under way, and still sees a store where it saw one
   pub record Leaves : Type 0 where
     pub goes : Goes base w
     pub aside : w.aside ≤ base.aside + 1
@@ -73,6 +75,7 @@ module _ {T : Type 0} (code : Coding T) (base w : View T) (idle : base.going ≡
     ends_leaves : (e : E) (m : M) → Ends code kinds.Atomic call base e m w → Leaves
     ends_leaves e m ends = grind (arith, opened, append_assoc, begun_still)
 
+    -- a call that is over leaves of its pass what every call leaves
     pub leaves : (e : E) (m : M) → Over code kinds.Atomic call base e m w → Leaves
     leaves e m (inl ends) = ends_leaves e m ends
     leaves e m (inr left) =
@@ -105,6 +108,7 @@ module _ {T : Type 0} (code : Coding T) (base w : View T) (idle : base.going ≡
   pub acquired : (b : Bool) (m : Unit {0}) → Ends code kinds.Atomic acquires_producer base b m w → HasAcquired b base w
   acquired b m ends = grind (arith, called, acquires_producer)
 
+  -- an acquire that answers true has taken the role once
   pub taken_once : (b : Bool) (m : Unit {0}) → Ends code kinds.Atomic acquires_producer base b m w → b ≡ true → Moved 1 0 base.made w.made
   unfolding acquired
   taken_once b m ends is =
@@ -115,6 +119,7 @@ module _ {T : Type 0} (code : Coding T) (base w : View T) (idle : base.going ≡
       (c.made ∙ ap (λ z. base.made ++ Begun p (Atomic AcquireProducer) ∷ Finished p (Atomic AcquireProducer) (Truth z) ∷ []) is)
       refl refl
 
+  -- an acquire that answers false has taken no role
   pub not_taken : (b : Bool) (m : Unit {0}) → Ends code kinds.Atomic acquires_producer base b m w → b ≡ false → Moved 0 0 base.made w.made
   unfolding acquired
   not_taken b m ends is =
@@ -146,6 +151,7 @@ module _ {T : Type 0} (code : Coding T) (base w : View T) (idle : base.going ≡
             ∙ none_to_end value_role one_holder p start base.seen c.others c.during each c.others_own c.during_own held last refl;
       }
 
+  -- a release has given the role back once
   pub given_once : (e m : Unit {0}) → Ends code kinds.Atomic releases_producer base e m w → Moved 0 1 base.made w.made
   unfolding released
   given_once e m ends =
@@ -169,6 +175,7 @@ module _ {T : Type 0} (code : Coding T) (base w : View T) (idle : base.going ≡
   to_end : {p : ℕ} {start : Start T} {answer : Answer T} (c : Called p start answer [] base w) → w.seen ≡ before_end c ++ Finished p start answer ∷ []
   to_end {p} {start} {answer} c = c.is ∙ sym (append_assoc (base.seen ++ c.others) (Begun p start ∷ c.during) (Finished p start answer ∷ []))
 
+  -- a look at the role that has ended answered whether somebody had the role as it ended
   pub seen_producer : (b : Bool) (m : Unit {0}) → Ends code kinds.Atomic looks_at_producer base b m w → HasSeenProducer b base w
   seen_producer b m ends =
       let p = ends.party in
@@ -182,6 +189,7 @@ module _ {T : Type 0} (code : Coding T) (base w : View T) (idle : base.going ≡
       let same : holder_of w.seen ≡ holder_of xs = ap holder_of is ∙ fold-append holder_after None xs (last ∷ []) in
       record { by = p; mine = ends.mine; called = c; holder = taken ∙ ap (λ o. not (is_none o)) (sym same) }
 
+  -- a look at the role takes none, and gives none back
   pub seen_producer_moves : (b : Bool) (m : Unit {0}) → Ends code kinds.Atomic looks_at_producer base b m w → Moved 0 0 base.made w.made
   unfolding seen_producer
   seen_producer_moves b m ends =
@@ -189,6 +197,8 @@ module _ {T : Type 0} (code : Coding T) (base w : View T) (idle : base.going ≡
       moved 0 0 base.made w.made (Begun p (Atomic starts.HasProducer) ∷ Finished p (Atomic starts.HasProducer) (Truth b) ∷ [])
       (seen_producer b m ends).called.made refl refl
 
+  -- a look at the version that has ended answered 1 more than the number of the values that were
+  -- stored as it ended
   pub seen_version : (n : ℕ) (m : Unit {0}) → Ends code kinds.Atomic looks_at_version base n m w → HasSeenVersion n base w
   seen_version n m ends =
       let p = ends.party in
@@ -202,6 +212,7 @@ module _ {T : Type 0} (code : Coding T) (base w : View T) (idle : base.going ≡
       let same : stored w.seen ≡ stored xs = ap stored is ∙ (flat_map-append stores xs (last ∷ []) ∙ append-nil (stored xs)) in
       record { by = p; mine = ends.mine; called = c; count = counted ∙ ap (λ zs. length zs + 1) (sym same) }
 
+  -- a look at the version takes no role, and gives none back
   pub seen_version_moves : (n : ℕ) (m : Unit {0}) → Ends code kinds.Atomic looks_at_version base n m w → Moved 0 0 base.made w.made
   unfolding seen_version
   seen_version_moves n m ends =
@@ -222,6 +233,8 @@ module _ {T : Type 0} (code : Coding T) (base w : View T) (idle : base.going ≡
         → Called ends.party (Atomic (Store x)) (Truth true) (act ends.party ∷ []) base w
     stored_so m ends = grind (arith, called, stores_value)
 
+    -- a store that answers true stored its value right after all that was seen to be stored, and
+    -- nobody stored after it
     has_stored : (m : Unit {0}) → Ends code kinds.Atomic (stores_value code x) base true m w → HasStored x base w
     has_stored m ends =
         let p = ends.party in
@@ -250,6 +263,7 @@ module _ {T : Type 0} (code : Coding T) (base w : View T) (idle : base.going ≡
         → Over code kinds.Atomic (stores_value code x) base e m w → e ≡ false → WasAtEnd base w
     at_end_if other_is_empty part_positive producer e m over e_is_false = grind (arith, ends_at, slice_index, length, stored, version_is_count, looked_alone)
 
+    -- a store, or the look that it was instead, takes no role, and gives none back
     pub store_moves : (e : Bool) (m : Unit {0}) → Over code kinds.Atomic (stores_value code x) base e m w → Moved 0 0 base.made w.made
     store_moves e m (inl ends) =
         let p = ends.party in
@@ -260,6 +274,7 @@ module _ {T : Type 0} (code : Coding T) (base w : View T) (idle : base.going ≡
 
   -- ---- how many operations they took
 
+  -- a call that has ended took no more operations than the model says of it
   pub takes_here : {C M E : Type 0} (call : Calling T C M E) (e : E) (m : M) → AllowsOne (guarantee_of kinds.Atomic 1 code.size call.start)
       → Ends code kinds.Atomic call base e m w → TakesBy code kinds.Atomic 1 (guarantee_of kinds.Atomic 1 code.size call.start) base w
   takes_here call e m least ends =
@@ -281,6 +296,8 @@ module _ {T : Type 0} (code : Coding T) (base w : View T) (idle : base.going ≡
         → Called ends.party (Atomic Load) (Loaded (value_there m)) (Acted ends.party (Atomic Load) (Loaded (value_there m)) ∷ []) base w
     loaded_so e m ends = grind (arith, called, loads_value)
 
+    -- a load that has ended answered the value that was the last one stored at one moment of the
+    -- call
     pub has_loaded : (e : Unit {0}) (m : R) → Ends code kinds.Atomic (loads_value code words_in) base e m w → HasLoaded (value_there m) base w
     has_loaded e m ends =
         let p = ends.party in
@@ -304,6 +321,7 @@ module _ {T : Type 0} (code : Coding T) (base w : View T) (idle : base.going ≡
           last = subst (λ y. IsLast y (stored at.before)) (sym is) last;
         }
 
+    -- a load takes no role, and gives none back
     pub load_moves : (e : Unit {0}) (m : R) → Ends code kinds.Atomic (loads_value code words_in) base e m w → Moved 0 0 base.made w.made
     load_moves e m ends =
         let p = ends.party in

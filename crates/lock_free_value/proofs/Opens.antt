@@ -66,6 +66,7 @@ module _ {T : Type 0} (code : Coding T) (law : IsCoding code) (value : T) (versi
     ys_long : length (mix at ws zeros) ≡ code.size
     ys_long = grind (arith, zeros_long, mix_length)
 
+    -- with the next word of the value in both cells, one word more of both is filled in
     pub steps : set (set (filled at) (2 + code.size + at) (get_or ws at 0)) (2 + at) (get_or first_words at 0) ≡ filled (suc at)
     steps =
         let a = firsts_long in
@@ -123,6 +124,7 @@ module _ {T : Type 0} (value : T) where
   pub opened_some : (size version : ℕ) → 0 < length (stored (opened_view value size version).seen)
   opened_some size version = grind (arith, first_stores, times_some, stores_some, length, stored, stored_times, flat_map-append, stores, length-append)
 
+  -- the party has the role after any number of stores
   times_has : (n : ℕ) → HasProducer (stored_times value n)
   times_has zero = refl
   times_has (suc n) =

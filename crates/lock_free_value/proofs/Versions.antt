@@ -35,6 +35,7 @@ none_left [] e = refl
 none_left (x ∷ xs) e = absurd (omega arith)
 
 module _ {T : Type 0} where
+  -- one party at most stored a version, and one value
   pub stored_once : (p q v : ℕ) (x y : T) (events : List (Event T)) → IsStored p v x events → IsStored q v y events → (p ≡ q) × (x ≡ y)
   stored_once p q v x y events a b =
       let ra = a.rank in
@@ -44,6 +45,7 @@ module _ {T : Type 0} where
       (Acted q (Atomic (Store y)) (Truth true)) x y refl refl (sym a.is ∙ b.is) (omega arith) in
       (let l : p ≡ q = cc in l, let r : x ≡ y = cc in r)
 
+  -- p and q are parties, v is a version, x and y are values
   module _ (code : Coding T) (p q v : ℕ) (x y : T) (events : List (Event T)) (h : IsHistory code kinds.Atomic 1 events) where
     abbrev zeros : T
     zeros = code.value_of (replicate code.size 0)
@@ -63,6 +65,7 @@ module _ {T : Type 0} where
         same_part (stored a.before ++ x ∷ []) (stored b.before) (stored a.after) (stored b.after) (sym one ∙ two) (omega arith) in
         sym (told ∙ (ap (last_or zeros) (sym same) ∙ last_one zeros x (stored a.before)))
 
+    -- two loads at one version answered the same value
     pub loaded_loaded : IsLoaded p v x events → IsLoaded q v y events → x ≡ y
     loaded_loaded a b =
         let ra = a.rank in
@@ -73,6 +76,7 @@ module _ {T : Type 0} where
         same_part (stored a.before) (stored b.before) (stored a.after) (stored b.after) (sym one ∙ two) (omega arith) in
         load_tells code 1 events h p x a.before a.after a.is ∙ (ap (last_or zeros) same ∙ sym (load_tells code 1 events h q y b.before b.after b.is))
 
+  -- a history of a value says of itself what every one does
   pub sound_history : (code : Coding T) (events : List (Event T)) → IsHistory code kinds.Atomic 1 events → IsSound code events
   sound_history code events h =
       record {
@@ -103,6 +107,7 @@ module _ {T : Type 0} where
       let rank = a.rank in
       omega arith
 
+  -- a store has the version that follows all those that were known, of stores and of loads
   pub stored_above : (x : T) (old new : View T) → (h : HasStored x old new)
       → IsStored h.by (length (stored old.seen) + 2) x new.seen
       × ((q v : ℕ) (y : T) → IsStored q v y old.seen → v < length (stored old.seen) + 2)
@@ -113,6 +118,7 @@ module _ {T : Type 0} where
     λ q v y a. (let low = known_loaded q v y old.seen a in omega arith),
   )
 
+  -- a load has a version that is at least each of those that were known, of stores and of loads
   pub loaded_above : (x : T) (old new : View T) → (h : HasLoaded x old new)
       → IsLoaded h.by (length (stored h.before) + 1) x new.seen
       × ((q v : ℕ) (y : T) → IsStored q v y old.seen → v ≤ length (stored h.before) + 1)
@@ -138,6 +144,7 @@ module _ {T : Type 0} where
 
   -- ---- who has the whole share
 
+  -- the number of stores that events count is the number of values that were stored
   pub count_is : (events : List (Event T)) → sum_by (λ e. length (stores e)) events ≡ length (stored events)
   count_is [] = refl
   count_is (e ∷ es) =
@@ -146,6 +153,7 @@ module _ {T : Type 0} where
       let long = length-append (stores e) (stored es) in
       omega arith
 
+  -- with the whole share, a load answers the last value that was seen to be stored
   pub newest : (x : T) (old new : View T) → HasLoaded x old new → IsAll old.share → IsAll new.share
       → MissesNothing old → MissesNothing new → IsLast x (stored old.seen)
   newest x old new h was is all_old all_new =

@@ -25,11 +25,13 @@ use Rattle.lock_free.specs.CountLaws.{TakesAll}
 counts_more : (place : ℕ) (xs ys : List (Event ℕ)) → counts place (xs ++ ys) ≡ counts place xs + counts place ys
 counts_more place xs ys = sum_by-append (λ e. cond (is_count_of place e) 1 0) xs ys
 
+-- what two lists of events, one behind the other, took out of a place is what each of them did
 takes_more : (place : ℕ) (xs ys : List (Event ℕ)) → takes place (xs ++ ys) ≡ takes place xs + takes place ys
 takes_more place xs ys = sum_by-append (take_of place) xs ys
 
 -- ---- where something was taken out
 
+-- an event of the list took this number out of the place
 record TakenIn (place : ℕ) (events : List (Event ℕ)) : Type 0 where
   by : ℕ
   number : ℕ

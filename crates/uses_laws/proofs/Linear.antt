@@ -61,6 +61,7 @@ module _ {T : Type 0} where
           omega arith
   responds (x ∷ es) n call r there e = responds es (n + 1) call r there e
 
+  -- x and y are calls, r is the response to x, which comes before y
   module _ (x y : Call T) (r : Response T) (done : x.response ≡ Some r) (before : Precedes x y) where
     ends_before : r.place < y.place
     ends_before = subst (λ (o : Option (Response T)). StandsBefore o y.place) done before

@@ -38,6 +38,8 @@ module _ (f : ℕ → ℕ) where
           let same : i ≡ n = omega arith in
           subst (λ k. 1 ≤ f k) (sym same) (omega arith)
 
+-- c is the capacity, mine and other are what the two passes made, made is what both did; held
+-- tells which index has a holder
 module _ (c : ℕ) (seen made mine other : List (Event ℕ)) (held : ℕ → Bool) (both_made : made ≡ mine ++ other)
     (all : (f : Event ℕ → ℕ) → sum_by f seen ≡ sum_by f made)
     (conserved : (i : ℕ) → sum_by (claims i) seen ≡ sum_by (frees i) seen + one_if (held i))

@@ -20,6 +20,6 @@ StepsAreWithinLoad capacity v =
     → steps_in (opening one_word IndexQueue capacity 0) v.turns ≤ begun v.seen * (5 * n + 1)
 
 -- at most n · n · (capacity + 4) + 1 for each call that has begun, where parties below n have begun them, and so many aside
-abbrev pub AsksAreWithinLoad : ℕ → ℕ → View ℕ → Type 0
+abbrev pub AsksAreWithinLoad : (capacity aside : ℕ) → View ℕ → Type 0
 AsksAreWithinLoad capacity aside v =
     (n : ℕ) → AreBelow n v.seen → v.asked ≤ aside + begun v.seen * (n * n * (capacity + 4) + 1)

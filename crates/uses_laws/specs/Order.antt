@@ -13,7 +13,7 @@ use Rattle.model.specs.Linearized.{as_list, as_value}
 use Rattle.lock_free.specs.Coding.{one_word}
 
 -- at this place stands a push of this number, which answers true
-abbrev pub IsPushAt : List (Call ℕ × Answer ℕ) → ℕ → ℕ → Type 0
+abbrev pub IsPushAt : List (Call ℕ × Answer ℕ) → (place number : ℕ) → Type 0
 IsPushAt sequential place number =
     (call : Call ℕ) × (slice_get sequential place ≡ Some (call, Truth true)) × (call.start ≡ Queues (PushIndex number))
 
@@ -27,7 +27,7 @@ pub record PushedInOrder (capacity first second : ℕ) (events : List (Event ℕ
   pub second_push : IsPushAt order.sequential later second
 
 -- at this place stands a store of this number, which answers true
-abbrev pub IsStoreAt : List (Call ℕ × Answer ℕ) → ℕ → ℕ → Type 0
+abbrev pub IsStoreAt : List (Call ℕ × Answer ℕ) → (place number : ℕ) → Type 0
 IsStoreAt sequential place number =
     (call : Call ℕ) × (slice_get sequential place ≡ Some (call, Truth true)) × (call.start ≡ Atomic (Store number))
 

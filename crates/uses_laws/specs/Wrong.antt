@@ -48,19 +48,19 @@ same_party = record (right_view first) { party = Some 0 }
 -- ---- a recovery
 
 -- a closure that was never called, one that may have been, and one that says no
-abbrev pub never_asked : List ℕ → ℕ → ℕ → Bool → List ℕ → Type 0
+abbrev pub never_asked : List ℕ → (owner index : ℕ) → Bool → List ℕ → Type 0
 never_asked before owner index said after = ⊥
 
-abbrev pub may_be_asked : List ℕ → ℕ → ℕ → Bool → List ℕ → Type 0
+abbrev pub may_be_asked : List ℕ → (owner index : ℕ) → Bool → List ℕ → Type 0
 may_be_asked before owner index said after = Unit {0}
 
-abbrev pub says_no : List ℕ → ℕ → ℕ → Bool → List ℕ → Type 0
+abbrev pub says_no : List ℕ → (owner index : ℕ) → Bool → List ℕ → Type 0
 says_no before owner index said after = said ≡ false
 
-abbrev pub never_told : List ℕ → ℕ → ℕ → List ℕ → Type 0
+abbrev pub never_told : List ℕ → (owner index : ℕ) → List ℕ → Type 0
 never_told before owner index after = ⊥
 
-abbrev pub may_be_told : List ℕ → ℕ → ℕ → List ℕ → Type 0
+abbrev pub may_be_told : List ℕ → (owner index : ℕ) → List ℕ → Type 0
 may_be_told before owner index after = Unit {0}
 
 -- it has done this, and answered Unlocked

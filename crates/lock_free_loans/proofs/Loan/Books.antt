@@ -60,6 +60,7 @@ module _ {v : View ℕ} {ps : List Place} (book : IsBookOf v ps) where
   is_refused e w same refused =
       record { long = book.long ∙ sym same; held = tables.is_refused Free is_out v ps book.held e w refused }
 
+  -- the book has an index that is acquired as loaned
   pub is_loaned : (i : ℕ) (w : View ℕ) → w.capacity ≡ v.capacity → i < v.capacity → HasAcquired i v w → IsBookOf w (set ps i Loaned)
   is_loaned i w same below taken =
       record {
@@ -96,6 +97,7 @@ at_so_far [] (suc i) = refl
 at_so_far (p ∷ ps) zero = refl
 at_so_far (p ∷ ps) (suc i) = at_so_far ps i
 
+-- an index that was sent is free, and with it all below the next one that were sent
 freed_one : (ps : List Place) (i : ℕ) → is_sent (place_at ps i) ≡ true → set (so_far i ps) i Free ≡ so_far (suc i) ps
 freed_one [] zero h = absurd (true≢false (sym h))
 freed_one [] (suc i) h = absurd (true≢false (sym h))
@@ -104,6 +106,7 @@ freed_one (Loaned ∷ ps) zero h = absurd (true≢false (sym h))
 freed_one (Sent ∷ ps) zero h = refl
 freed_one (p ∷ ps) (suc i) h = ap (λ z. reclaimed p ∷ z) (freed_one ps i h)
 
+-- where an index was not sent, all below it that were sent are all below the next one
 kept_one : (ps : List Place) (i : ℕ) → is_sent (place_at ps i) ≡ false → so_far i ps ≡ so_far (suc i) ps
 kept_one [] zero h = refl
 kept_one [] (suc i) h = refl

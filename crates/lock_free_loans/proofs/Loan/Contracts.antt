@@ -41,6 +41,8 @@ begins_before p start answer wrote old new called =
       is = called.is ∙ append_assoc old.seen called.others (Begun p start ∷ (called.during ++ Finished p start answer ∷ []));
     }
 
+-- what a call on the set leaves of a pass, together with what the pass has seen since, is a view
+-- that goes on
 pub set_goes : (old new : Pass) → SamePass old new → IsBeginning (view old).seen (view new).seen → Goes (view old) (view new)
 set_goes old new goes since =
     record {
@@ -50,6 +52,7 @@ set_goes old new goes since =
       all = goes.all;
     }
 
+-- a release that answers Unlocked has freed its index, and the view of the pass goes on
 pub has_freed : (old new : Pass) (index : ℕ) (state : ReleaseState) → SamePass old new → state ≡ Unlocked
     → HasGiven index state (view old) (view new) → HasFreed index (view old) (view new)
 has_freed old new index state goes unlocked given =
@@ -67,6 +70,7 @@ claims_in_turn (x ∷ xs) old new each i =
     let more = claims_in_turn xs each.0 new each.2 i in
     omega arith
 
+-- an index is freed as often as it stands in the list of those that are freed in turn
 pub freed_in_turn : (is : List ℕ) (old new : View ℕ) → InTurn HasFreed is old new → (i : ℕ)
     → sum_by (frees i) new.made ≡ sum_by (frees i) old.made + times i is
 freed_in_turn [] old new same i =
@@ -87,6 +91,8 @@ past_the_end [] y h = refl
 past_the_end (p ∷ ps) zero h = absurd (omega arith)
 past_the_end (p ∷ ps) (suc y) h = past_the_end ps y (omega arith)
 
+-- ps is the table, y the value that came back; v and w are what the pass knew before that and
+-- after it
 module _ (ps : List Place) (y : ℕ) (v w : View ℕ) where
   pub frees_none : is_sent (place_at ps y) ≡ false → w ≡ v → InTurn HasFreed (sent_back y ps) v w
   frees_none off same =
@@ -103,6 +109,8 @@ abbrev pub sent_below : ℕ → List Place → List ℕ
 sent_below i ps = filter (λ j. is_sent (place_at ps j)) (range_with_len 0 i)
 
 module _ (ps : List Place) (i : ℕ) where
+  -- the indices below the next one that were sent are those below this one, and this one if it was
+  -- sent
   next : sent_below (i + 1) ps ≡ sent_below i ps ++ cond (is_sent (place_at ps i)) (i ∷ []) []
   next =
       let same : 0 + i ≡ i = omega arith in
@@ -111,6 +119,7 @@ module _ (ps : List Place) (i : ℕ) where
       ap (filter (λ j. is_sent (place_at ps j))) more
       ∙ filter-append (λ j. is_sent (place_at ps j)) (range_with_len 0 i) (i ∷ [])
 
+  -- with this index, which was sent, all below the next one that were sent are freed in turn
   pub freed_more : (old now new : View ℕ) → is_sent (place_at ps i) ≡ true → InTurn HasFreed (sent_below i ps) old now
       → HasFreed i now new → InTurn HasFreed (sent_below (i + 1) ps) old new
   freed_more old now new on each freed =
@@ -118,6 +127,7 @@ module _ (ps : List Place) (i : ℕ) where
       (sym (next ∙ ap (λ b. sent_below i ps ++ cond b (i ∷ []) []) on))
       (in_turn_more HasFreed (sent_below i ps) i old now new each freed)
 
+  -- where this index was not sent, all below the next one that were sent are freed already
   pub freed_same : (old now : View ℕ) → is_sent (place_at ps i) ≡ false → InTurn HasFreed (sent_below i ps) old now
       → InTurn HasFreed (sent_below (i + 1) ps) old now
   freed_same old now off each =
@@ -140,6 +150,7 @@ pops_none v =
     record { share = refl; since = itself v.seen; first = first_all v.turns; numbers = []; popped = refl; aside = omega arith }
 
 module _ (old now new : View ℕ) (before : Popping old now) (goes : Goes now new) where
+  -- the view goes on from where the pops began
   pub still_goes : Goes old new
   still_goes =
       record {
@@ -149,6 +160,7 @@ module _ (old now new : View ℕ) (before : Popping old now) (goes : Goes now ne
         all = goes.all;
       }
 
+  -- a pop that found a number adds it to those that were taken out
   pub pops_on : (answer : Option ℕ) (none : Bool) → is_some answer ≡ not none → none ≡ false
       → HasPopped (option_map Index answer) now new → new.aside ≤ now.aside + 1 → Popping old new
   pops_on None none is off popped once = absurd (true≢false (sym (is ∙ ap not off)))
@@ -163,6 +175,7 @@ module _ (old now new : View ℕ) (before : Popping old now) (goes : Goes now ne
       }
 
 module _ (old now new : View ℕ) (before : Popping old now) where
+  -- a pop that found none ends the pops: the queue is emptied
   pub is_emptied : (answer : Option ℕ) (none : Bool) → is_some answer ≡ not none → none ≡ true
       → HasPopped (option_map Index answer) now new → IfNone answer (FoundNone now new) → new.aside ≤ now.aside + 1 → HasEmptied old new
   is_emptied None none is on popped found once =

@@ -36,6 +36,8 @@ alike : (v : View ℕ) → AreAlike v v
 alike v = record { seen = refl; made = refl; party = refl; share = refl; aside = refl }
 
 module _ {old old' new new' : View ℕ} (a : AreAlike old old') (b : AreAlike new new') where
+  -- a call from one view to another is one between views that differ from them at most in the run
+  -- that they know
   called_alike : (p : ℕ) (start : Start ℕ) (answer : Answer ℕ) (wrote : List (Event ℕ)) → Called p start answer wrote old new
       → Called p start answer wrote old' new'
   called_alike p start answer wrote h =
@@ -70,6 +72,7 @@ module _ {old old' new new' : View ℕ} (a : AreAlike old old') (b : AreAlike ne
         knows = after;
       }
     where
+      -- a free adds to what was seen
       less : length old'.seen < length new'.seen
       less =
           let c = h.given.called in
@@ -94,6 +97,8 @@ module _ (x : ℕ) (old new : View ℕ) (h : HasFreed x old new) where
       ∙ sym (append_assoc (old.seen ++ h.given.called.others) (starts_so h.given.by x ∷ h.given.called.during) (ends_so h.given.by x ∷ []))
 
 module _ (capacity : ℕ) where
+  -- indices that are freed in turn are freed each with a run that was known then, from a view on
+  -- that knows a run
   from_there : (x : ℕ) (xs : List ℕ) (old old' new : View ℕ) → AreAlike old old' → InTurn HasFreed (x ∷ xs) old new → AreFirst old'.turns new.turns
       → Knows one_word kinds.Indices capacity old' → Knows one_word kinds.Indices capacity new → InTurn (HasFreedInRun capacity) (x ∷ xs) old' new
   from_there x [] old old' new a each first before after =

@@ -74,6 +74,7 @@ module _ {T : Type 0} (code : Coding T) (base from : View T) (settled : SettledF
   pub from_since : (xs ys : List (Event T)) → ys ≡ from.seen ++ xs → IsBeginning base.seen ys
   from_since xs ys is = (let all = later xs in record { rest = all.rest; is = is ∙ all.is })
 
+  -- p is the party of the call, w what the pass knows then, s says what was seen since
   module _ (p : ℕ) (start : Start T) (wrote last : List (Event T)) (w : View T) (s : Since p start wrote last from w) where
     pub opens : opened p start from.going ≡ Begun p start ∷ []
     opens = ap (opened p start) idle_from
@@ -98,6 +99,8 @@ module _ {T : Type 0} (code : Coding T) (base from : View T) (settled : SettledF
       pub ended_knows : Knows code kinds.Container base.capacity w
       ended_knows = (ran_base w ends.ran).knows
 
+      -- a call that has ended leaves the share, and a history and a run that go on from those that
+      -- were known before the last call rested
       pub ended_goes : Goes base w
       ended_goes =
           record {
@@ -113,6 +116,8 @@ module _ {T : Type 0} (code : Coding T) (base from : View T) (settled : SettledF
           ⊎_elim (λ (same : w.aside ≡ from.aside). omega arith) (λ (more : w.aside ≡ from.aside + 1). omega arith) ends.aside
 
       module _ (start : ContainerStart T) (is_start : call.start ≡ Container start) (answer : Answer T) (is_answer : call.answer e m ≡ answer) where
+        -- a call that has ended is a call of the history from where the last one of the pass had
+        -- ended
         pub ended_called : Called ends.party (Container start) answer ends.wrote from w
         ended_called = grind (arith, called, idle_from)
 
@@ -147,6 +152,8 @@ module _ {T : Type 0} (code : Coding T) (base from : View T) (settled : SettledF
       pub under_knows : Knows code kinds.Container base.capacity w
       under_knows = (ran_base w under.ran).knows
 
+      -- a call under way leaves the share, and a history and a run that go on from those that were
+      -- known before the last call rested
       pub under_goes : Goes base w
       under_goes =
           record {

@@ -62,6 +62,7 @@ module _ {T : Type 0} (code : Coding T) where
   -- ---- remove
 
   module _ (given : GiveBack) where
+    -- a remove that begins, of an index below the capacity, asks for a word of the container
     remove_asks : (capacity : ℕ) (c : Removing) → BeginsRemove given capacity c → AsksFor (container_words code capacity) (remove_want c given)
     remove_asks capacity c b =
         let low = b.1 in
@@ -86,6 +87,7 @@ module _ {T : Type 0} (code : Coding T) where
   -- ---- replace
 
   module _ (law : IsCoding code) (given : Replacement T) where
+    -- a replace that begins, of an index below the capacity, asks for a word of the container
     replace_asks : (capacity : ℕ) (c : Replacing T) → BeginsReplace given capacity c
         → AsksFor (container_words code capacity) (replace_want code.words_of code.size c given)
     replace_asks capacity c b =

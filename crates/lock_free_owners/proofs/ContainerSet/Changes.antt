@@ -43,6 +43,7 @@ module _ {T : Type 0} where
       → CountsChanges t → (turn : Turn T) → open_refusal t.world turn ≡ None → CountsChanges (after_turn t turn)
   counts_after t is r few h turn free = counting.turn_counts by_word t (reached_open_sound t is r) few h turn (allowed_open t.world turn free)
 
+  -- as a container opens, its number of changes counts none
   pub counts_first : (t : Trace T) → t.world.kind ≡ kinds.Container → IsReachedOpen t
       → CountsChanges (opening t.world.coding t.world.kind t.world.capacity t.world.parties)
   counts_first t is r =

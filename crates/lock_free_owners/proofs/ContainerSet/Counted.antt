@@ -5,6 +5,7 @@ use Rattle.steps.specs.declared.ask.Want.{Want}
 use Rattle.steps.specs.declared.ask.Want.TheVariants as wants
 
 module _ {V : Type 0} (asked : V → ℕ) (holds : State (Unit {0}) V → Type 0) (words slots id : ℕ) where
+  -- what a call owes for its want it owes with the view that counts at most one operation more
   pub counted_owes : (told : V → ℕ → V → Type 0) (want : Want (Unit {0})) (me : Me (Unit {0}) V)
       → Owes asked holds words slots id told want me
       → Owes asked holds words slots id (λ v n w. told v n w × (asked w ≤ asked v + 1)) want me

@@ -74,6 +74,8 @@ module _ {T : Type 0} where
   short_last (x ∷ []) short e (y ∷ pre) post is = (let none : [] ≡ pre ++ e ∷ post = cc in no_more e pre post none)
   short_last (x ∷ (y ∷ ys)) short e pre post is = absurd short
 
+  -- where a step's own events end no call, and at most the end of its call follows, an event that
+  -- ends a call is the last of them
   ends_last : (ws last : List (Event T)) → NoEnds ws → IsShort last → (e : Event T) → is_end e ≡ true → (pre post : List (Event T))
       → ws ++ last ≡ pre ++ e ∷ post → post ≡ []
   ends_last [] last none short e end pre post is = short_last last short e pre post is
@@ -88,7 +90,10 @@ module _ {T : Type 0} (code : Coding T) (capacity : ℕ) where
   abbrev IsOn : Trace T → Type 0
   IsOn t = IsRun code kinds.Container capacity t
 
+  -- t is a trace of a run of a container, e an event that ends a call; pre and post stand before
+  -- and behind it
   module _ (t : Trace T) (run : IsOn t) (e : Event T) (end : is_end e ≡ true) (pre post : List (Event T)) where
+    -- an event that ends a call is the last that a step of a party's call writes
     step_last : (p : ℕ) (x : Party T) (old : ℕ) (doing : Doing T) → events_of_answer t.world p x old doing ≡ pre ++ e ∷ post → post ≡ []
     step_last p x old (Over others) is = no_more e pre post is
     step_last p x old (Going flight since) is =
@@ -143,6 +148,8 @@ module _ {T : Type 0} (code : Coding T) (capacity : ℕ) where
   Cut t turns seen = (first : List (Turn T)) × AreFirst first turns × ((after_turns t first).events ≡ seen)
 
   module _ (e : Event T) (end : is_end e ≡ true) (before rest : List (Event T)) where
+    -- where no turn is left, the events cannot both go on behind the end of the call and be a
+    -- beginning of what comes before it
     cut_none : (t : Trace T) → t.events ≡ (before ++ e ∷ []) ++ rest → IsBeginning t.events before → Cut t [] (before ++ e ∷ [])
     cut_none t is begun =
         let whole : t.events ++ [] ≡ t.events ++ (begun.rest ++ e ∷ rest) =
@@ -155,6 +162,8 @@ module _ {T : Type 0} (code : Coding T) (capacity : ℕ) where
     later : (t : Trace T) (turn : Turn T) (turns : List (Turn T)) → Cut (after_turn t turn) turns (before ++ e ∷ []) → Cut t (turn ∷ turns) (before ++ e ∷ [])
     later t turn turns next = (turn ∷ next.0, record { rest = next.1.rest; is = ap (λ xs. turn ∷ xs) next.1.is }, next.2)
 
+    -- where a turn writes the end of the call, the turns up to this one lead to just the events up
+    -- to that end
     now : (t : Trace T) (turn : Turn T) (turns : List (Turn T)) → IsOn t → (begun : IsBeginning t.events before) → (post : List (Event T))
         → events_of t.world turn ≡ begun.rest ++ e ∷ post → Cut t (turn ∷ turns) (before ++ e ∷ [])
     now t turn turns run begun post writes =
@@ -165,6 +174,8 @@ module _ {T : Type 0} (code : Coding T) (capacity : ℕ) where
               ∙ (sym (append_assoc t.events begun.rest (e ∷ [])) ∙ ap (λ xs. xs ++ e ∷ []) (sym begun.is)),
         )
 
+    -- of turns that lead beyond the end of a call, the first ones lead to just the events up to
+    -- that end
     cut_at : (t : Trace T) (turns : List (Turn T)) → IsOn t → AreAllowedBy (refusal_as kinds.Container) t turns → AreFresh t turns
         → (after_turns t turns).events ≡ (before ++ e ∷ []) ++ rest → IsBeginning t.events before → Cut t turns (before ++ e ∷ [])
     cut_at t [] run allowed fresh is begun = cut_none t is begun
@@ -208,6 +219,8 @@ module _ {T : Type 0} (code : Coding T) (capacity : ℕ) where
 
   module _ (v : View T) (knows : Knows code kinds.Container capacity v) (e : Event T) (end : is_end e ≡ true) (before rest : List (Event T))
       (is : v.seen ≡ (before ++ e ∷ []) ++ rest) where
+    -- of the turns that a pass knows, the first ones lead to just the events up to the end of the
+    -- call
     cut : Cut start v.turns (before ++ e ∷ [])
     cut =
         cut_at e end before rest start v.turns
@@ -220,6 +233,7 @@ module _ {T : Type 0} (code : Coding T) (capacity : ℕ) where
         })
         knows.allowed knows.fresh (sym knows.is ∙ is) (record { rest = before; is = refl })
 
+    -- a run that a pass knew before the end of the call is a beginning of the run up to that end
     goes_on : (old : View T) → Knows code kinds.Container capacity old → AreFirst old.turns v.turns → IsBeginning old.seen before
         → AreFirst old.turns cut.0
     goes_on old known first begun =
@@ -227,6 +241,8 @@ module _ {T : Type 0} (code : Coding T) (capacity : ℕ) where
         (know_one v.turns (record old { other_turns = [] }) (record v { turns = cut.0; other_turns = [] })
         (record { mine = first; theirs = first_none v.turns }) (record { mine = cut.1; theirs = first_none v.turns }))
       where
+        -- where the run up to the end is a beginning of the known run, the known run is a
+        -- beginning of the run up to the end as well
         beyond : AreFirst cut.0 old.turns → AreFirst old.turns cut.0
         beyond a =
             let on = events_more (after_turns start cut.0) a.rest in
@@ -242,6 +258,8 @@ module _ {T : Type 0} (code : Coding T) (capacity : ℕ) where
             ∙ (append_assoc (before ++ e ∷ []) on.rest begun.rest ∙ append_assoc before (e ∷ []) (on.rest ++ begun.rest)))) in
             no_more e [] (on.rest ++ begun.rest) (cancel before [] (e ∷ (on.rest ++ begun.rest)) whole)
 
+    -- what the pass knew as the call ended: the run up to that end, which goes on from each that
+    -- it knew before
     pub ran_to : RanTo code capacity v before e
     ran_to =
         let turns = cut.0 in

@@ -21,6 +21,7 @@ module _ {T : Type 0} where
   get_of_take (suc n) zero (e ∷ es) below = refl
   get_of_take (suc n) (suc i) (e ∷ es) below = get_of_take n i es (omega arith)
 
+  -- behind the first n elements nothing is shown
   past_all : (at n i : ℕ) (es : List (Element T)) → n ≤ i → shown_from at (drop i (take n es)) ≡ []
   past_all at zero zero es past = refl
   past_all at zero (suc i) es past = refl
@@ -61,6 +62,7 @@ module _ {T : Type 0} where
   first_fits None index rest = omega arith
   first_fits (Some value) index rest = omega arith
 
+  -- the first n elements show at most n values
   few : (at n : ℕ) (es : List (Element T)) → length (shown_from at (take n es)) ≤ n
   few at zero es = omega arith
   few at (suc n) [] = omega arith

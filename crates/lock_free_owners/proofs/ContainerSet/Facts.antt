@@ -63,6 +63,8 @@ module _ {T : Type 0} (code : Coding T) where
       made_call : Called ends.over.party (Container start) answer ends.over.wrote from w
       made_call = ended_called code base from ends.settled call w e tt ends.over start is_start answer is_answer
 
+      -- a call that has ended is one of the history, which wrote this, from where the last one of
+      -- the pass had ended
       pub made : (Wrote : ℕ → List (Event T) → Type 0) → Wrote ends.over.party ends.over.wrote → HasMade start answer Wrote base w
       made Wrote tells =
           record {
@@ -158,6 +160,8 @@ module _ {T : Type 0} (code : Coding T) where
       pub counted_most : n ≤ base.capacity
       counted_most = go (is_locked counted_answered.before) refl
         where
+          -- the number that is counted is at most the capacity, whether the container was locked
+          -- or not
           go : (b : Bool) → is_locked counted_answered.before ≡ b → n ≤ base.capacity
           go true t = (let none = counted_answered.right.none t in omega arith)
           go false t =
@@ -194,6 +198,7 @@ module _ {T : Type 0} (code : Coding T) where
     removed_answered answer ends =
         answered (BeginsRemove given) (removes_value given) base w answer ends (Remove given.index given.owner given.mode) refl (removed answer) refl
 
+    -- the answer of a remove says what is right of a remove
     removed_so : (mode : ReleaseMode) (answer : Removed) → AnsweredBy (Remove given.index given.owner mode) (removed answer) base w
         → Answered (Remove given.index given.owner mode) (removed answer)
         (RemovesRight (MayBeWorn w.seen) base.capacity (record { index = given.index; owner = given.owner; mode = mode }) answer) base w
@@ -207,6 +212,7 @@ module _ {T : Type 0} (code : Coding T) where
     pub removed_right : (answer : Removed) → RemoveEnds code given base answer tt w → IsRightRemove given answer base w
     removed_right answer ends = removed_so given.mode answer (removed_answered answer ends)
 
+    -- a remove whose first event frees its index freed it in this call
     removed_at : (state : ReleaseState) (rest : List (Event T)) → (ends : RemoveEnds code given base (Ok state) tt w)
         → ends.over.wrote ≡ FreedOf ends.over.party given.index given.owner ∷ rest → WasFreed given.index given.owner base w
     removed_at state rest ends is =
@@ -215,6 +221,7 @@ module _ {T : Type 0} (code : Coding T) where
         (λ before after at. ((sound_history code base.capacity w.seen (history_of (BeginsRemove given) (removes_value given) base w (Ok state) ends)).does
         before after (FreedOf ends.over.party given.index given.owner) at).0)
 
+    -- what a remove that freed its index wrote begins with that free
     freed_first : (state : ReleaseState) (p : ℕ) (es : List (Event T)) → container.HasRemovedIt p given state es
         → (rest : List (Event T)) × (es ≡ FreedOf p given.index given.owner ∷ rest)
     freed_first states.Unlocked p es h = (_, h.2.1 ∙ ap (λ zs. zs ++ container.when h.2.0 (Hidden p given.index)) h.1)
@@ -235,6 +242,8 @@ module _ {T : Type 0} (code : Coding T) where
     abbrev pub gives : ReleaseMode → GiveBack
     gives mode = record { index = index; owner = owner; mode = mode }
 
+    -- a remove that answers Locked is in the mode that locks, and has seen the lock; one that
+    -- answers Unlocked in that mode began before the lock was seen
     released_so : (mode : ReleaseMode) (state : ReleaseState) → RemoveEnds code (gives mode) base (Ok state) tt w → HasReleased state mode base w
     unfolding removed_answered answered made_call ended_answered
     released_so LockIfLastIndex states.Locked ends =
@@ -272,6 +281,7 @@ module _ {T : Type 0} (code : Coding T) where
   -- ---- add
 
   module _ (base w : View T) (given : Owned T) where
+    -- what an add wrote is what its answer says
     pub has_added : (answer : Added) → AddEnds code given base answer tt w → HasAdded given answer base w
     has_added answer ends =
         made (BeginsAdd given) (adds_value code.size given) base w answer ends (Add given.value given.owner) refl (added answer) refl
@@ -298,6 +308,7 @@ module _ {T : Type 0} (code : Coding T) where
           (λ by. Filled by index given.owner) [] (Granted ends.over.party index given.owner ∷ taken_first.0) taken_first.1 _
           (λ before after is. (let does_it = sound_here.does before after (Filled ends.over.party index given.owner) is in (does_it.0, does_it.1, does_it.3)))
 
+      -- an index that an add took was granted to its owner
       pub granted_so : WasGranted index given.owner base w
       granted_so =
           wrote_at (BeginsAdd given) (adds_value code.size given) base w (Ok index) ends (Add given.value given.owner) refl (added (Ok index)) refl
@@ -313,6 +324,7 @@ module _ {T : Type 0} (code : Coding T) where
       pub open_so : is_locked base.seen ≡ false
       open_so = (let g = granted_so in not_locked g.since g.held.0)
 
+    -- an add that was refused found the container locked, or each index with an owner
     pub refused_so : (e : ContainerAddFailure) → AddEnds code given base (Err e) tt w → WasNotAdded given.value given.owner e base w
     refused_so failures.OutOfSpace ends =
         let a = added_answered (Err failures.OutOfSpace) ends in

@@ -48,6 +48,7 @@ module _ {T : Type 0} (code : Coding T) (capacity p owner number : ℕ) where
     asking stage =
         flights.Container (calls.Find (record { call = record { capacity = size; stage = stage; of = record {} }; given = owner; room = room }))
 
+    -- the bound of a find that asks about an index is the number behind this index
     bound_is : (coding : Coding T) (stage : FindStage) (index : ℕ) (value : T)
         → question_in coding (Some (asking stage)) ≡ Some (index, value) → index + 1 ≡ below_question stage
     bound_is coding (finds.LoadsCell k found) index value e = absurd (cc)
@@ -58,6 +59,8 @@ module _ {T : Type 0} (code : Coding T) (capacity p owner number : ℕ) where
         let same : ◌≡◌ {A = ℕ × T} (k, read_in coding room) (index, value) = cc in
         ap (λ (z : ℕ × T). z.0 + 1) (sym same)
 
+    -- a find at a question, which a no would end with this number, has counted the owner's indices
+    -- up to the one that it asks about
     pub counts_below : (stage : FindStage) (t : Trace T) (run : IsRun code kinds.Container capacity t)
         → call_in t.world p ≡ Some (Container (Find owner), asking stage) → is_question (want_of code (asking stage)) ≡ true
         → goes_of code p (asking stage) (number_of false) t.world.kept ≡ Done (Number number)
@@ -82,6 +85,7 @@ module _ {T : Type 0} (code : Coding T) (capacity p owner number : ℕ) where
         effs : List (Event T)
         effs = container_effects t.world p (asking stage) (number_of false)
 
+        -- where a no ends the find, the turn with that no writes its end last
         writes : events_of t.world (Decide p false) ≡ effs ++ end ∷ []
         writes =
             let on = (containers_owe code capacity).steps_on t run p start (asking stage) there in
@@ -89,6 +93,8 @@ module _ {T : Type 0} (code : Coding T) (capacity p owner number : ℕ) where
             ∙ ap (λ (a : After (Flight T) (Answer T)). effs ++ ending_of p start (answer_in a))
             (ap (λ z. goes_of z p (asking stage) (number_of false) t.world.kept) run.coded ∙ ends)
 
+        -- of the trace after the no: it has counted the owner's indices up to the one that it asks
+        -- about
         by_stop : (W : Type 0) → StoppedIf W p owner t (after_turn t (Decide p false)) → IsCount p (IsFilledWith owner) (below_question stage) number t.events
         by_stop W stopped =
             let last = append_cancel_left t.events (events_of t.world (Decide p false)) _ stopped.ends in

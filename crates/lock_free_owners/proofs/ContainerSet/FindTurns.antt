@@ -49,6 +49,7 @@ module _ {T : Type 0} (code : Coding T) (law : IsCoding code) (owner : ℕ) wher
       let some = b.1 in
       subst (λ (d : Find T (Buffer 128)). AsksFor (container_words code capacity) (find_want code.size d)) (sym b.0) (_, omega arith, refl)
 
+  -- a find on a pass with no call under way is about to begin
   begins_first : (v : View T) (c : Find T (Buffer 128)) (m : Copying T) → BeginsFind owner v.capacity c m → v.going ≡ None → v.other ≡ [] → 0 < v.share.part
       → FindBegun code owner v v c m
   begins_first v c m b idle alone any =
@@ -119,6 +120,7 @@ module _ {T : Type 0} (code : Coding T) (law : IsCoding code) (owner : ℕ) wher
         (h.1 other (subst (λ xs. FindAt code owner other v c (room, xs)) (sym same) there))),
   )
 
+  -- a find may begin where no call is under way, or where the last one rests
   begins_by : (v : View T) → 0 < v.capacity → owner < empty → (v.going ≡ None) ⊎ IsResting code v → v.other ≡ [] → 0 < v.share.part
       → FindAt code owner v v (first_find v.capacity) (fresh_cell, [])
   begins_by v some fits (inl idle) alone any =
@@ -135,6 +137,7 @@ module _ {T : Type 0} (code : Coding T) (law : IsCoding code) (owner : ℕ) wher
 
   -- ---- at its question
 
+  -- the find began at base, and stands at c at v with m in its room
   module _ (base v : View T) (c : Find T (Buffer 128)) (m : Copying T) (index found : ℕ) (is : c.stage ≡ finds.Asks index found) where
     due : is_question (find_want code.size c) ≡ true
     due = ap (λ stage. is_question (find_asks code.size c.capacity stage)) is
@@ -153,6 +156,7 @@ module _ {T : Type 0} (code : Coding T) (law : IsCoding code) (owner : ℕ) wher
     same_room : (n : ℕ) → find_copying code owner c m n ≡ m
     same_room n = ap (λ stage. (keeps_of kept_at stage m.0 n, copies_after stage n (value_of_room code words_in m.0) m.1)) is
 
+    -- an answer that does not end the find is heard, and it goes on
     pub heard_on : (d : Find T (Buffer 128)) (said : Bool) → find_goes code owner c (number_of said) ≡ GoOn d → FindAt code owner base v c m
         → FindAt code owner base v d m
     heard_on d said goes at =
@@ -170,6 +174,8 @@ module _ {T : Type 0} (code : Coding T) (law : IsCoding code) (owner : ℕ) wher
 
   -- ---- where it has ended, or rests
 
+  -- the find began at from, e is the number that it answers, m its room, w what the pass knows
+  -- then; id is the container's number
   module _ (cap : ℕ) (base w : View T) (from : View T) (settled : SettledFrom code kinds.Container base from) (e : ℕ) (m : Copying T) (id : ℕ) where
     module _ (rest : RestsAt code kinds.Container (find_goes code owner) (find_copying code owner) (finding code owner) from w e m) where
       abbrev under : IsUnderWay code kinds.Container (finding code owner) from w rest.asking m
@@ -181,6 +187,7 @@ module _ {T : Type 0} (code : Coding T) (law : IsCoding code) (owner : ℕ) wher
       tells : under.wrote ≡ told
       tells = under.tells (idle_from code base from settled) ∙ named_copies under.party owner id m.1
 
+      -- a find that an answer has ended rests: it has begun, and written its copies
       rests_so : Rests under.party (Container (starts.Find owner)) (Number e) told from w
       rests_so =
           let so = find_rests_so code law words_in kept_at put_in owner from w e m rest in
@@ -216,6 +223,8 @@ module _ {T : Type 0} (code : Coding T) (law : IsCoding code) (owner : ℕ) wher
           h.trace h.run h.there rest.asks
           (no_ends code law words_in kept_at put_in owner from w e m rest h.trace.world.kept) (copies_of under.party m.1) at_work)
 
+      -- where it rests, it has counted the owner's indices up to the one that it asks about, and
+      -- copied these values
       pub rested_so : HasSearched cap owner e (below_question rest.asking.stage) (visits_of owner id m.1) base w
       rested_so =
           record {
@@ -230,6 +239,7 @@ module _ {T : Type 0} (code : Coding T) (law : IsCoding code) (owner : ℕ) wher
       at_question : (stage : FindStage) → is_question (find_asks code.size rest.asking.capacity stage) ≡ true → asks stage ≡ true
       at_question stage is_question_true = grind arith
 
+      -- where it rests, it leaves its pass as each find does
       pub rested_left : IsLeft code base w
       rested_left =
           record {
@@ -253,6 +263,8 @@ module _ {T : Type 0} (code : Coding T) (law : IsCoding code) (owner : ℕ) wher
           subst (λ n. IsCount ends.party (IsFilledWith owner) n e w.seen) (capacity_from code base from settled ∙ sym size)
           (counts_whole code from.capacity ends.party owner e w.seen ends.last)
 
+      -- where it has ended, it has counted the owner's indices of the whole, and copied these
+      -- values
       ended_so : cap ≡ base.capacity → HasSearched cap owner e cap (visits_of owner id m.1) base w
       ended_so size =
           record {
@@ -270,6 +282,7 @@ module _ {T : Type 0} (code : Coding T) (law : IsCoding code) (owner : ℕ) wher
             );
           }
 
+      -- where it has ended, it leaves its pass as each find does
       ended_left : IsLeft code base w
       ended_left =
           record {

@@ -30,9 +30,12 @@ one_more_is n n_below = grind (arith, one_more)
 
 module _ {T F : Type 0} (code : Coding T) (step : F → T → ContainerHandle → CallbackProgression → F → Type 0)
     (cap owner id : ℕ) (base : View T) (f : F) where
+  -- the value whose words a room has
   abbrev value_in_room : Buffer 128 → T
   value_in_room = value_of_room code words_in
 
+  -- the find stands at c in the view v with room m, p is its closure after the copies so far, and
+  -- its operations are counted
   pub record Searching (v : View T) (c : Find T (Buffer 128)) (m : Buffer 128) (p : F) : Type 0 where
     pub copies : List (ℕ × T)
     pub at : FindAt code owner base v c (m, copies)
@@ -52,6 +55,7 @@ module _ {T F : Type 0} (code : Coding T) (step : F → T → ContainerHandle �
       → HasFound step cap (IsNamed cap owner id) f n bound (visits_of owner id copies) q → FindTakes code.size cap base w → Over w n q
   whole w n bound q copies both found find_takes_holds = grind (arith, visits_of)
 
+  -- the find stands at c at v with room m, and p is its closure, as h says
   module _ (law : IsCoding code) (small : cap < 2 ^ 32) (size : cap ≡ base.capacity) (v : View T) (c : Find T (Buffer 128)) (m : Buffer 128)
       (p : F) (h : Searching v c m p) where
     stood : (k : ℕ) → StillStands code.size cap (find_goes code owner c k)
@@ -74,6 +78,7 @@ module _ {T F : Type 0} (code : Coding T) (step : F → T → ContainerHandle �
     few_then : (most before : ℕ) (w : View T) → before + 1 ≤ most → TakesAtMost before base v → TakesAtMost 1 v w → TakesAtMost most base w
     few_then most before w more few one = omega arith
 
+    -- a step at a word leaves the find where it goes on, with the closure as it was
     by_step : (stage : FindStage) → c.stage ≡ stage → (still : IsQuiet step cap owner id f stage)
         → (w : View T) (a : After (Find T (Buffer 128)) ℕ) (left : Buffer 128)
         → FindGoes code owner v c m a left w → Further w a left p
@@ -124,6 +129,7 @@ module _ {T F : Type 0} (code : Coding T) (step : F → T → ContainerHandle �
           let few = h.steps in
           omega arith
 
+      -- an answer to go on leaves the find where it goes on, with the closure after that answer
       answered : (q : F) (r : After (Find T (Buffer 128)) ℕ) → find_goes code owner c 1 ≡ r → StillStands code.size cap r
           → Onward step cap owner id f r h.copies (value_in_room m) q → TakesAtMost (taken_after code.size cap r) base v → Further v r m q
       answered q (GoOn d) goes stands so few =
@@ -139,6 +145,8 @@ module _ {T F : Type 0} (code : Coding T) (step : F → T → ContainerHandle �
           whole v n cap q h.copies
           (x.0, subst (λ k. HasSearched cap owner n k (visits_of owner id h.copies) base v) (last_is n goes) x.1) found_all few
 
+      -- any answer leaves the find where it goes on, or ends it, with the closure after that
+      -- answer
       by_answer : (q : F) (answer : CallbackProgression) → step p (value_in_room m) (visits.named index owner id) answer q
           → Further v (find_goes code owner c (says answer)) m q
       by_answer q Continue hit =
@@ -203,6 +211,7 @@ module _ {T F : Type 0} (code : Coding T) (step : F → T → ContainerHandle �
         lands (finds.ChecksCount at count number) to = absurd to
         lands (finds.Asks at count) to = absurd to
 
+        -- cells that were passed leave the find at one of the owner, or at its end
         by_cells : (r : After (Find T (Buffer 128)) ℕ) → a ≡ r → HasPassed cap index found r v w → Further w r m p
         by_cells (GoOn d) goes_on passed =
             let there = lands d.stage passed.1 in
@@ -222,6 +231,7 @@ module _ {T F : Type 0} (code : Coding T) (step : F → T → ContainerHandle �
       stays : a ≡ GoOn c → w ≡ v → Further w a m p
       stays same still = subst (λ r. Further w r m p) (sym same) (subst (λ (u : View T). Searching u c m p) (sym still) h)
 
+      -- whatever stage it came from, cells that were passed leave the find where it goes on
       come : (stage : FindStage) → c.stage ≡ stage → PassesFrom c stage a v w → Further w a m p
       come (finds.LoadsCell index found) is passed =
           by_cells index found is a refl (subst (λ n. HasPassed n index found a v w) h.stands.0 passed)
@@ -248,6 +258,8 @@ module _ {T F : Type 0} (code : Coding T) (few : code.size ≤ 128) (step : F �
   left_after (GoOn d) = left d
   left_after (Done n) = 0
 
+  -- where cells were passed from the cell of an index on, at most 140 steps are left for each
+  -- index from there on, and 139 more
   lands_lower : (capacity index found : ℕ) (stage : FindStage) (v w : View T) → PassesTo capacity index found stage v w
       → find_left code.size capacity stage ≤ 140 * (capacity - index) + 139
   lands_lower capacity index found (finds.LoadsCell at count) v w to = absurd to
@@ -256,6 +268,7 @@ module _ {T F : Type 0} (code : Coding T) (few : code.size ≤ 128) (step : F �
   lands_lower capacity index found (finds.ChecksCount at count number) v w to = absurd to
   lands_lower capacity index found (finds.Asks at count) v w to = absurd to
 
+  -- passing cells does not add to the steps that are left
   passes_lower : (c d : Find T (Buffer 128)) (stage : FindStage) (v w : View T) → c.stage ≡ stage → PassesFrom c stage (GoOn d) v w → left d ≤ left c
   passes_lower c d (finds.LoadsCell index found) v w is to =
       let size : d.capacity ≡ c.capacity = to.0 in
@@ -268,6 +281,7 @@ module _ {T F : Type 0} (code : Coding T) (few : code.size ≤ 128) (step : F �
   passes_lower c d (finds.ChecksCount index found count) v w is to = (let same = ap left_after to.0 in omega arith)
   passes_lower c d (finds.Asks index found) v w is to = (let same = ap left_after to.0 in omega arith)
 
+  -- after each turn fewer steps are left
   turns_lower : (c d : Find T (Buffer 128)) (stage : FindStage) (v w : View T) (m n : Buffer 128) (x : T) (p q : F)
       → FindTurns code owner stage v c m (GoOn d) n w → FindMoves step code.size id c owner stage x p (GoOn d) q → left d < left c
   turns_lower c d (finds.LoadsCell index found) v w m n x p q goes moves = find_fewer code.size few c d owner goes.0 (sym goes.1)

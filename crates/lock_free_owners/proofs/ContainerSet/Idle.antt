@@ -20,6 +20,8 @@ module _ {T : Type 0} (code : Coding T) (v : View T) (fresh : v.other ≡ []) (s
       → is_at_question (flights.Container flight) ≡ true → Rests
   of_find p start (calls.Find run) mine going due = go run.call.stage refl due
     where
+      -- of a find: at a question it rests, and ends with the number of the indices that it has
+      -- found
       go : (stage : FindStage) → run.call.stage ≡ stage → asks stage ≡ true → Rests
       go (finds.LoadsCell index found) is t = absurd (true≢false (sym t))
       go (finds.LoadsCount index found) is t = absurd (true≢false (sym t))

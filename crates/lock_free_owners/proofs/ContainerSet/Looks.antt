@@ -77,6 +77,8 @@ module _ {T : Type 0} (code : Coding T) (law : IsCoding code) (which : LookOf) (
   abbrev ToldStill : Looking T → Showing T → View T → ℕ → View T → Type 0
   ToldStill c m = Told (λ (z : View T). z.capacity) (Still (LookStands code.size)) LookEnds after kept c m
 
+  -- each step of a look keeps the rule of the table, of a state that the pass has and of one that
+  -- it has not, where it is decided which
   look_keeps_by : Decided On → Keeps code At Over want after kept
   look_keeps_by (inl on) base v c m key words slots id wide known at =
       weaker_owes (λ (z : View T). z.asked) (IsMachine code kinds.Container key) words slots id (ToldOn c m)
@@ -111,6 +113,8 @@ module _ {T : Type 0} (code : Coding T) (law : IsCoding code) (which : LookOf) (
   goes_past base (GoOn d) m w past h = (h, past)
   goes_past base (Done changed) m w past h = (h, past)
 
+  -- each step of a look past its first one keeps the rule of the table, and stays past the first
+  -- one
   pub look_on_keeps : Decided On → Keeps code AtOn OverOn want after kept
   look_on_keeps decided base v c m key words slots id wide known at =
       weaker_owes (λ (z : View T). z.asked) (IsMachine code kinds.Container key) words slots id (Told (λ (z : View T). z.capacity) At Over after kept c m)
@@ -199,6 +203,7 @@ module _ {T : Type 0} (code : Coding T) (from : View T) where
   pub of_history : (old : ContainerState T) → old.capacity ≡ from.capacity → IsOnHistory code UpdateState from old.shown old.seen → HasIt from old
   of_history old e h = (h.0, h.1, h.2 ∙ ap (λ n. Some (state_of_look n old.seen old.shown)) (sym e))
 
+  -- the state that a look leaves is the one that its pass has
   pub latest_so : (which : LookOf) (w : View T) (changed : Bool) (old new : ContainerState T) → old.capacity ≡ from.capacity
       → new ≡ settled_if (Done changed) (record old { shown = new.shown })
       → RestedLooked code which from.capacity old.seen from changed new.shown w → HasIt w new

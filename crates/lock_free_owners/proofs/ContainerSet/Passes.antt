@@ -12,6 +12,8 @@ pub record Settled {T : Type 0} (v w : View T) : Type 0 where
   pub part : 0 < w.share.part
   pub parts : 0 < w.share.parts
 
+-- the view with which a call that rested has ended, or the one that had none, has no call under
+-- way, the same capacity and a share
 settled : {T : Type 0} (code : Coding T) (v w : View T) → v.other ≡ [] → 0 < v.share.part → 0 < v.share.parts → SettledFrom code kinds.Container v w
     → Settled v w
 settled code v w alone part parts (inl same) =

@@ -73,6 +73,7 @@ module _ {T : Type 0} (code : Coding T) (law : IsCoding code) (given : DeadOwner
       → recover_goes code given c n ≡ GoOn d → BeginsRecover given capacity d m → ⊥
   never_first capacity c d m n is_question_true recover_goes_is begins_recover = grind (arith, answers_later)
 
+  -- each step of a recovery keeps the rule of the table, and tells what is known after it
   pub recover_keeps : Keeps code (RecoverAt code given) (RecoverEnds code given) (λ c. recover_want code.size c given) (recover_goes code given)
       (recover_visiting code given)
   recover_keeps =
@@ -119,6 +120,7 @@ module _ {T : Type 0} (code : Coding T) (law : IsCoding code) (given : DeadOwner
         (h.1 other (subst (λ xs. RecoverAt code given other v c (room, xs)) (sym same) there))),
   )
 
+  -- a recovery may begin where no call is under way, or where the last one rests
   begins_by : (v : View T) → given.owner < empty → (v.going ≡ None) ⊎ IsResting code v → v.other ≡ [] → 0 < v.share.part
       → RecoverAt code given v v (first_recover v.capacity) (fresh_cell, [])
   begins_by v fits (inl idle) alone any =
@@ -135,6 +137,7 @@ module _ {T : Type 0} (code : Coding T) (law : IsCoding code) (given : DeadOwner
 
   -- ---- at its question
 
+  -- the recovery began at base, and stands at c at v with m in its room
   module _ (base v : View T) (c : Recover T (Buffer 128)) (m : Visiting T) (index count : ℕ) (is : c.stage ≡ recovers.Asks index count) where
     due : is_question (recover_want code.size c given) ≡ true
     due = ap (λ stage. is_question (recover_asks code.size c.capacity stage given.owner)) is
@@ -149,6 +152,7 @@ module _ {T : Type 0} (code : Coding T) (law : IsCoding code) (given : DeadOwner
     same_room : (n : ℕ) → recover_visiting code given c m n ≡ m
     same_room n = ap (λ stage. (keeps_of kept_at stage m.0 n, visits_after given.owner stage n (value_there code words_in m.0) m.1)) is
 
+    -- an answer is heard, and the recovery goes on
     pub heard_on : (d : Recover T (Buffer 128)) (said : Bool) → recover_goes code given c (number_of said) ≡ GoOn d → RecoverAt code given base v c m
         → RecoverAt code given base v d m
     heard_on d said goes at =
@@ -169,6 +173,7 @@ module _ {T : Type 0} (code : Coding T) (law : IsCoding code) (given : DeadOwner
       abbrev x : (from : View T) × SettledFrom code kinds.Container base from × IsUnderWay code kinds.Container (recovering code given) from v c m
       x = asked_from at
 
+      -- a recovery that asks began before the lock was seen
       pub asked_open : is_locked base.seen ≡ false
       asked_open =
           let from = x.0 in
@@ -202,6 +207,8 @@ module _ {T : Type 0} (code : Coding T) (law : IsCoding code) (given : DeadOwner
 
   -- ---- where it has ended
 
+  -- base and w are what the pass knew before the recovery and after it, e is its answer, m its
+  -- room then
   module _ (base w : View T) (e : ReleaseState) (m : Visiting T) (ends : RecoverEnds code given base e m w) where
     pub recovered_goes : Goes base w
     recovered_goes = ended_goes code base ends.from ends.settled (recovering code given) w e m ends.over
@@ -223,6 +230,8 @@ module _ {T : Type 0} (code : Coding T) (law : IsCoding code) (given : DeadOwner
   recovered_answered base w states.Locked m ends = recovered_by base w states.Locked m ends
   recovered_answered base w states.Unlocked m ends = recovered_by base w states.Unlocked m ends
 
+  -- a recovery that answers Locked has seen the lock, and one that answers Unlocked began before
+  -- the lock was seen
   recovered_lock_so : (state : ReleaseState) (base w : View T) (m : Visiting T) (ends : RecoverEnds code given base state m w)
       → FoundState state base w
   recovered_lock_so states.Locked base w m ends =

@@ -30,9 +30,12 @@ module _ {T F : Type 0} (code : Coding T) (step : F → T → Bool → F → Typ
   abbrev shut : Bool
   shut = is_locked base.seen
 
+  -- the value whose words a room has
   abbrev value_in_room : Buffer 128 → T
   value_in_room = value_of_room code words_in
 
+  -- the recovery stands at c in the view v with room m, and p is its closure after the visits so
+  -- far
   pub record Standing (v : View T) (c : Recover T (Buffer 128)) (m : Buffer 128) (p : F) : Type 0 where
     pub visits : List (ℕ × Came T)
     pub at : RecoverAt code given base v c (m, visits)
@@ -49,6 +52,7 @@ module _ {T F : Type 0} (code : Coding T) (step : F → T → Bool → F → Typ
   abbrev NextThere : After (Recover T (Buffer 128)) ReleaseState → Visiting T → View T → Type 0
   NextThere a m w = Next (λ (z : View T). z.capacity) (RecoverAt code given) (RecoverEnds code given) base a m w
 
+  -- the recovery stands at c at v with room m, and p is its closure, as h says
   module _ (law : IsCoding code) (v : View T) (c : Recover T (Buffer 128)) (m : Buffer 128) (p : F) (h : Standing v c m p) where
     abbrev value : T
     value = value_in_room m
@@ -56,6 +60,7 @@ module _ {T F : Type 0} (code : Coding T) (step : F → T → Bool → F → Typ
     knows : Knows step cap shut given f c.stage
     knows = go c.stage refl
       where
+        -- at each stage at which it asks, the container was not locked when it began
         go : (stage : RecoverStage) → c.stage ≡ stage → Knows step cap shut given f stage
         go recovers.LoadsCounter is = tt
         go (recovers.LoadsCell index) is = tt
@@ -70,6 +75,8 @@ module _ {T F : Type 0} (code : Coding T) (step : F → T → Bool → F → Typ
         go recovers.LoadsCounterAgain is = tt
         go (recovers.AddsChange state) is = tt
 
+    -- a step, or an answer, leaves the recovery where it goes on, or ends it, with what the
+    -- closure was asked
     stepped : (w : View T) (a : After (Recover T (Buffer 128)) ReleaseState) (left : Buffer 128) (visits : List (ℕ × Came T)) (q : F) → (n : ℕ)
         → recover_goes code given c n ≡ a → NextThere a (left, visits) w → Onward step cap shut given f a visits (value_in_room left) q → Further w a left q
     stepped w (GoOn d) left visits q n goes at so =
@@ -98,6 +105,8 @@ module _ {T F : Type 0} (code : Coding T) (step : F → T → Bool → F → Typ
               };
         }
 
+    -- a step at a word leaves the recovery where it goes on, or ends it, with the closure as it
+    -- was
     by_step : (stage : RecoverStage) → c.stage ≡ stage → IsQuiet step cap shut given f stage → (w : View T) (a : After (Recover T (Buffer 128)) ReleaseState)
         (left : Buffer 128) → RecoverGoes code given v c m a left w → Further w a left p
     by_step stage is still w a left goes =
@@ -115,6 +124,7 @@ module _ {T F : Type 0} (code : Coding T) (step : F → T → Bool → F → Typ
     heard said (GoOn d) index count is goes = heard_on code law given base v c (m, h.visits) index count is d said goes h.at
     heard said (Done e) index count is goes = answer_last code law given base v c (m, h.visits) index count is e said goes
 
+    -- an answer leaves the recovery where it goes on, with the closure after that answer
     by_answer : (index count : ℕ) (is : c.stage ≡ recovers.Asks index count) (q : F) (said : Bool) → step p value said q
         → Further v (recover_goes code given c (if said then 1 else 0)) m q
     by_answer index count is q said hit =
@@ -127,11 +137,13 @@ module _ {T F : Type 0} (code : Coding T) (step : F → T → Bool → F → Typ
         (answers_so step cap shut given f code.size c index count h.visits value said p q free (subst (RecoverIn code.size cap given.mode) is h.stands.1) hit
         (subst (λ z. SoFar step cap shut given f z h.visits value p) is h.so_far)))
 
+    -- w is what the pass knows then, a how the recovery goes on, q its closure then
     module _ (w : View T) (a : After (Recover T (Buffer 128)) ReleaseState) (left : Buffer 128) (q : F) where
       passes : (stage : RecoverStage) → c.stage ≡ stage → IsQuiet step cap shut given f stage
           → RecoverGoes code given v c m a left w → q ≡ p → Further w a left q
       passes stage same_stage quiet recover_goes_holds q_is_p = grind (arith, by_step)
 
+      -- a turn at any stage leaves the recovery where it goes on, or ends it
       turned : (stage : RecoverStage) → c.stage ≡ stage → RecoverTurns code given stage v c m a left w
           → RecoverMoves step code.size c given stage value p a q → Further w a left q
       turned recovers.LoadsCounter is turns moves = passes recovers.LoadsCounter is tt turns moves
@@ -158,6 +170,7 @@ module _ {T F : Type 0} (code : Coding T) (step : F → T → Bool → F → Typ
 
   -- ---- it passes cells
 
+  -- a recovery that stands where it may stands at a cell below the capacity, if at a cell
   in_sight : (stage : RecoverStage) → RecoverIn code.size cap given.mode stage → IsWithin cap stage
   in_sight recovers.LoadsCounter at = tt
   in_sight (recovers.LoadsCell index) at = at
@@ -175,7 +188,9 @@ module _ {T F : Type 0} (code : Coding T) (step : F → T → Bool → F → Typ
   pub may_pass : (v : View T) (c : Recover T (Buffer 128)) (m : Buffer 128) (p : F) → Standing v c m p → IsWithin c.capacity c.stage
   may_pass v c m p h = subst (λ n. IsWithin n c.stage) (sym h.stands.0) (in_sight c.stage h.stands.1)
 
+  -- the recovery stands at c at v with room m, and p is its closure; then at d at w
   module _ (v w : View T) (c d : Recover T (Buffer 128)) (m : Buffer 128) (p : F) (h : Standing v c m p) (goes : RecoverPasses code given v c m d w) where
+    -- where no cell was passed, the recovery stands where it stood
     stays : d ≡ c → Standing w d m p
     stays same =
         subst (λ z. Standing w z m p) (sym same)
@@ -202,6 +217,7 @@ module _ {T F : Type 0} (code : Coding T) (step : F → T → Bool → F → Typ
     lands index within asked recovers.LoadsCounterAgain to = (tt, widen step cap shut given f index cap h.visits p (omega arith) asked)
     lands index within asked (recovers.AddsChange state) to = absurd to
 
+    -- from a cell, the cells that were passed leave the recovery where it goes on
     comes_from : (index : ℕ) → c.stage ≡ recovers.LoadsCell index → HasPassed c.capacity index d → Standing w d m p
     comes_from index is passed =
         let within : index < cap = subst (RecoverIn code.size cap given.mode) is h.stands.1 in
@@ -215,6 +231,7 @@ module _ {T F : Type 0} (code : Coding T) (step : F → T → Bool → F → Typ
           so_far = there.1;
         }
 
+    -- whatever stage it came from, cells that were passed leave the recovery where it goes on
     came : (stage : RecoverStage) → c.stage ≡ stage → PassesFrom c stage d → Standing w d m p
     came recovers.LoadsCounter is same = stays same
     came (recovers.LoadsCell index) is passed = comes_from index is passed

@@ -16,6 +16,8 @@ module _ {T : Type 0} (code : Coding T) where
       → ((kept : Registry T) → goes_of code p flight (number_of false) kept ≡ Done answer) → EndsAs flight answer
   ends_as p answer (flights.Container (calls.Find run)) asks ends = go run.call.stage refl
     where
+      -- a find at a question, which a no would end with this answer, ends with the number of the
+      -- indices that it has found
       go : (stage : FindStage) → run.call.stage ≡ stage → FindEndsAs run.call.stage answer
       go (finds.LoadsCell index found) is = absurd (true≢false (sym asks ∙ rw is refl))
       go (finds.LoadsCount index found) is = absurd (true≢false (sym asks ∙ rw is refl))
@@ -29,6 +31,7 @@ module _ {T : Type 0} (code : Coding T) where
           subst (λ stage. FindEndsAs stage answer) (sym is) same
   ends_as p answer flight asks ends = tt
 
+  -- a call that rests by the machine rests as contracts say it
   abbrev pub resting_so : (v : View T) → machine.IsResting code v → IsResting v
   resting_so v h =
       record {
@@ -43,6 +46,7 @@ module _ {T : Type 0} (code : Coding T) where
         some = h.some;
       }
 
+  -- a call that has ended where it rested by the machine has ended so as contracts say it
   settles : (old new : View T) → machine.Settles code kinds.Container old new → Settles old new
   settles old new h =
       record {

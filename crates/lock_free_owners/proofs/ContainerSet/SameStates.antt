@@ -24,6 +24,7 @@ module _ {A : Type 0} (same : (x y : A) → Decided (x ≡ y)) where
   rest_of : (x y : A) (xs ys : List A) → x ∷ xs ≡ y ∷ ys → xs ≡ ys
   rest_of x y xs ys e = cc
 
+  -- whether two lists are the same is decided if it is for two elements
   same_list : (xs ys : List A) → Decided (xs ≡ ys)
   same_list [] [] = inl refl
   same_list [] (y ∷ ys) = inr (λ e. absurd (cc))
@@ -52,6 +53,7 @@ module _ {T : Type 0} (code : Coding T) (law : IsCoding code) where
       (λ e. (ap (λ (z : Element T). z.count) e, ap (λ (z : Element T). z.value) e))
       (both (cases_eq x.count y.count) (same_value x.value y.value))
 
+  -- whether two sets of shown elements are the same is decided
   same_shown : (x y : Showing T) → Decided (x ≡ y)
   same_shown x y =
       alike (λ (e : (x.change ≡ y.change) × ((x.elements ≡ y.elements) × (x.copy ≡ y.copy))).
@@ -59,6 +61,7 @@ module _ {T : Type 0} (code : Coding T) (law : IsCoding code) where
       (λ e. (ap (λ (z : Showing T). z.change) e, (ap (λ (z : Showing T). z.elements) e, ap (λ (z : Showing T). z.copy) e)))
       (both (cases_eq x.change y.change) (both (same_list same_element x.elements y.elements) (same_numbers x.copy y.copy)))
 
+  -- whether two states are the same is decided
   same_state : (x y : ContainerState T) → Decided (x ≡ y)
   same_state x y =
       alike (λ (e : ((x.container ≡ y.container) × (x.capacity ≡ y.capacity)) × ((x.seen ≡ y.seen) × (x.shown ≡ y.shown))).
@@ -76,6 +79,7 @@ module _ {T : Type 0} (code : Coding T) (law : IsCoding code) where
       Has : Type 0
       Has = BeginsWith code UpdateState cells seen UpdateState base m
 
+      -- if the party has a state, it is decided whether it is this one
       by_state : (p : ℕ) (s : ContainerState T) → base.party ≡ Some p → base.state ≡ Some s → Decided (s ≡ state_of_look cells seen m) → Decided Has
       by_state p s mine is (inl same) = inl (p, mine, is ∙ ap Some same)
       by_state p s mine is (inr other) =

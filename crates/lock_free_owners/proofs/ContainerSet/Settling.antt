@@ -21,6 +21,8 @@ module _ {T : Type 0} (code : Coding T) where
       OwesAsk (λ (z : View T). z.asked) (IsMachine code kinds.Container key) words slots id
       (λ u n w. HasSettled code u w) word Load (v, [])
 
+  -- one load of any word ends a call that rests, or leaves what is known where no call is under
+  -- way
   settles_by : (key words slots id word : ℕ) (v : View T) → word < words → v.capacity ≡ key → (v.going ≡ None) ⊎ IsResting code v
       → Owed key words slots id word v
   settles_by key words slots id word v below known (inl idle) = (

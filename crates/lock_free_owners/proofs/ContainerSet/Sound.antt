@@ -18,6 +18,7 @@ module _ {T : Type 0} {worn other : Type 0} (may : worn → other) where
   pub worn_on : (capacity : ℕ) (before : List (Event T)) (e : Event T) → AnswersBy Word worn capacity before e → AnswersBy Word other capacity before e
   worn_on capacity before e answers_by = grind (arith, since_each)
 
+-- a history of a container says of itself what each one does
 pub sound_history : {T : Type 0} (code : Coding T) (capacity : ℕ) (events : List (Event T)) → IsHistory code kinds.Container capacity events
     → IsSound code capacity events
 sound_history code capacity events h =

@@ -38,7 +38,10 @@ module _ {T : Type 0} (code : Coding T) (base from : View T) (settled : SettledF
   takes_then capacity (ObstructionFree alone retry) w h =
       more_alone w.asked from.asked alone (w.others * retry) base.asked (to_settle base) h (settling settled)
 
+  -- w is what the pass knows after the call, e is its end, m its room then
   module _ {C M E : Type 0} (call : Calling T C M E) (w : View T) (e : E) (m : M) where
+    -- a call that has ended took at most what the model says of it, and one operation more if the
+    -- last call of the pass rested
     pub takes_so : AllowsOne (guarantee_of kinds.Container base.capacity code.size call.start) → Ends code kinds.Container call from e m w
         → TakesThen (guarantee_of kinds.Container base.capacity code.size call.start) base w
     takes_so least ends =
@@ -61,6 +64,7 @@ module _ {T : Type 0} (code : Coding T) (base w : View T) where
       with_mode : ReleaseMode → GiveBack
       with_mode mode = record { index = given.index; owner = given.owner; mode = mode }
 
+      -- of each mode: a remove took at most what the model says of it in this mode
       by : (mode : ReleaseMode) → given.mode ≡ mode → of given.mode
       by Default is =
           subst of (sym is)
@@ -82,6 +86,7 @@ module _ {T : Type 0} (code : Coding T) (base w : View T) where
   pub lock_takes : (b : Bool) → LockEnds code base b tt w → TakesFew 1 base w
   lock_takes b ends = takes_so code base ends.from ends.settled sees_lock w b tt (omega arith) ends.over
 
+  -- a recovery took at most what the model says of it
   pub recover_takes : (owner : ℕ) (mode : ReleaseMode) (state : ReleaseState) (m : Visiting T)
       → RecoverEnds code (record { owner = owner; mode = mode }) base state m w → RecoverTakes code.size base.capacity mode base w
   recover_takes owner Default state m ends =
@@ -89,6 +94,7 @@ module _ {T : Type 0} (code : Coding T) (base w : View T) where
   recover_takes owner LockIfLastIndex state m ends =
       takes_so code base ends.from ends.settled (recovering code (record { owner = owner; mode = LockIfLastIndex })) w state m (omega arith) ends.over
 
+  -- a look of a state took at most what the model says of it
   pub look_takes : (which : LookOf) (seen : Numbers) (changed : Bool) (m : Showing T)
       → RestedLooked code which base.capacity seen base changed m w → LookTakes code.size base.capacity base w
   look_takes which_looks.GetState seen changed m ends =

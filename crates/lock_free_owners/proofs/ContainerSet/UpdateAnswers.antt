@@ -23,6 +23,8 @@ module _ {T : Type 0} where
   abbrev MetSoFar : Trace T → Type 0
   MetSoFar t = IsReachedOpen t × (t.world.kind ≡ kinds.Container → Few t → CountsChanges t × Extra t)
 
+  -- what is so of the updates of an open run with few changes is so after a turn that is not
+  -- refused
   turn_met : (u : Trace T) (turn : Turn T) → open_refusal u.world turn ≡ None → MetSoFar u → MetSoFar (after_turn u turn)
   turn_met u turn free h = (
     reached_open_more u turn free h.0,
@@ -36,6 +38,8 @@ module _ {T : Type 0} where
         ),
   )
 
+  -- in each open run with few changes, an update that answered true met a change, and one that
+  -- answered false none
   pub meets_changes_open : (t : Trace T) → t.world.kind ≡ kinds.Container → IsReachedOpen t → Few t → Each MeetsChanges t.events
   meets_changes_open t is r few =
       ((kept_by open_refusal MetSoFar turn_met t (

@@ -67,6 +67,8 @@ module _ (mode : ReleaseMode) (base v : View ℕ) (idle : base.going ≡ None) w
       open_by : (index owner : ℕ) (first rest : List (Event ℕ)) → under.wrote ≡ first ++ Asked p index owner ∷ rest → shut ≡ false
       open_by index owner first rest is = asked_open p index owner under.wrote first rest [] under.since under.history is
 
+      -- of a recovery under way at each stage: it has visited these indices, and where it has
+      -- asked the set was not locked when it began
       go : (stage : RecoverStage) → RecoverIn base.capacity mode stage → VisitsAt base.capacity mode stage m
           → under.wrote ≡ wrote_by p m ++ wrote_now p stage → IsOpenAt base.capacity shut stage
       go recovers.LoadsCounter low at is = tt
@@ -88,6 +90,8 @@ module _ (mode : ReleaseMode) (base v : View ℕ) (idle : base.going ≡ None) w
   KnowsOn (GoOn d) visits = Knows base.capacity mode shut d.stage visits
   KnowsOn (Done e) visits = Unit {0}
 
+  -- of a recovery that hears an answer at a question: it has visited these indices, and where it
+  -- has asked the set was not locked when it began
   knows_heard : (c : Recovering) (stage : RecoverStage) (m : List Visit) (n : ℕ) → is_question (recover_asks stage) ≡ true
       → Knows base.capacity mode shut stage m → KnowsOn (recover_takes c stage mode n) (visits_taken stage m n)
   knows_heard c recovers.LoadsCounter m n due at = absurd (cc)
@@ -109,6 +113,8 @@ module _ (mode : ReleaseMode) (base v : View ℕ) (idle : base.going ≡ None) w
   first_stage : (c : Recovering) (m : List Visit) → IsFirst one_word kinds.Robust (recovers_owned mode) base v c m → recovers.LoadsCounter ≡ c.stage
   first_stage c m first = ap stage_in first.first
 
+  -- of a recovery between two turns: it has visited these indices, and where it has asked the set
+  -- was not locked when it began
   pub knows : (c : Recovering) (m : List Visit) → RecoverAt mode base v c m → Knows base.capacity mode shut c.stage m
   knows c m (inl (inl first)) =
       subst (λ stage. VisitsAt base.capacity mode stage m → Knows base.capacity mode shut stage m) (first_stage c m first) (λ at. (tt, at))

@@ -7,6 +7,8 @@ use Rattle.lock_free_owners.proofs.RobustSet.Facts.{taken, within, filled, grant
 
 module _ (base w : View ℕ) (idle : base.going ≡ None) where
   module _ (owner capacity : ℕ) (size : base.capacity ≡ capacity) where
+    -- an acquire that answers an index took it: it had no owner, was granted to this one, and lies
+    -- below the capacity
     pub acquire_done : (answer : Acquired) → Ends one_word kinds.Robust (takes_owned owner) base answer tt w
         → IfOk answer (λ index. AcquireDone capacity owner index base w)
     acquire_done (Err failure) ends = tt
@@ -18,6 +20,7 @@ module _ (base w : View ℕ) (idle : base.going ≡ None) where
           granted = granted base w tt idle owner (Ok index) ends;
         }
 
+  -- an acquire that was refused answers right of what it found
   pub acquire_refused : (owner : ℕ) (answer : Acquired) → Ends one_word kinds.Robust (takes_owned owner) base answer tt w
       → IfErr answer (λ failure. AcquireRefused owner failure base w)
   acquire_refused owner (Ok index) ends = tt
@@ -28,6 +31,7 @@ module _ (base w : View ℕ) (idle : base.going ≡ None) where
       }
 
   module _ (index owner : ℕ) (mode : ReleaseMode) where
+    -- a release that answers a state has freed its index, and answers right
     pub release_done : (answer : Released) → Ends one_word kinds.Robust (gives_owned (given_of base w tt idle index owner mode)) base answer tt w
         → IfOk answer (λ state. ReleaseDone index owner mode state base w)
     release_done (Err failure) ends = tt
@@ -39,6 +43,7 @@ module _ (base w : View ℕ) (idle : base.going ≡ None) where
           released = released base w tt idle index owner mode (Ok state) ends;
         }
 
+    -- a release that was refused answers right of what it found
     pub release_refused : (answer : Released) → Ends one_word kinds.Robust (gives_owned (given_of base w tt idle index owner mode)) base answer tt w
         → IfErr answer (λ failure. ReleaseRefused index owner mode failure base w)
     release_refused (Ok state) ends = tt

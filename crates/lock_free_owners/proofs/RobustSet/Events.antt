@@ -39,6 +39,8 @@ module _ {T : Type 0} (p : ℕ) (start : Start T) (since : List (Event T)) where
   none_begun (Begun q other ∷ before) h = none_begun before h.1
   none_begun (e ∷ before) h = none_begun before h
 
+  -- a moment of a call behind which its party begins no call comes after all that stood before the
+  -- call's begin
   pub covers : (before part rest : List (Event T)) → before ++ Begun p start ∷ since ≡ part ++ rest → BeginsNone p rest → IsBeginning before part
   covers [] part rest is none = record { rest = part; is = refl }
   covers (e ∷ before) [] rest is none = absurd (none_begun (e ∷ before) (subst (BeginsNone p) (sym is) none))

@@ -98,6 +98,7 @@ module _ {C M E : Type 0} (call : Calling ℕ C M E) where
   one_aside : (base w : View ℕ) → (w.aside ≡ base.aside) ⊎ (w.aside ≡ base.aside + 1) → w.aside ≤ base.aside + 1
   one_aside base w x = ⊎_elim (λ (same : w.aside ≡ base.aside). omega arith) (λ (more : w.aside ≡ base.aside + 1). omega arith) x
 
+-- a pass of the same set after a call that has ended is what each call leaves of a pass
 pub same_pass : {C M E : Type 0} {call : Calling ℕ C M E} {old new : Pass} {e : E} {m : M} → set_of new ≡ set_of old
     → Ends one_word kinds.Robust call (view old) e m (view new) → SamePass old new
 same_pass {call = call} {old = old} {new = new} {e = e} {m = m} set ends =
@@ -119,6 +120,7 @@ module _ (base w : View ℕ) (m : Unit {0}) (idle : base.going ≡ None) where
     taken_answered answer ends =
         (let t = taken answer ends in answered_by base w ends.history t.by (Acquire owner) (acquire_answer answer) t.wrote t.called)
 
+    -- an index that an acquire answers was filled for its owner by this call, where it had none
     pub filled : (answer : Acquired) → Ends one_word kinds.Robust (takes_owned owner) base answer m w → IfOk answer (λ index. WasFilled index owner base w)
     filled (Err e) ends = tt
     filled (Ok index) ends =
@@ -127,6 +129,7 @@ module _ (base w : View ℕ) (m : Unit {0}) (idle : base.going ≡ None) where
         (Granted t.by index owner ∷ []) t.tells.1 _
         (λ before after is. (let does_it = (sound base w ends.history).does before after (Filled t.by index owner) is in (does_it.0, does_it.1, does_it.3)))
 
+    -- an index that an acquire answers was granted to its owner by this call
     granted_so : (index : ℕ) → Ends one_word kinds.Robust (takes_owned owner) base (Ok index) m w → WasGranted index owner base w
     granted_so index ends =
         let t = taken (Ok index) ends in
@@ -145,6 +148,7 @@ module _ (base w : View ℕ) (m : Unit {0}) (idle : base.going ≡ None) where
         → IfOk answer (λ index. index < capacity)
     within answer ends capacity same_capacity = grind (arith, taken)
 
+    -- an acquire that was refused found the set locked, or each index with an owner
     refused_so : (e : UniqueIndexSetAcquireFailure) → Ends one_word kinds.Robust (takes_owned owner) base (Err e) m w → WasRefused owner e base w
     refused_so OutOfIndices ends =
         let a = taken_answered (Err OutOfIndices) ends in
@@ -180,6 +184,7 @@ module _ (base w : View ℕ) (m : Unit {0}) (idle : base.going ≡ None) where
     given_answered mode answer ends =
         (let t = given mode answer ends in answered_by base w ends.history t.by (Release index owner mode) (release_answer answer) t.wrote t.called)
 
+    -- the answer of a release says what is right of a release
     pub given_right : (mode : ReleaseMode) (answer : Released) → Ends one_word kinds.Robust (gives_owned (given_of mode)) base answer m w
         → IsRightRelease index owner mode answer base w
     given_right Default (Err e) ends = given_answered Default (Err e) ends
@@ -189,6 +194,7 @@ module _ (base w : View ℕ) (m : Unit {0}) (idle : base.going ≡ None) where
     given_right Default (Ok states.Unlocked) ends = given_answered Default (Ok states.Unlocked) ends
     given_right LockIfLastIndex (Ok states.Unlocked) ends = given_answered LockIfLastIndex (Ok states.Unlocked) ends
 
+    -- a release whose first event frees its index freed it in this call
     freed_so : (mode : ReleaseMode) (state : ReleaseState) (rest : List (Event ℕ)) → (ends : Ends one_word kinds.Robust (gives_owned (given_of mode)) base
         (Ok state) m w)
         → (given mode (Ok state) ends).wrote ≡ FreedOf (given mode (Ok state) ends).by index owner ∷ rest → WasFreed index owner base w
@@ -197,6 +203,7 @@ module _ (base w : View ℕ) (m : Unit {0}) (idle : base.going ≡ None) where
         wrote_at base w ends.history t.by (Release index owner mode) (release_answer (Ok state)) t.wrote t.called (λ by. FreedOf by index owner) [] rest is _
         (λ before after at. ((sound base w ends.history).does before after (FreedOf t.by index owner) at).0)
 
+    -- a release that answers a state has freed its index
     pub freed : (mode : ReleaseMode) (answer : Released) → Ends one_word kinds.Robust (gives_owned (given_of mode)) base answer m w
         → OnOk answer (WasFreed index owner base w)
     freed mode (Err e) ends = tt
@@ -204,6 +211,8 @@ module _ (base w : View ℕ) (m : Unit {0}) (idle : base.going ≡ None) where
     freed mode (Ok states.Locked) ends =
         ⊎_elim (λ is. freed_so mode states.Locked _ ends is) (λ is. freed_so mode states.Locked _ ends is) (given mode (Ok states.Locked) ends).tells.1
 
+    -- a release that answers Locked is in the mode that locks, and has seen the lock; one that
+    -- answers Unlocked in that mode began before the lock was seen
     released_so : (mode : ReleaseMode) (state : ReleaseState) → Ends one_word kinds.Robust (gives_owned (given_of mode)) base (Ok state) m w
         → HasReleased state mode base w
     released_so LockIfLastIndex states.Locked ends =
@@ -250,6 +259,8 @@ module _ (base w : View ℕ) (idle : base.going ≡ None) (mode : ReleaseMode) (
   recover_called : Called ends.party (Robust (Recover mode)) (State state) (wrote_by ends.party visits) base w
   recover_called = grind (arith, called, one_word, recovers_owned)
 
+  -- a recovery that has ended came to these visits, was told what its closures say of them, and
+  -- wrote just that
   pub recovered : {F S : Type 0} (step : F → ℕ → ℕ → Bool → F → Type 0) (tell : S → ℕ → ℕ → S → Type 0) (f q : F) (s y : S)
       → HasVisited step tell f s visits q y → HasRecovered step tell mode state f s q y base w
   recovered step tell f q s y visited =
@@ -271,6 +282,8 @@ pub recovered_answered : (base w : View ℕ) (idle : base.going ≡ None) (mode 
 recovered_answered base w idle mode states.Locked visits ends = recovered_by base w idle mode states.Locked visits ends
 recovered_answered base w idle mode states.Unlocked visits ends = recovered_by base w idle mode states.Unlocked visits ends
 
+-- a recovery that answers Locked has seen the lock, and one that answers Unlocked began before the
+-- lock was seen
 pub recovered_lock : (base w : View ℕ) (idle : base.going ≡ None) (mode : ReleaseMode) (state : ReleaseState) (visits : List Visit)
     → Ends one_word kinds.Robust (recovers_owned mode) base state visits w → FoundState state base w
 recovered_lock base w idle mode states.Locked visits ends =
@@ -280,6 +293,8 @@ recovered_lock base w idle mode states.Unlocked visits ends =
 
 -- ---- find
 
+-- a look leaves the capacity, the party, the call, the share and what was made, and goes on from
+-- what was seen
 pub only_looked : (capacity : ℕ) (v w : View ℕ) → Looks one_word kinds.Robust capacity v w → OnlyLooked v w
 only_looked capacity v w h =
     record {
@@ -318,6 +333,7 @@ looks_after capacity base v w first looks =
 
 -- ---- how many operations they take
 
+-- base and w are what the pass knew before the call and after it, e is its end, m its room then
 module _ {C M E : Type 0} (call : Calling ℕ C M E) (base w : View ℕ) (e : E) (m : M) (idle : base.going ≡ None) where
   takes_so : AllowsOne (guarantee_of kinds.Robust base.capacity one_word.size call.start) → Ends one_word kinds.Robust call base e m w
       → TakesBy one_word kinds.Robust base.capacity (guarantee_of kinds.Robust base.capacity one_word.size call.start) base w
@@ -328,6 +344,7 @@ module _ (base w : View ℕ) (idle : base.going ≡ None) where
       → TakesAlone (base.capacity + 3) (base.capacity + 1) base w
   acquire_takes owner e m ends = takes_so (takes_owned owner) base w e m idle (omega arith) ends
 
+  -- a release takes at most what the model says of it in its mode
   pub release_takes : (index owner : ℕ) (mode : ReleaseMode) (e : Released) (m : Unit {0})
       → Ends one_word kinds.Robust (gives_owned (record { index = index; owner = owner; mode = mode })) base e m w → ReleaseTakes base.capacity mode base w
   release_takes index owner Default e m ends =

@@ -61,7 +61,11 @@ module _ {F : Type 0} (step : F → ℕ → CallbackProgression → F → Type 0
   came_none : Came 0 0 base.seen f
   came_none = grind (arith, owned_none)
 
+  -- the find has come past the indices below low with n calls of its closure, p after them, by the
+  -- history es
   module _ (low n : ℕ) (es : List (Event ℕ)) (p : F) (h : Came low n es p) where
+    -- what a find has come past by one history, it has come past by each history that goes on from
+    -- it
     came_later : (later : List (Event ℕ)) → IsBeginning es later → Came low n later p
     came_later later on =
         record {
@@ -75,6 +79,7 @@ module _ {F : Type 0} (step : F → ℕ → CallbackProgression → F → Type 0
         }
 
     module _ (on : IsBeginning base.seen es) where
+      -- the find comes past an index that is not the owner's, with no further call of its closure
       came_past : filled_of low es ≢ Some owner → Came (low + 1) n es p
       came_past has_not =
           record {
@@ -87,6 +92,8 @@ module _ {F : Type 0} (step : F → ℕ → CallbackProgression → F → Type 0
             owned = owned_past owner base.seen low h.indices es on h.owned has_not;
           }
 
+      -- the find comes past an index that is the owner's with one more call of its closure, which
+      -- was answered to go on
       came_more : (q : F) → low < cap → filled_of low es ≡ Some owner → step p low Continue q → Came (low + 1) (n + 1) es q
       came_more q within has hit =
           let longer = length-append h.indices (low ∷ []) in
@@ -101,6 +108,8 @@ module _ {F : Type 0} (step : F → ℕ → CallbackProgression → F → Type 0
             owned = owned_more owner base.seen low h.indices es on h.owned has;
           }
 
+      -- with an answer to stop at an index that is the owner's, the find has found what it has
+      -- counted with this index
       found_last : (found : ℕ) (q : F) → low < cap → n + 1 ≡ found → filled_of low es ≡ Some owner → step p low Stop q
           → HasFound step cap owner f found q base.seen es
       found_last found q within more has hit =
@@ -142,6 +151,8 @@ module _ {F : Type 0} (step : F → ℕ → CallbackProgression → F → Type 0
       few_now : TakesAtMost (index + 1) base w
       few_now = (let before = few in let one = counted in omega arith)
 
+      -- after the load of a cell the find is about to ask about its index, if the cell has the
+      -- owner, and else it comes past it
       pub loaded : On (find_takes c (finds.LoadsCell index found) owner k) w p
       loaded =
           let known = looks.looks.capacity ∙ h.known in
@@ -159,6 +170,8 @@ module _ {F : Type 0} (step : F → ℕ → CallbackProgression → F → Type 0
           (λ ne. comes w c (index + 1) found p looked_then known some h.standing (omega arith) few_now
           (came_past index found w.seen p came_there looked_then.mine (tells_other one_word cap index k at.0 v w looks owner ne)))
 
+    -- with the closure's answer about an index the find comes past it, or ends with what it has
+    -- found
     pub heard : (index found : ℕ) (answer : CallbackProgression) (q : F) → SoFar (finds.Asks index found) v p → TakesAtMost (index + 1) base v
         → step p index answer q → On (find_takes c (finds.Asks index found) owner (says answer)) v q
     heard index found Continue q at few hit =
@@ -168,7 +181,11 @@ module _ {F : Type 0} (step : F → ℕ → CallbackProgression → F → Type 0
         (subst (λ n. Came (index + 1) n v.seen q) asked.1 (came_more index asked.0 v.seen p asked.2 at.1.mine q at.0 at.2 hit))
     heard index found Stop q at few hit =
         let low = at.0 in
-        (at.1, found_last index at.3.0 v.seen p at.3.2 at.1.mine found q at.0 at.3.1 at.2 hit, (let most = few in omega arith))
+        record {
+          looked = at.1;
+          found = found_last index at.3.0 v.seen p at.3.2 at.1.mine found q at.0 at.3.1 at.2 hit;
+          steps = (let most = few in omega arith);
+        }
 
   pub starts : (c : Find) → c ≡ first_find cap → base.capacity ≡ cap → 0 < base.share.part → 0 < cap → Search base c f
   starts c c_is capacity_is_cap part_positive cap_positive = grind (arith, came_none)

@@ -5,6 +5,7 @@ use Rattle.model.specs.declared.turn.Kind.TheVariants as kinds
 use Rattle.history.proofs.Calls.{get_left}
 use Rattle.history.proofs.PassLooks.{looks_at}
 
+-- the load of any word keeps the rule of the table, and tells what a look at this word tells
 pub owes_word : (capacity words slots id word : ℕ) (v : View ℕ) → word < words → 0 < v.share.part
     → OwesAsk (λ (z : View ℕ). z.asked) (IsMachine one_word kinds.Robust capacity) words slots id
     (λ u n w. LooksAt one_word kinds.Robust capacity word u n w) word Load (v, [])

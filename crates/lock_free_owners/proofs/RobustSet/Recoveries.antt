@@ -48,6 +48,8 @@ module _ {F S : Type 0} (step : F → ℕ → ℕ → Bool → F → Type 0) (te
     abbrev then : List Visit
     then = visits_after call so.0 k
 
+    -- a step leaves the recovery where it goes on, or ends it, with its visits and what its
+    -- closures were called with
     now_at : (a : After Recovering ReleaseState) → after ≡ a → Next (λ (z : View ℕ). z.capacity) (RecoverAt mode) (RecoverEnds mode) base a then w
         × Onward step tell cap shut f s a then q y
     now_at a is = (
@@ -109,6 +111,7 @@ module _ {F S : Type 0} (step : F → ℕ → ℕ → Bool → F → Type 0) (te
     pub leads_end : (state : ReleaseState) → after ≡ Done state → Ended w state q x
     leads_end state is = subst (λ a. LedTo step tell cap mode base f s w a q x) is led
 
+  -- where the recovery asks, its closure may be asked about each index that it comes to
   pub may_ask_on : {pre : F → ℕ → ℕ → Type 0} (v : View ℕ) (call : Recovering) (p : F) (x : S)
       → (shut ≡ false → TakesQuestions pre step cap f) → Stands v call p x → MayAsk step tell pre mode v call p
   may_ask_on {pre} v call p x takes so =
@@ -155,6 +158,7 @@ module _ (capacity cell found : ℕ) (mode : ReleaseMode) where
   pub finds_none : found ≡ empty → recover_after (passes capacity cell) mode found ≡ recover_comes_to (passes capacity cell) (cell + 1)
   finds_none e = ap (recover_after (passes capacity cell) mode) e
 
+  -- a cell with an owner leads to the question about him
   pub finds_owner : found ≢ empty → recover_after (passes capacity cell) mode found ≡ GoOn (asks_at capacity cell found)
   finds_owner some =
       by_eq (λ a. a ≡ GoOn (asks_at capacity cell found)) found empty (recover_comes_to (passes capacity cell) (cell + 1))
@@ -166,6 +170,8 @@ pub record Heard {F : Type 0} (step : F → ℕ → ℕ → Bool → F → Type 
   pub asked : found < empty → (yes : Bool) × step p found cell yes q × (answer ≡ number_of yes)
   pub passed : found ≡ empty → (answer ≡ 0) × (q ≡ p)
 
+-- the recovery began at base with the closures f and s, and stands at a cell at v with p and x;
+-- found is what the cell had, w what the pass knows then
 module _ {F S : Type 0} (step : F → ℕ → ℕ → Bool → F → Type 0) (tell : S → ℕ → ℕ → S → Type 0) (mode : ReleaseMode) (base : View ℕ)
     (idle : base.going ≡ None) (f : F) (s : S) (v w : View ℕ) (capacity cell found : ℕ)
     (goes : RecoverGoes mode v (passes capacity cell) (λ visits. visits) (recover_after (passes capacity cell) mode found) w)

@@ -1,5 +1,5 @@
 -- Between two turns of a call: how it has gone on, and where the loops of its own lead.
-use Rattle.lock_free_owners.proofs.Names.{◌≡◌, ℕ, ◌+◌, ◌<◌, ◌==◌, nat_lt, if◌then◌else◌, arith}
+use Rattle.lock_free_owners.proofs.Names.{◌≡◌, ◌∙◌, ℕ, ◌+◌, ◌<◌, ◌==◌, nat_lt, if◌then◌else◌, arith}
 use Rattle.lock_free_owners.proofs.Names.{nat_tests, at_acquire, acquire_tries, acquire_after}
 use Rattle.lock_free_owners.proofs.Names.{borrowed_counted, borrowed_after, empty, greatest, count_comes_to, by_test}
 use Rattle.lock_free_owners.proofs.Names.{After, GoOn, Done, View}
@@ -12,7 +12,8 @@ use Rattle.steps.specs.declared.indices.robust.parts.Count.TheVariants as counts
 use Rattle.steps.specs.declared.indices.robust.parts.Counted.{Counted}
 use Rattle.steps.specs.declared.indices.robust.recover.Recover.{Recover}
 use Rattle.steps.specs.declared.indices.robust.recover.RecoverStage.TheVariants as recovers
-use Rattle.lock_free_owners.specs.Robust.Turns.{Goes}
+use Rattle.threaded.specs.declared.driver.seated.Seated.{Seated}
+use Rattle.lock_free_owners.specs.Robust.Turns.{Goes, StaysAtBoard}
 
 module _ {T C E : Type 0} (at : View T → View T → C → Unit {0} → Type 0) (ends : View T → E → Unit {0} → View T → Type 0) where
   pub gone_on : (base v w : View T) (c d : C) (a : After C E) → Goes at ends v c a w → a ≡ GoOn d → at base v c tt → at base w d tt
@@ -20,6 +21,11 @@ module _ {T C E : Type 0} (at : View T → View T → C → Unit {0} → Type 0)
 
   pub has_ended : (base v w : View T) (c : C) (e : E) (a : After C E) → Goes at ends v c a w → a ≡ Done e → at base v c tt → ends base e tt w
   has_ended base v w c e a goes a_is at_holds = grind arith
+
+-- steps, and then further ones, leave a seat at its table
+pub stays_then : {Q : Type 0} {s t u : Seated (View ℕ) ℕ Q} → StaysAtBoard s t → StaysAtBoard t u → StaysAtBoard s u
+stays_then first next =
+    record { same = (next.same.0 ∙ first.same.0, next.same.1 ∙ first.same.1, next.same.2 ∙ first.same.2); board = next.board }
 
 -- ---- an exchange of a cell leads to the next cell, or to no cell
 

@@ -40,6 +40,7 @@ late_by_mode : (mode : ReleaseMode) (n : ℕ) → locks_in mode ≡ false → la
 late_by_mode Default n e = refl
 late_by_mode LockIfLastIndex n e = absurd (cc)
 
+-- a call of a robust set that may not lock is not late
 robust_not_late : (n : ℕ) (flight : RobustFlight) → robust_locks flight ≡ false → robust_late n flight ≡ 0
 robust_not_late n (robust_calls.Release run) e = late_by_mode run.given.mode (release_late n run.call.stage) e
 robust_not_late n (robust_calls.Recover run) e = late_by_mode run.given (recover_late n run.call.stage) e
@@ -64,6 +65,7 @@ container_recover_late_most : (n : ℕ) (stage : RecoverStage) → container.rec
 container_recover_late_most n (container_recovers.Locks index lock) = lock_late_most n lock
 container_recover_late_most n stage = omega arith
 
+-- a call of a robust set is late by 1 at most
 robust_late_once : (n : ℕ) (flight : RobustFlight) → robust_late n flight ≤ 1
 robust_late_once n (robust_calls.Release run) =
     let most = release_late_most n run.call.stage in let less = late_in_most run.given.mode (release_late n run.call.stage) in omega arith
@@ -101,6 +103,7 @@ module _ {T : Type 0} where
   locks_of None = false
   locks_of (Some flight) = locks flight
 
+  -- a call of a container that may not lock is not late
   container_not_late : (n : ℕ) (flight : ContainerFlight T) → container_locks flight ≡ false → container_late n flight ≡ 0
   container_not_late n (container_calls.Remove run) e = late_by_mode run.given.mode (remove_late n run.call.stage) e
   container_not_late n (container_calls.Recover run) e = late_by_mode run.given.mode (container.recover_late n run.call.stage) e
@@ -120,6 +123,7 @@ module _ {T : Type 0} where
   none_late n None e = refl
   none_late n (Some flight) e = not_late n flight e
 
+  -- a call of a container is late by 1 at most
   container_late_once : (n : ℕ) (flight : ContainerFlight T) → container_late n flight ≤ 1
   container_late_once n (container_calls.Remove run) =
       let most = remove_late_most n run.call.stage in let less = late_in_most run.given.mode (remove_late n run.call.stage) in omega arith
@@ -156,11 +160,14 @@ module _ {T : Type 0} where
     pub beyond : (q : ℕ) → seats ≤ q → flight_in t.world q ≡ None
     pub alone : (q r : ℕ) → locks_at t q ≡ true → locks_at t r ≡ true → q ≡ r
     pub fits : counter t ≢ locked → counter t + sum_below (credit_at t) seats ≤ 3 * changes t.events
+    -- what bounds the counter also bounds it with what any one call is late by
     pub late : counter t ≢ locked → (q : ℕ)
         → counter t + sum_below (credit_at t) seats + late_of (counter t) (flight_in t.world q) ≤ 3 * changes t.events
 
   -- ---- a turn of a party
 
+  -- a turn of party p that writes es: unless the counter is locked then, what it adds to the
+  -- counter and leaves to be added is paid for by its changes
   pub record Owes (old new : Trace T) (p : ℕ) (es : List (Event T)) : Type 0 where
     pub wide : length new.world.words ≡ length old.world.words
     pub events : new.events ≡ old.events ++ es
@@ -178,6 +185,8 @@ module _ {T : Type 0} where
   ends_none p start None = refl
   ends_none p start (Some answer) = refl
 
+  -- the turn of party p leads from old to new, and writes es; before and after are the credits of
+  -- all calls together
   module _ (old new : Trace T) (p : ℕ) (es : List (Event T)) (owes : Owes old new p es) (b : Bounded old) where
     abbrev seats : ℕ
     seats = b.seats + (p + 1)
@@ -200,6 +209,8 @@ module _ {T : Type 0} where
     all_changes : changes new.events ≡ changes old.events + changes es
     all_changes = ap changes owes.events ∙ changes_more old.events es
 
+    -- after the turn, the counter, with what all calls have and what its party is late by, is
+    -- within three for each change
     here : counter new ≢ locked → counter new + after + late_of (counter new) (flight_in new.world p) ≤ 3 * changes new.events
     here open_now =
         let was = b.late (owes.opens open_now) p in
@@ -212,12 +223,16 @@ module _ {T : Type 0} where
     there : (q : ℕ) → q ≢ p → counter new ≢ locked → counter new + after + late_of (counter new) (flight_in old.world q) ≤ 3 * changes new.events
     there q ne open_now = by (locks_at old q) refl (locks_at old p) refl
       where
+        -- of a call of another party: it is not late, or this one may not lock, since at most one
+        -- may
         by : (m : Bool) → locks_at old q ≡ m → (k : Bool) → locks_at old p ≡ k
             → counter new + after + late_of (counter new) (flight_in old.world q) ≤ 3 * changes new.events
         by false m k e = let none = none_late (counter new) (flight_in old.world q) m in let own = here open_now in omega arith
         by true m true k = absurd (ne (b.alone q p m k))
         by true m false k = stays (counter new == counter old) refl
           where
+            -- of a call of another party that may lock: it is late as it was where the counter
+            -- stayed, and by 1 at most where it moved
             stays : (t : Bool) → (counter new == counter old) ≡ t
                 → counter new + after + late_of (counter new) (flight_in old.world q) ≤ 3 * changes new.events
             stays true t =
@@ -274,6 +289,7 @@ module _ {T : Type 0} where
     beyond : (q : ℕ) → seats ≤ q → flight_in new.world q ≡ None
     beyond q far = owes.others q (λ e. absurd (omega arith)) ∙ b.beyond q (omega arith)
 
+    -- the bounds hold after a turn that pays for what it adds
     pub bounded_on : Bounded new
     bounded_on =
         record {

@@ -40,6 +40,7 @@ use Rattle.lock_free_owners.proofs.Worn.ContainerPays.{recover_same, looks_same,
 -- ---- a lock alone is late
 
 module _ (n : ℕ) where
+  -- a remove is late only in the mode that locks
   pub remove_late_in : (mode : ReleaseMode) (stage : RemoveStage) → RemoveStands mode stage → remove_late n stage ≤ late_in mode (remove_late n stage)
   remove_late_in mode (removes.Releases count stage) stands = release_late_in n mode stage stands
   remove_late_in mode removes.Refuses stands = omega arith
@@ -47,6 +48,7 @@ module _ (n : ℕ) where
   remove_late_in mode (removes.Hides count state) stands = omega arith
   remove_late_in mode (removes.AddsChange state) stands = omega arith
 
+  -- a recovery is late only in the mode that locks
   pub recover_late_in : (mode : ReleaseMode) (stage : RecoverStage) → RecoverStands mode stage
       → recover_late n stage ≤ late_in mode (recover_late n stage)
   recover_late_in LockIfLastIndex stage stands = omega arith
@@ -84,6 +86,7 @@ module _ {T : Type 0} (code : Coding T) (state : Option (ContainerState T)) wher
       new + container_left new (after code state flight (container_old flight n cell)) + counts_move (container_locks flight) n new
       ≤ n + (container_credit flight + container_late n flight) + 3 * changes (effects code p state flight (container_old flight n cell))
 
+  -- each step of a call of a container keeps to what the call can still add, unless it locks
   pub container_pays : (n new p cell : ℕ) (flight : ContainerFlight T) → ContainerStands flight → new ≡ container_then flight n → new ≢ locked
       → ContainerPays n new p cell flight
   container_pays n new p cell (Add run) stands is open_then =

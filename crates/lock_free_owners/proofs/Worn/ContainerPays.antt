@@ -110,12 +110,15 @@ module _ {T : Type 0} where
   acquired_same call (Done (Ok index)) = refl
   acquired_same call (Done (Err failure)) = refl
 
+  -- n is the counter before the step, new the counter after it, cell what another word had, p the
+  -- party
   module _ (size : ℕ) (call : adding.Add T) (n new p cell : ℕ) (given : Owned T) where
     abbrev AddPays : AddStage → Type 0
     AddPays stage =
         new + add_left (add_takes size call stage (add_old stage n cell)) + counts_move false n new
         ≤ n + add_credit stage + 3 * changes {T = T} (add_effects p given stage (add_old stage n cell))
 
+    -- each step of an add keeps to what it can still add
     pub add_pays : (stage : AddStage) → new ≡ add_then stage n → AddPays stage
     add_pays (adds.Acquires stage) is =
         let pays = acquire_pays (inner_acquire call.capacity stage) n new T p given.owner cell stage is in
@@ -123,6 +126,8 @@ module _ {T : Type 0} where
         omega arith
     add_pays (adds.LoadsCount index) is = go (is_even cell) refl
       where
+        -- the load of an element's number keeps to what the add can still add, whether the number
+        -- is even or odd
         go : (t : Bool) → is_even cell ≡ t → AddPays (adds.LoadsCount index)
         go true t = let still = moved_none n new is in rw t (omega arith)
         go false t = let still = moved_none n new is in rw t (omega arith)
@@ -151,12 +156,15 @@ released_same call mode new count (Done (Ok state)) = go (is_even count) refl
     go false t = rw t refl
 released_same call mode new count (Done (Err failure)) = refl
 
+-- n is the counter before the step, new the counter after it, cell what another word had, p the
+-- party
 module _ (T : Type 0) (call : removing.Remove) (n new p cell : ℕ) (given : GiveBack) where
   abbrev RemovePays : RemoveStage → Type 0
   RemovePays stage =
       new + remove_left given.mode new (remove_takes call stage given (remove_old stage n cell)) + counts_move (locks_in given.mode) n new
       ≤ n + (remove_credit given.mode stage + remove_late n stage) + 3 * changes {T = T} (remove_effects p given stage (remove_old stage n cell))
 
+  -- each step of a remove keeps to what it can still add, unless it locks
   pub remove_pays : (stage : RemoveStage) → RemoveStands given.mode stage → new ≡ remove_then stage n → new ≢ locked → RemovePays stage
   remove_pays removes.Refuses stands is open_then = let still = counts_none (locks_in given.mode) n new is in omega arith
   remove_pays removes.LoadsCount stands is open_then = let still = counts_none (locks_in given.mode) n new is in omega arith
@@ -195,6 +203,8 @@ module _ {T : Type 0} where
     abbrev RecoverLeaves : ReleaseMode → ℕ → After (Recovering T) ReleaseState → Type 0
     RecoverLeaves mode credit a = new + recover_left mode new a + counts_move (locks_in mode) n new ≤ n + credit
 
+    -- a raise of the counter because of a freed index keeps to what the change is good for in its
+    -- mode
     recover_raises : (mode : ReleaseMode) (index : ℕ) (a : After raises.Raise ReleaseState) → RaiseMoves n new a
         → RecoverLeaves mode (for_mode mode) (recover_raised call index mode a)
     recover_raises Default index (GoOn next) m = let none = moved_none n new m in omega arith
@@ -225,6 +235,8 @@ module _ {T : Type 0} where
           go false t = let still = counts_none (locks_in given.mode) n new is in let none = comes_none given.mode 0 in rw t (omega arith)
       recover_pays (recovers.LoadsCell index) stands is open_then = go (cell == given.owner) refl
         where
+          -- the load of a cell keeps to what the recovery can still add, whether it finds the
+          -- owner or not
           go : (t : Bool) → (cell == given.owner) ≡ t → RecoverPays (recovers.LoadsCell index)
           go true t = let still = counts_none (locks_in given.mode) n new is in rw t (omega arith)
           go false t = let still = counts_none (locks_in given.mode) n new is in let none = comes_none given.mode (index + 1) in rw t (omega arith)
@@ -247,6 +259,8 @@ module _ {T : Type 0} where
           go false t = let still = counts_none (locks_in given.mode) n new is in rw t (omega arith)
       recover_pays (recovers.EmptiesCell index count) stands is open_then = go (cell == given.owner) refl (is_even count) refl
         where
+          -- the exchange that empties a cell keeps to what the recovery can still add, whether it
+          -- finds the owner or not, and whether the number is even or odd
           go : (t : Bool) → (cell == given.owner) ≡ t → (u : Bool) → is_even count ≡ u → RecoverPays (recovers.EmptiesCell index count)
           go true t true u =
               let still = counts_none (locks_in given.mode) n new is in let most = for_mode_most given.mode in rw (t, u) (omega arith)
@@ -266,6 +280,8 @@ module _ {T : Type 0} where
 -- ---- any call
 
 module _ {T : Type 0} where
+  -- what changes so far have paid for, and a call of a container, or a lock because of it, may
+  -- still add
   abbrev pub container_credit : ContainerFlight T → ℕ
   container_credit (Add run) = add_credit run.call.stage
   container_credit (Remove run) = remove_credit run.given.mode run.call.stage
@@ -346,6 +362,7 @@ module _ (T : Type 0) where
   count_mode which given room call (Done ends.Locked) = tt
   count_mode which given room call (Done (ends.Filled filled counter)) = tt
 
+  -- a count for a length or a test adds no more than the two that it may still add
   pub count_same : (n new : ℕ) (which : CountOf) (given room : Unit {0}) (call : counting.BorrowedIndices) (a : After counts.Count Counted)
       → CountMoves n new a → new + container_left new (count_as which given room call a) + counts_move false n new ≤ n + 2
   count_same n new which given room call (GoOn count) m = let none = moved_none n new m in omega arith

@@ -100,6 +100,8 @@ module _ {T : Type 0} (code : Coding T) where
     abbrev Paid : ℕ → Type 0
     Paid answer = PaysBy words (flights.Container flight) ask (any_step p flight answer dead states)
 
+    -- a step that found this keeps to what its call can still add, and goes on as a call that may
+    -- lock just if it is one
     paid_there : (cell : ℕ) → Paid (container_old flight (counter_of words) cell)
     paid_there cell =
         record {
@@ -124,6 +126,8 @@ module _ {T : Type 0} (code : Coding T) where
 module _ {T : Type 0} where
   -- ---- a begin
 
+  -- as it begins, a call has no more credit than its begin is good for, and may lock only if its
+  -- name says so
   begins_so : (n c p : ℕ) (start : ContainerStart T) → BeginPays n p (Container start) (flights.Container (first c start))
   begins_so n c p (starts.Add value owner) = record { pays = omega arith; mode = λ e. absurd (cc) }
   begins_so n c p (starts.Remove index owner Default) =
@@ -179,6 +183,7 @@ module _ {T : Type 0} (code : Coding T) (c : ℕ) where
     owners : t.world.kept ≡ Kept
     owners = s.fit.kept
 
+    -- the step of a call that stands where it may keeps to what the call can still add
     pays_in : (p : ℕ) (all : List SetAct) (done : List (Act T)) (start : Start T) (flight : Flight T)
         → FlightAt c code.size all done start flight → 0 < length ws
         → PaysIn code p (ask_of (want_of code flight)) (old_of ws (ask_of (want_of code flight))) Kept start flight
@@ -187,6 +192,7 @@ module _ {T : Type 0} (code : Coding T) (c : ℕ) where
         (container_leaves code ws some flight) (old_of ws (ask_of (want code flight))) (container_finds code ws flight)
     pays_in p all done start flight at some = absurd at
 
+    -- an answer that a call hears keeps to what the call can still add
     decides_in : (p answer : ℕ) (all : List SetAct) (done : List (Act T)) (start : Start T) (flight : Flight T) → FlightAt c code.size all done start flight
         → is_question (want_of code flight) ≡ true → PaysIn code p None answer Kept start flight
     decides_in p answer all done (Container start) (flights.Container flight) at due =
@@ -211,6 +217,7 @@ module _ {T : Type 0} (code : Coding T) (c : ℕ) where
             ap is_locking there.span ∙ locks_in_span (set_acts_of q s.state.events) (acts_of q s.state.events) x.start flight there.at e
         go (Over others) d e = absurd (cc)
 
+    -- what each turn of an open run of a container owes is so
     pub facts : Facts t
     facts =
         record {
@@ -237,6 +244,7 @@ module _ {T : Type 0} (code : Coding T) (c : ℕ) where
 -- ---- any run
 
 module _ {T : Type 0} where
+  -- a container opens as a sound trace of its machine
   pub opens_so : (t : Trace T) → t.world.kind ≡ kinds.Container → IsReachedOpen t
       → Sound t.world.coding t.world.capacity (opening t.world.coding t.world.kind t.world.capacity t.world.parties)
   opens_so t is r =
@@ -245,6 +253,7 @@ module _ {T : Type 0} where
       subst (λ kind. Sound w.coding w.capacity (opening w.coding kind w.capacity w.parties))
       (sym is) (opening_sound shown (terms w.coding w.capacity) w.coding w.capacity w.parties r.coded may.0 may.1)
 
+  -- a container opens with its counter bounded
   pub opens_bounded : (t : Trace T) → t.world.kind ≡ kinds.Container
       → Bounded (opening t.world.coding t.world.kind t.world.capacity t.world.parties)
   opens_bounded t is =

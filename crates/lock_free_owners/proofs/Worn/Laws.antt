@@ -24,6 +24,7 @@ worn_container code capacity events h apart =
 
 -- where no call that may lock was begun, none overlap
 module _ {T : Type 0} where
+  -- where no call that may lock was begun, no two of them overlap
   pub none_overlap : (events : List (Event T)) → lock_calls events ≡ 0 → LocksApart events
   none_overlap events none before after (Begun p start) is = λ may q. (
       let all = sum_by-append lock_call before (Begun p start ∷ after) in

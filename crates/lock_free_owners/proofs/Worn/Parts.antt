@@ -72,6 +72,7 @@ pub raise_moves : (raise : Raise) (n new : ℕ) → new ≡ raise_then raise n �
 raise_moves raises.LoadsCounter n new is = raise_sees_moves n new is
 raise_moves (raises.ExchangesCounter k) n new is = go (n == k) refl
   where
+    -- an exchange of the counter moves it as a raise may, whether it finds what it expected or not
     go : (t : Bool) → (n == k) ≡ t → RaiseMoves n new (raise_after (raises.ExchangesCounter k) n)
     go true t =
         let same = tested n k t in
@@ -100,6 +101,7 @@ pub count_moves : (c : ℕ) (count : Count) (n new cell : ℕ) → new ≡ count
     → CountMoves n new (count_after c count (count_old count n cell))
 count_moves c counts.LoadsCounter n new cell is = go (n == locked) refl
   where
+    -- the load of the counter moves it as a count may, whether it finds the lock or not
     go : (t : Bool) → (n == locked) ≡ t → CountMoves n new (count_after c counts.LoadsCounter n)
     go true t = rw t is
     go false t = rw t (count_comes_moves c n new n 0 0 is)
@@ -107,6 +109,8 @@ count_moves c (counts.LoadsCell counter index filled) n new cell is =
     count_comes_moves c n new counter (index + 1) (if cell == empty then filled else one_more filled) is
 count_moves c (counts.ExchangesCounter k filled) n new cell is = go (n == k) refl
   where
+    -- the last exchange of a count moves the counter as a count may, whether it finds what it
+    -- expected or not
     go : (t : Bool) → (n == k) ≡ t → CountMoves n new (count_after c (counts.ExchangesCounter k filled) n)
     go true t =
         let same = tested n k t in
@@ -140,6 +144,8 @@ LockPays n new lock (GoOn next) = new + (lock_credit next + lock_late new next) 
 LockPays n new lock (Done state) = new ≤ n + (lock_credit lock + lock_late n lock)
 
 module _ (n new : ℕ) (count : Count) where
+  -- a lock whose count has ended locks, has ended with fewer, or counts again: each keeps to what
+  -- it can still add
   counted_filled : (filled counter : ℕ) → CountMoves n new (Done (ends.Filled filled counter))
       → (z : Bool) → (filled == 0) ≡ z → (g : Bool) → (counter == greatest) ≡ g
       → LockPays n new (locks.Counts count) (lock_counted (Done (ends.Filled filled counter)))
@@ -166,6 +172,8 @@ lock_pays c (locks.Counts count) n new cell is open_then =
     counted_pays n new count (count_after c count (count_old count n cell)) (count_moves c count n new cell is)
 lock_pays c (locks.ExchangesCounter k) n new cell is open_then = go (n == k) refl
   where
+    -- the exchange that locks keeps to what the lock can still add, whether it finds what it
+    -- expected or not
     go : (t : Bool) → (n == k) ≡ t
         → LockPays n new (locks.ExchangesCounter k) (lock_after c (locks.ExchangesCounter k) n)
     go true t = let shut : new ≡ locked = rw t at is in absurd (open_then shut)
@@ -223,6 +231,8 @@ module _ (call : Acquire) (n new : ℕ) where
         go false t = let none = moved_none n new is in let left = tries_none counter (index + 1) in rw t (omega arith)
     acquire_pays (acquires.ChecksCounter k) is = go (n == k) refl
       where
+        -- the check of the counter keeps to what the acquire can still add, whether it finds what
+        -- it expected or not
         go : (t : Bool) → (n == k) ≡ t → AcquirePays (acquires.ChecksCounter k)
         go true t =
             let found = tested n k t in
@@ -290,6 +300,8 @@ module _ (call : Release) (n new : ℕ) where
   abbrev ReleaseLeaves : ReleaseMode → ℕ → After Release Released → Type 0
   ReleaseLeaves mode credit a = new + release_left mode new a + counts_move (locks_in mode) n new ≤ n + credit
 
+  -- a raise of the counter because of a freed index keeps to what the change is good for in its
+  -- mode
   release_raises : (mode : ReleaseMode) (a : After Raise ReleaseState) → RaiseMoves n new a
       → ReleaseLeaves mode (for_mode mode) (release_raised call mode a)
   release_raises Default (GoOn next) m = let none = moved_none n new m in omega arith
@@ -303,6 +315,7 @@ module _ (call : Release) (n new : ℕ) where
   release_locks lock (Done state) m = omega arith
 
   module _ (T : Type 0) (p : ℕ) (given : GiveBack) (cell : ℕ) where
+    -- the step of a release at this stage keeps to what the release can still add
     abbrev ReleasePays : ReleaseStage → Type 0
     ReleasePays stage =
         new + release_left given.mode new (release_takes call stage given (release_old stage n cell))
@@ -313,6 +326,8 @@ module _ (call : Release) (n new : ℕ) where
     pub release_pays : (stage : ReleaseStage) → StandsIn given.mode stage → new ≡ release_then stage n → new ≢ locked → ReleasePays stage
     release_pays releases.EmptiesCell stands is open_then = go (cell == given.owner) refl
       where
+        -- the exchange that empties a cell keeps to what the release can still add, whether it
+        -- finds the owner or not
         go : (t : Bool) → (cell == given.owner) ≡ t → ReleasePays releases.EmptiesCell
         go true t =
             let none = counts_none (locks_in given.mode) n new is in

@@ -88,6 +88,8 @@ module _ (call : recovering.Recover) (n new : ℕ) where
   abbrev RecoverLeaves : ReleaseMode → ℕ → After recovering.Recover ReleaseState → Type 0
   RecoverLeaves mode credit a = new + recover_left mode new a + counts_move (locks_in mode) n new ≤ n + credit
 
+  -- a raise of the counter because of a freed index keeps to what the change is good for in its
+  -- mode
   recover_raises : (mode : ReleaseMode) (index : ℕ) (a : After raises.Raise ReleaseState) → RaiseMoves n new a
       → RecoverLeaves mode (for_mode mode) (recover_raised call index mode a)
   recover_raises Default index (GoOn next) m = let none = moved_none n new m in omega arith
@@ -127,6 +129,8 @@ module _ (call : recovering.Recover) (n new : ℕ) where
         go false t = let still = counts_none (locks_in mode) n new is in rw t (omega arith)
     recover_pays (recovers.EmptiesCell index owner) stands is open_then = go (cell == owner) refl
       where
+        -- the exchange that empties a cell keeps to what the recovery can still add, whether it
+        -- finds the owner or not
         go : (t : Bool) → (cell == owner) ≡ t → RecoverPays (recovers.EmptiesCell index owner)
         go true t =
             let still = counts_none (locks_in mode) n new is in
@@ -144,6 +148,8 @@ module _ (call : recovering.Recover) (n new : ℕ) where
 
 -- ---- any call
 
+-- what changes so far have paid for, and a call of a robust set, or a lock because of it, may
+-- still add
 abbrev pub robust_credit : RobustFlight → ℕ
 robust_credit (Acquire run) = acquire_credit run.call.stage
 robust_credit (Release run) = release_credit run.given.mode run.call.stage
@@ -176,6 +182,7 @@ module _ (n : ℕ) where
   release_late_in Default (releases.Raises raise) stands = omega arith
   release_late_in Default (releases.Locks lock) stands = absurd (cc)
 
+  -- a recovery is late only in the mode that locks
   pub recover_late_in : (mode : ReleaseMode) (stage : RecoverStage) → RecoverStands mode stage
       → recover_late n stage ≤ late_in mode (recover_late n stage)
   recover_late_in LockIfLastIndex stage stands = omega arith
@@ -242,6 +249,7 @@ module _ (T : Type 0) where
   borrowed_mode given room call (Done ends.Locked) = tt
   borrowed_mode given room call (Done (ends.Filled filled counter)) = tt
 
+  -- a count of the indices in use adds no more than the two that it may still add
   borrowed_same : (n new : ℕ) (given room : Unit {0}) (call : counting.BorrowedIndices) (a : After counts.Count Counted)
       → CountMoves n new a
       → new + robust_left new (borrowed_as given room (borrowed_counted call a)) + counts_move false n new ≤ n + 2
@@ -266,6 +274,7 @@ module _ (T : Type 0) where
       new + robust_left new (after {T = T} flight (robust_old flight n cell)) + counts_move (robust_locks flight) n new
       ≤ n + (robust_credit flight + robust_late n flight) + 3 * changes {T = T} (effects p flight (robust_old flight n cell))
 
+  -- each step of a call of a robust set keeps to what the call can still add, unless it locks
   pub robust_pays : (n new p cell : ℕ) (flight : RobustFlight) → RobustStands flight → new ≡ robust_then flight n → new ≢ locked
       → RobustPays n new p cell flight
   robust_pays n new p cell (Acquire run) stands is open_then =

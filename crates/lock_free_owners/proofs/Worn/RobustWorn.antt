@@ -75,6 +75,8 @@ module _ (T : Type 0) where
     abbrev Paid : ℕ → Type 0
     Paid answer = PaysBy {T = T} words (flights.Robust flight) ask (set_step p flight answer dead)
 
+    -- a step that found this keeps to what its call can still add, and goes on as a call that may
+    -- lock just if it is one
     paid_there : (cell : ℕ) → Paid (robust_old flight (counter_of words) cell)
     paid_there cell =
         record {
@@ -130,6 +132,7 @@ module _ {T : Type 0} (code : Coding T) (c : ℕ) where
     owners : t.world.kept ≡ registries.Owners s.state.dead
     owners = s.fit.kept
 
+    -- the step of a call that stands where it may keeps to what the call can still add
     pays_in : (p : ℕ) (all : List SetAct) (start : Start T) (flight : Flight T) → FlightAt c all start flight → 0 < length ws
         → PaysIn p (ask_of (want_of t.world.coding flight)) (old_of ws (ask_of (want_of t.world.coding flight)))
         (registries.Owners s.state.dead) start flight
@@ -138,6 +141,7 @@ module _ {T : Type 0} (code : Coding T) (c : ℕ) where
         (old_of ws (ask_of (want flight))) (robust_finds ws flight)
     pays_in p all start flight at some = absurd at
 
+    -- an answer that a call hears keeps to what the call can still add
     decides_in : (p answer : ℕ) (all : List SetAct) (start : Start T) (flight : Flight T) → FlightAt c all start flight
         → is_question (want_of t.world.coding flight) ≡ true → PaysIn p None answer (registries.Owners s.state.dead) start flight
     decides_in p answer all (Robust start) (flights.Robust flight) at due =
@@ -162,6 +166,7 @@ module _ {T : Type 0} (code : Coding T) (c : ℕ) where
             ap is_locking there.span ∙ locks_in_span (set_acts_of q s.state.events) x.start flight there.at e
         go (Over others) d e = absurd (cc)
 
+    -- what each turn of an open run of a robust set owes is so
     facts : Facts t
     facts =
         record {
@@ -185,6 +190,7 @@ module _ {T : Type 0} (code : Coding T) (c : ℕ) where
 -- ---- any run
 
 module _ {T : Type 0} where
+  -- a robust set opens as a sound trace of its machine
   opens_so : (t : Trace T) → t.world.kind ≡ kinds.Robust → IsReachedOpen t
       → frame.Sound (family_by Word t.world.coding t.world.capacity) (opening t.world.coding t.world.kind t.world.capacity t.world.parties)
   opens_so t is r =

@@ -65,12 +65,15 @@ module _ {T : Type 0} where
   SameLocks may (GoOn flight) = locks flight ≡ may
   SameLocks may (Done answer) = Unit {0}
 
+  -- where a step goes on as a call that may lock, its call was one that may lock
   lock_from : (may : Bool) (a : After (Flight T) (Answer T)) → SameLocks may a → locks_of (flight_after a) ≡ true → may ≡ true
   lock_from may (GoOn flight) same e = sym same ∙ e
   lock_from may (Done answer) same e = absurd (cc)
 
   -- ---- what a step keeps to
 
+  -- unless the step locks the counter, what it adds to the counter and leaves to be added is paid
+  -- for by the changes that it writes; whether the call may lock stays
   pub record PaysBy (words : List ℕ) (flight : Flight T) (ask : Option Ask) (s : Step (Flight T) (Registry T) T) : Type 0 where
     pub pays : counter_of (words_after words ask) ≢ locked
         → counter_of (words_after words ask) + left (counter_of (words_after words ask)) s.after
@@ -85,6 +88,7 @@ module _ {T : Type 0} where
   abbrev pub stepped : Trace T → ℕ → Party T → ℕ → Option Ask → Step (Flight T) (Registry T) T → Trace T
   stepped t p x since ask s = record { world = after_step t.world p x since ask s; events = t.events ++ events_of_step p x.start s }
 
+  -- t is the trace before a step of party p, whose call x it is
   module _ (t : Trace T) (p : ℕ) (x : Party T) (flight : Flight T) (since : ℕ) (ask : Option Ask) (answer : ℕ)
       (found : party_of p t.world.latest ≡ Some x) (doing : x.doing ≡ Going flight since)
       (pays : StepPays t.world p x flight ask answer) where
@@ -111,6 +115,7 @@ module _ {T : Type 0} where
         counter new + (credit_of now + late_of (counter new) now) + counts_move (locks_of old) (counter t) (counter new)
         ≤ counter t + (credit_of old + late_of (counter t) old) + 3 * changes (events_of_step p x.start s)
 
+    -- a step that keeps to what its call can still add makes a turn that pays for what it adds
     pub step_owes : (counter new ≢ locked → counter t ≢ locked) → Owes t new p (events_of_step p x.start s)
     step_owes opens =
         record {
@@ -126,6 +131,8 @@ module _ {T : Type 0} where
 
   -- ---- what a begin keeps to
 
+  -- what the call may still add is paid for by its begin, and the call may lock only where its
+  -- begin says that it may
   pub record BeginPays (n : ℕ) (p : ℕ) (start : Start T) (flight : Flight T) : Type 0 where
     pub pays : credit flight + late n flight ≤ 3 * change (Begun p start)
     pub mode : locks flight ≡ true → may_lock start ≡ true
@@ -133,6 +140,7 @@ module _ {T : Type 0} where
   abbrev pub begun : Trace T → ℕ → Start T → Option (Flight T) → Trace T
   begun t p start o = record { world = after_begin t.world p start o; events = t.events ++ Begun p start ∷ [] }
 
+  -- t is the trace before a begin of party p
   module _ (t : Trace T) (p : ℕ) (start : Start T) (flight : Flight T) (pays : BeginPays (counter t) p start flight)
       (free : flight_in t.world p ≡ None) (none : locks flight ≡ true → (q : ℕ) → locks_at t q ≡ false) where
     abbrev after_it : Trace T
@@ -146,6 +154,8 @@ module _ {T : Type 0} where
         counter t + (credit_of now + late_of (counter t) now) + counts_move (locks_of old) (counter t) (counter t)
         ≤ counter t + (credit_of old + late_of (counter t) old) + 3 * changes (Begun p start ∷ [])
 
+    -- a begin makes a turn that pays for what its call has, where no call under way may lock if
+    -- this one may
     pub begin_owes : Owes t after_it p (Begun p start ∷ [])
     begin_owes =
         record {
@@ -192,6 +202,7 @@ module _ {T : Type 0} where
     answered p x ask answer (Going flight since) found d pays opens =
         bounded_on t _ p _ (step_owes t p x flight since ask answer found d (pays flight since refl) opens) b
 
+    -- after a turn that goes on with a call, or does nothing, the counter is still bounded
     nexts : (p : ℕ) (o : Option (Party T)) → party_of p t.world.latest ≡ o
         → (counter_of (after_next t.world p o).words ≢ locked → counter t ≢ locked)
         → Bounded record { world = after_next t.world p o; events = t.events ++ events_of_next t.world p o }
@@ -203,6 +214,7 @@ module _ {T : Type 0} where
         (facts.steps b.some p x flight since found d))
         opens
 
+    -- after a turn that answers a question, the counter is still bounded
     decides : (p : ℕ) (said : Bool) (o : Option (Party T)) → party_of p t.world.latest ≡ o
         → ((flight : Flight T) → flight_of (doing_of o) ≡ Some flight → is_question (want_of t.world.coding flight) ≡ true)
         → (counter_of (after_decision t.world p said o).words ≢ locked → counter t ≢ locked)
@@ -212,6 +224,7 @@ module _ {T : Type 0} where
         answered p x None (number_of said) x.doing found refl
         (λ flight since d. facts.decides p x flight since said found d (due flight (ap (λ d. flight_of (Some d)) d))) opens
 
+    -- after a begin, the counter is still bounded, if no two calls that may lock overlap then
     begins : (p : ℕ) (start : Start T) (o : Option (Flight T)) → first_of t.world.kind t.world.capacity start t.world.kept ≡ o
         → is_none (first_of t.world.kind t.world.capacity start t.world.kept) ≡ false → flight_in t.world p ≡ None
         → LocksApart (t.events ++ Begun p start ∷ []) → Bounded (begun t p start o)
@@ -233,6 +246,8 @@ module _ {T : Type 0} where
   must_be_asked w p said e =
       let may : MayGoOn w p × (is_due w.coding (flight_in w p) ≡ true) = possible_open w (Decide p said) e in may.1
 
+  -- after any turn that is not refused, the counter is still bounded, if no two calls that may
+  -- lock overlap then
   pub turn_bounded : (t : Trace T) → Facts t → Bounded t → (turn : Turn T) → open_refusal t.world turn ≡ None
       → LocksApart (after_turn t turn).events → (counter (after_turn t turn) ≢ locked → counter t ≢ locked) → Bounded (after_turn t turn)
   turn_bounded t facts b (Begin p start) e apart opens =
@@ -251,6 +266,8 @@ module _ {T : Type 0} where
     abbrev pub Holds : Trace T → Type 0
     Holds t = Sound t × (LocksApart t.events → Bounded t)
 
+    -- a turn that is not refused keeps a trace sound, and its counter bounded where no two calls
+    -- that may lock overlap
     pub turn_holds : (t : Trace T) (turn : Turn T) → open_refusal t.world turn ≡ None → Holds t → Holds (after_turn t turn)
     turn_holds t turn e h =
         let next = on t turn e h.0 in
@@ -265,6 +282,7 @@ module _ {T : Type 0} where
         → Bounded (opening t.world.coding t.world.kind t.world.capacity t.world.parties) → LocksApart t.events → Bounded t
     run_bounded t r first none apart = (kept_by open_refusal Holds turn_holds t (first, λ _. none) r).1 apart
 
+  -- a trace in which no call has begun, and whose counter is 0, has it bounded
   pub opening_bounded : (t : Trace T) → t.world.latest ≡ [] → counter t ≡ 0 → 0 < length t.world.words → Bounded t
   opening_bounded t latest zero some =
       let none : (q : ℕ) → flight_in t.world q ≡ None = λ q. ap (λ l. flight_of (doing_of (party_of q l))) latest in

@@ -12,7 +12,7 @@ pub record IsCounted {T : Type 0} (old new : View T) : Type 0 where
 
 -- until its end it leaves what is known
 module _ {T C M : Type 0} where
-  abbrev pub Still : (View T → C → Type 0) → View T → View T → C → M → Type 0
+  abbrev pub Still : (View T → C → Type 0) → (base v : View T) → C → M → Type 0
   Still stands base v call room = IsCounted base v × stands v call
 
 module _ {T : Type 0} where

@@ -154,7 +154,7 @@ module _ {T : Type 0} where
 
   -- a remove that freed its index: the container was locked; or, in the mode that locks, it was not at a moment of the call,
   -- and after the remove had freed its index some index had an owner
-  abbrev pub FreesRight : Type 0 → ℕ → ℕ → ReleaseMode → ReleaseState → ℕ → List (Event T) → Type 0
+  abbrev pub FreesRight : Type 0 → (index owner : ℕ) → ReleaseMode → ReleaseState → ℕ → List (Event T) → Type 0
   FreesRight worn index owner mode states.Locked p before = is_locked before ≡ true
   FreesRight worn index owner Default states.Unlocked p before = Unit {0}
   FreesRight worn index owner LockIfLastIndex states.Unlocked p before =
@@ -181,7 +181,7 @@ module _ {T : Type 0} where
       UnlockedAtLast p before × HasRecoveredBy Word p given.owner before
       × FilledSinceEachBy worn given.mode p given.owner before
 
-  abbrev pub IsRightRemove : GiveBack → Removed → View T → View T → Type 0
+  abbrev pub IsRightRemove : GiveBack → Removed → (old new : View T) → Type 0
   IsRightRemove given answer old new =
       Answered (Remove given.index given.owner given.mode) (removed answer)
       (RemovesRight (MayBeWorn new.seen) old.capacity given answer) old new
@@ -191,7 +191,7 @@ module _ {T : Type 0} where
       Answered (Replace given.index given.value given.owner) (replaced answer)
       (ReplacesRight old.capacity given answer) old
 
-  abbrev pub IsRightRecovery : DeadOwner → ReleaseState → View T → View T → Type 0
+  abbrev pub IsRightRecovery : DeadOwner → ReleaseState → (old new : View T) → Type 0
   IsRightRecovery given state old new =
       Answered (Recover given.owner given.mode) (State state) (RecoversRight (MayBeWorn new.seen) given state) old new
 

@@ -105,18 +105,18 @@ IsWithin capacity stage = Unit {0}
 
 module _ {T : Type 0} where
   -- a find that has come to the cell of this index, and found so many
-  abbrev pub at_cell : ℕ → ℕ → ℕ → Find T (Buffer 128)
+  abbrev pub at_cell : (capacity index found : ℕ) → Find T (Buffer 128)
   at_cell capacity index found =
       record { capacity = capacity; stage = finds.LoadsCell index found; of = record {} }
 
   -- from the cell `first` on, with an operation for each, it has come to a cell of the owner, and counts it
-  abbrev pub PassesTo : ℕ → ℕ → ℕ → FindStage → View T → View T → Type 0
+  abbrev pub PassesTo : (capacity first found : ℕ) → FindStage → View T → View T → Type 0
   PassesTo capacity first found (finds.LoadsCount index count) v w =
       (first ≤ index) × (index < capacity) × (count ≡ one_more found) × TakesAtMost (index + 1 - first) v w
   PassesTo capacity first found stage v w = ⊥
 
   -- it has come there, or past the last cell, where it ends
-  abbrev pub HasPassed : ℕ → ℕ → ℕ → After (Find T (Buffer 128)) ℕ → View T → View T → Type 0
+  abbrev pub HasPassed : (capacity first found : ℕ) → After (Find T (Buffer 128)) ℕ → View T → View T → Type 0
   HasPassed capacity first found (GoOn on) v w =
       (on.capacity ≡ capacity) × PassesTo capacity first found on.stage v w
   HasPassed capacity first found (Done all) v w = (all ≡ found) × TakesAtMost (capacity - first) v w

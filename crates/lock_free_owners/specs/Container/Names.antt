@@ -55,7 +55,7 @@ module _ {T : Type 0} where
   unnumbered state = record state { container = 0 }
 
   -- the state shows what it showed, and has seen what it had seen
-  abbrev pub IsLeft : ContainerState T → ContainerState T → Type 0
+  abbrev pub IsLeft : (old new : ContainerState T) → Type 0
   IsLeft old new = (new.shown.elements ≡ old.shown.elements) × (new.seen ≡ old.seen)
 
 module _ {T : Type 0} {words : Ghosts T} where

@@ -90,17 +90,17 @@ IsWithin capacity (recovers.LoadsCell index) = index < capacity
 IsWithin capacity stage = Unit {0}
 
 -- where the loop over cells leads from the first one: to one of the owner, or past the last
-abbrev pub PassesTo : ℕ → ℕ → RecoverStage → Type 0
+abbrev pub PassesTo : (capacity first : ℕ) → RecoverStage → Type 0
 PassesTo capacity first (recovers.LoadsCount index) = (first ≤ index) × (index < capacity)
 PassesTo capacity first recovers.LoadsCounterAgain = Unit {0}
 PassesTo capacity first stage = ⊥
 
 module _ {T : Type 0} where
-  abbrev pub at_cell : ℕ → ℕ → Recover T (Buffer 128)
+  abbrev pub at_cell : (capacity index : ℕ) → Recover T (Buffer 128)
   at_cell capacity index =
       record { capacity = capacity; stage = recovers.LoadsCell index; of = record {} }
 
-  abbrev pub HasPassed : ℕ → ℕ → Recover T (Buffer 128) → Type 0
+  abbrev pub HasPassed : (capacity first : ℕ) → Recover T (Buffer 128) → Type 0
   HasPassed capacity first on = (on.capacity ≡ capacity) × PassesTo capacity first on.stage
 
   -- a call that has come to no cell stays

@@ -66,5 +66,5 @@ module _ {T : Type 0} where
     pub parties : IsOfParties new
 
   -- the view with which a call of the pass began, once the one before it had ended
-  abbrev pub SettledFrom : View T → View T → Type 0
+  abbrev pub SettledFrom : (old new : View T) → Type 0
   SettledFrom old new = ((new ≡ old) × (old.going ≡ None)) ⊎ Settles old new

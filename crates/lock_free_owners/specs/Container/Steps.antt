@@ -15,13 +15,13 @@ module _ {T : Type 0} where
   to_settle v = one_if_some v.going
 
   -- at most one operation was no step of a call, and one more where the last call of the pass rested
-  abbrev pub FewAside : View T → View T → Type 0
+  abbrev pub FewAside : (old new : View T) → Type 0
   FewAside old new = new.aside ≤ old.aside + (1 + to_settle old)
 
   abbrev pub TakesFew : ℕ → View T → View T → Type 0
   TakesFew most old = TakesAtMost (most + to_settle old) old
 
-  abbrev pub ContainerTakes : ℕ → ℕ → View T → View T → Type 0
+  abbrev pub ContainerTakes : (alone retry : ℕ) → View T → View T → Type 0
   ContainerTakes alone retry old = TakesAlone (alone + to_settle old) retry old
 
   abbrev pub RemoveTakes : ℕ → ReleaseMode → View T → View T → Type 0

@@ -18,7 +18,7 @@ use Rattle.steps.specs.declared.indices.robust.release.GiveBack.{GiveBack}
 use Rattle.model.specs.declared.families.container.calls.CountOf.{CountOf}
 use Rattle.model.specs.declared.turn.Kind.TheVariants as kinds
 use Rattle.model.specs.Coding.{Coding}
-use Rattle.threaded.specs.Seats.{seen, table_of, key_of}
+use Rattle.threaded.specs.Seats.{seen, table_of, key_of, IsSame}
 use Rattle.threaded.specs.declared.driver.seated.Seated.{Seated}
 use Rattle.history.specs.declared.view.View.{View}
 use Rattle.history.specs.Container.{adds_value, removes_value, replaces_value, counts_values, sees_lock}
@@ -30,6 +30,17 @@ use Rattle.lock_free_owners.specs.Robust.Turns.{Stands, Goes}
 abbrev pub IsBoard : {T Q : Type 0} → ℕ → Seated (View T) ℕ Q → Type 0
 IsBoard size s =
     ((table_of s).words ≡ total_words (seen s).capacity size + 1) × (key_of s ≡ (seen s).capacity)
+
+module _ {T Q : Type 0} (size : ℕ) where
+  -- the seat is at its table, and knows this capacity
+  pub record IsReady (capacity : ℕ) (s : Seated (View T) ℕ Q) : Type 0 where
+    pub board : IsBoard size s
+    pub known : (seen s).capacity ≡ capacity
+
+  -- steps have left the seat what it was, at its table
+  pub record StaysAtBoard (old new : Seated (View T) ℕ Q) : Type 0 where
+    pub same : IsSame old new
+    pub board : IsBoard size new
 
 -- a call on a pass whose last one may rest
 module _ {T C E : Type 0} (code : Coding T) (begins : ℕ → C → Type 0)

@@ -11,7 +11,7 @@ use Rattle.lock_free_owners.specs.Container.Callable.{Visit}
 use Rattle.lock_free_owners.specs.Robust.Stages.{says}
 
 -- how many it has come to is at most how many cells it has loaded
-abbrev pub FindStage : ℕ → ℕ → finds.FindStage → Type 0
+abbrev pub FindStage : (size capacity : ℕ) → finds.FindStage → Type 0
 FindStage size capacity (finds.TheVariants.LoadsCell index found) =
     (index < capacity) × (found ≤ index)
 FindStage size capacity (finds.TheVariants.LoadsCount index found) =
@@ -32,13 +32,12 @@ abbrev pub named : ℕ → ℕ → ℕ → ContainerHandle
 named index owner container = record { index = index; owner = owner; container = container }
 
 -- a handle of a container with this number and this capacity, and this owner's
-abbrev pub IsNamed : ℕ → ℕ → ℕ → ContainerHandle → Type 0
+abbrev pub IsNamed : (capacity owner id : ℕ) → ContainerHandle → Type 0
 IsNamed capacity owner id h = ((h.container ≡ id) × (h.index < capacity)) × (h.owner ≡ owner)
 
 module _ {T F : Type 0} where
   -- what a step asks of the closure, which is handed the value in the room
-  abbrev pub FindAsks : (F → T → ContainerHandle → Type 0) → ℕ → ℕ → finds.FindStage → T → F
-      → Type 0
+  abbrev pub FindAsks : (F → T → ContainerHandle → Type 0) → (owner id : ℕ) → finds.FindStage → T → F → Type 0
   FindAsks pre owner id (finds.TheVariants.Asks index found) value f =
       pre f value (named index owner id)
   FindAsks pre owner id stage value f = Unit {0}
@@ -49,8 +48,8 @@ visits_of owner container copies = map (λ c. record { value = c.1; handle = nam
 
 module _ {T R F : Type 0} where
   -- how the call goes on by the closure's answer; a step leaves the closure
-  abbrev pub FindMoves : (F → T → ContainerHandle → CallbackProgression → F → Type 0) → ℕ → ℕ
-      → Find T R → ℕ → finds.FindStage → T → F → After (Find T R) ℕ → F → Type 0
+  abbrev pub FindMoves : (F → T → ContainerHandle → CallbackProgression → F → Type 0) → (size id : ℕ) → Find T R → ℕ
+      → finds.FindStage → T → F → After (Find T R) ℕ → F → Type 0
   FindMoves step size id call owner (finds.TheVariants.Asks index found) value f after g =
       (a : CallbackProgression) × step f value (named index owner id) a g
       × (after ≡ find_after size call owner (says a))

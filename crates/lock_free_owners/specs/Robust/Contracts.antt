@@ -120,7 +120,7 @@ module _ {T : Type 0} where
     pub held : Before by before
 
   -- the index had no owner then, and the set was not locked at some moment of the call
-  abbrev pub WasFilled : ℕ → ℕ → View T → View T → Type 0
+  abbrev pub WasFilled : (index owner : ℕ) → (old new : View T) → Type 0
   WasFilled index owner old new =
       WroteAt (λ by. Filled by index owner)
       (λ by before. (index < old.capacity) × (filled_of index before ≡ None)
@@ -128,14 +128,14 @@ module _ {T : Type 0} where
 
   -- the set was not locked then, and nobody held the index, where nobody acts for an owner who is gone
   -- nor gives back what is not his
-  abbrev pub WasGranted : ℕ → ℕ → View T → View T → Type 0
+  abbrev pub WasGranted : (index owner : ℕ) → (old new : View T) → Type 0
   WasGranted index owner old new =
       WroteAt (λ by. Granted by index owner)
       (λ by before. IsUnlocked before
       × (IsWellFormed new.seen → IsHonest new.seen → holder_of index before ≡ None)) old new
 
   -- the index had this owner then
-  abbrev pub WasFreed : ℕ → ℕ → View T → View T → Type 0
+  abbrev pub WasFreed : (index owner : ℕ) → View T → View T → Type 0
   WasFreed index owner =
       WroteAt (λ by. FreedOf by index owner) (λ by before. filled_of index before ≡ Some owner)
 
@@ -178,7 +178,7 @@ RefusesRight worn capacity failures.OutOfIndices p before = IsUnlocked before ×
 
 -- a release: another owner had the index, or none; the set was locked; or, in the mode that locks, it was not, and after the
 -- release had freed its index some index had an owner
-abbrev pub ReleasesRight : Type 0 → ℕ → ℕ → ReleaseMode → Released → ℕ → List (Event ℕ) → Type 0
+abbrev pub ReleasesRight : Type 0 → (index owner : ℕ) → ReleaseMode → Released → ℕ → List (Event ℕ) → Type 0
 ReleasesRight worn index owner mode (Err failure) p before = filled_of index before ≢ Some owner
 ReleasesRight worn index owner mode (Ok states.Locked) p before = is_locked before ≡ true
 ReleasesRight worn index owner Default (Ok states.Unlocked) p before = Unit {0}
@@ -190,7 +190,7 @@ abbrev pub RecoversRight : ReleaseState → ℕ → List (Event ℕ) → Type 0
 RecoversRight states.Locked p before = is_locked before ≡ true
 RecoversRight states.Unlocked p before = IsUnlocked before × HasRecoveredBy Word p before
 
-abbrev pub IsRightRelease : ℕ → ℕ → ReleaseMode → Released → View ℕ → View ℕ → Type 0
+abbrev pub IsRightRelease : (index owner : ℕ) → ReleaseMode → Released → View ℕ → View ℕ → Type 0
 IsRightRelease index owner mode answer old new =
     Answered (Release index owner mode) (release_answer answer)
     (ReleasesRight (MayBeWorn new.seen) index owner mode answer) old new
@@ -220,12 +220,12 @@ pub record WasRefused (owner : ℕ) (failure : UniqueIndexSetAcquireFailure) (ol
 
 module _ {T : Type 0} where
   -- a release: Locked in mode LockIfLastIndex alone, and there wherever the lock was seen
-  abbrev pub HasReleased : ReleaseState → ReleaseMode → View T → View T → Type 0
+  abbrev pub HasReleased : ReleaseState → ReleaseMode → (old new : View T) → Type 0
   HasReleased states.Locked mode old new = (is_locked new.seen ≡ true) × (mode ≡ LockIfLastIndex)
   HasReleased states.Unlocked mode old new = mode ≡ LockIfLastIndex → is_locked old.seen ≡ false
 
   -- an answer that the set is locked, or is not
-  abbrev pub FoundLock : Bool → View T → View T → Type 0
+  abbrev pub FoundLock : Bool → (old new : View T) → Type 0
   FoundLock true old new = is_locked new.seen ≡ true
   FoundLock false old new = is_locked old.seen ≡ false
 

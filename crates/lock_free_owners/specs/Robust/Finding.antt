@@ -23,8 +23,13 @@ abbrev pub FindAsks : {F : Type 0} → (F → ℕ → Type 0) → ℕ → FindSt
 FindAsks pre capacity (finds.LoadsCell index found) f = index < capacity
 FindAsks pre capacity (finds.Asks index found) f = (index < capacity) × pre f index
 
+-- the call is of this capacity, and may take such a turn
+pub record MayTurn {F : Type 0} (pre : F → ℕ → Type 0) (capacity : ℕ) (call : Find) (f : F) : Type 0 where
+  pub standing : call.capacity ≡ capacity
+  pub asks : FindAsks pre capacity call.stage f
+
 -- fewer steps are left than so many
-abbrev pub GoesDown : ℕ → ℕ → After Find ℕ → Type 0
+abbrev pub GoesDown : (capacity left : ℕ) → After Find ℕ → Type 0
 GoesDown capacity left (GoOn next) = find_left capacity next.stage < left
 GoesDown capacity left (Done found) = Unit {0}
 
@@ -60,6 +65,18 @@ module _ {F : Type 0} (step : F → ℕ → CallbackProgression → F → Type 0
     pub steps : TakesAtMost (cells_loaded c.stage) base v
     pub so_far : SoFar c.stage v p
 
+  -- it has ended: what it looked at, what it found, and within how many steps
+  pub record HasEnded (n : ℕ) (w : View ℕ) (q : F) : Type 0 where
+    pub looked : Looked w
+    pub found : HasFound step capacity owner f n q base.seen w.seen
+    pub steps : TakesAtMost capacity base w
+
   abbrev pub Onward : After Find ℕ → View ℕ → F → Type 0
   Onward (GoOn d) w q = Searching w d q
-  Onward (Done n) w q = Looked w × HasFound step capacity owner f n q base.seen w.seen × TakesAtMost capacity base w
+  Onward (Done n) w q = HasEnded n w q
+
+-- where one stood at this call, it has gone on since, whatever the view and the closure with which it began
+module _ {F : Type 0} (step : F → ℕ → CallbackProgression → F → Type 0) (capacity owner : ℕ) where
+  abbrev pub KeepsSearching : View ℕ → Find → F → After Find ℕ → View ℕ → F → Type 0
+  KeepsSearching v call p after w q =
+      (base : View ℕ) (f : F) → Searching step capacity owner base f v call p → Onward step capacity owner base f after w q

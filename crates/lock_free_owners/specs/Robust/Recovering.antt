@@ -28,7 +28,7 @@ module _ {F S : Type 0} (step : F → ℕ → ℕ → Bool → F → Type 0) (te
       pub told_below : All (λ (o : Owned). o.index < high) told
 
     -- at these visits
-    abbrev pub Visits : List Visit → ℕ → ℕ → F → S → Type 0
+    abbrev pub Visits : List Visit → (low high : ℕ) → F → S → Type 0
     Visits visits low high p q = Calls (questions_of visits) (freed_of visits) low high p q
 
     -- at each stage: the second closure is called one step behind the first

@@ -1,8 +1,8 @@
 -- What is known between two turns of a call on a robust unique index set, whatever the view with which
 -- it began.
-use Rattle.std.specs.Prelude.{◌≡◌, ℕ, ◌+◌, None, List}
+use Rattle.std.specs.Prelude.{◌≡◌, ℕ, ◌+◌, ◌<◌, None, List, []}
 use Rattle.steps.specs.Indices.Robust.Acquire.{Acquired}
-use Rattle.steps.specs.Indices.Robust.Recover.{recover_after}
+use Rattle.steps.specs.Indices.Robust.Recover.{first_recover, recover_after}
 use Rattle.steps.specs.declared.ask.After.{After}
 use Rattle.steps.specs.declared.indices.enums.ReleaseMode.{ReleaseMode}
 use Rattle.steps.specs.declared.indices.enums.ReleaseState.{ReleaseState}
@@ -12,7 +12,7 @@ use Rattle.steps.specs.declared.indices.robust.recover.Recover.{Recover}
 use Rattle.model.specs.declared.turn.Kind.TheVariants as kinds
 use Rattle.model.specs.Coding.{one_word}
 use Rattle.threaded.specs.Driver.{Next}
-use Rattle.threaded.specs.Seats.{seen, table_of, key_of}
+use Rattle.threaded.specs.Seats.{seen, table_of, key_of, IsSame}
 use Rattle.threaded.specs.declared.driver.seated.Seated.{Seated}
 use Rattle.history.specs.declared.view.View.{View}
 use Rattle.history.specs.Robust.{takes_owned, counts_owned, recovers_owned, Visit, visits_after}
@@ -26,6 +26,18 @@ size capacity = capacity + 1
 abbrev pub IsBoard : {Q : Type 0} → Seated (View ℕ) ℕ Q → Type 0
 IsBoard s =
     ((table_of s).words ≡ size (seen s).capacity + 1) × (key_of s ≡ (seen s).capacity)
+
+module _ {Q : Type 0} where
+  -- the seat may take a step: it is at its table, it knows this capacity, and it has some of the share
+  pub record IsReady (capacity : ℕ) (s : Seated (View ℕ) ℕ Q) : Type 0 where
+    pub board : IsBoard s
+    pub known : (seen s).capacity ≡ capacity
+    pub may_step : 0 < (seen s).share.part
+
+  -- steps have left the seat what it was, at its table
+  pub record StaysAtBoard (old new : Seated (View ℕ) ℕ Q) : Type 0 where
+    pub same : IsSame old new
+    pub board : IsBoard new
 
 -- of a call that stands so, and ends so
 module _ {T C E : Type 0} (at : View T → View T → C → Unit {0} → Type 0)
@@ -75,6 +87,13 @@ RecoverAt mode =
 
 abbrev pub RecoverEnds : ReleaseMode → View ℕ → ReleaseState → List Visit → View ℕ → Type 0
 RecoverEnds mode = Ends one_word kinds.Robust (recovers_owned mode)
+
+-- one begins at the seat, which is at its table, knows this capacity and has no call under way
+pub record BeginsRecover {Q : Type 0} (capacity : ℕ) (mode : ReleaseMode) (s : Seated (View ℕ) ℕ Q) : Type 0 where
+  pub board : IsBoard s
+  pub known : (seen s).capacity ≡ capacity
+  pub idle : (seen s).going ≡ None
+  pub at : RecoverAt mode (seen s) (seen s) (first_recover capacity) []
 
 -- it may take a turn, whatever its visits so far
 abbrev pub RecoverStands : ReleaseMode → View ℕ → Recover → Type 0

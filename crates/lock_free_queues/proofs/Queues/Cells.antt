@@ -17,6 +17,7 @@ item_same IndexQueue x y e = cc
 item_same Overflow x y e = cc
 item_same Queue x y e = cc
 
+-- t is the trace of a run of a queue of kind kd; code says how its values are written in words
 module _ {T : Type 0} (code : Coding T) (kd : QueueKind) (capacity : ℕ) (t : Trace T) (run : IsRun code (machine_kind kd) capacity t) where
   abbrev size : ℕ
   size = (encoded code kd).size
@@ -37,6 +38,7 @@ module _ {T : Type 0} (code : Coding T) (kd : QueueKind) (capacity : ℕ) (t : T
     abbrev named : Val T kd → Item T
     named y = item kd y
 
+    -- the value that waits at this rank is the item that was published at position i
     there : option_map named (slice_get s.state.core.waiting rank) ≡ Some x
     there =
         let same : length (handed_out t.events) + rank ≡ i = omega arith in
@@ -48,6 +50,7 @@ module _ {T : Type 0} (code : Coding T) (kd : QueueKind) (capacity : ℕ) (t : T
     abbrev Lies : Coding T → ℕ → ℕ → Val T kd → Type 0
     Lies en cells position y = core.Holds (encoded en kd).size (encoded en kd).words_of cells s.state.core.cells position y (encoded en kd).size
 
+    -- a value that waits at this rank has its words in the cell of position i
     lies : (y : Val T kd) → slice_get s.state.core.waiting rank ≡ Some y → Lies code (cells_of kd capacity) i y
     lies y e =
         let out = s.holds.out in

@@ -33,6 +33,8 @@ use Rattle.lock_free_queues.proofs.Queues.Whole.{none_more}
 
 -- ---- lists by their elements
 
+-- two lists of the same length are the same where each element of the first stands at its place in
+-- the second
 same_list : {A : Type 0} (xs ys : List A) → length xs ≡ length ys → ((k : ℕ) (x : A) → slice_get xs k ≡ Some x → slice_get ys k ≡ Some x) → xs ≡ ys
 same_list [] [] long same = refl
 same_list [] (y ∷ ys) long same = absurd (omega arith)
@@ -55,6 +57,8 @@ words_alike ws xs at b (suc k) h =
     ap (λ z. get_or ws z 0) x ∙ (h (i + 1) (omega arith) ∙ ap (λ z. get_or xs z 0) y)) in
     λ j. head j ∷ tail j
 
+-- the value at a place of a list that was read from words, from position p on, is the one that the
+-- words have at the position that lies so far behind p
 value_in_list : {V : Type 0} (value_of : List ℕ → V) (size capacity : ℕ) (words : List ℕ) (p m k : ℕ) → k < m
     → slice_get (values_from value_of size capacity words p m) k ≡ Some (value_at value_of size capacity words (p + k))
 value_in_list value_of size capacity words p zero k low = absurd (omega arith)
@@ -88,6 +92,8 @@ coded code law IndexQueue = is_coding
 coded code law Overflow = is_coding
 coded code law Queue = law
 
+-- v is what the pass knew before it read the words, l says how they were read; kd is the kind of
+-- the queue
 module _ {T : Type 0} (code : Coding T) (law : IsCoding code) (kd : QueueKind) (capacity : ℕ) (v : View T)
     (words : List ℕ)
     (l : LastWords code (machine_kind kd) (words_in_cells code.size kd capacity) capacity v words) where
@@ -146,6 +152,7 @@ module _ {T : Type 0} (code : Coding T) (law : IsCoding code) (kd : QueueKind) (
       let both = length-append (published l.begun.seen) (published l.reading.since.rest) in
       none_more (published l.begun.seen) (published l.reading.since.rest) (published moment) is (omega arith)
 
+  -- the position of the next push lies behind that of the next pop by as many values as waited
   pub number : taken + length (waiting moment) ≡ write
   number =
       let book = ap length list.book in
@@ -196,6 +203,7 @@ module _ {T : Type 0} (code : Coding T) (law : IsCoding code) (kd : QueueKind) (
     read_at : (k : ℕ) → k < z.size → WasRead code kind capacity l.begun l.new (place k) (slice_index words (place k))
     read_at k below = (let inside = cell_within z.size cells i k some below in let all = long in l.cells (place k) (omega arith) (omega arith))
 
+    -- each word of the cell was read of a machine in which the published item stands at position i
     stood : (k : ℕ) → (below : k < z.size) → Stands code kd capacity (read_at k below).trace (read_at k below).run i x
     stood k below =
         let w = read_at k below in
@@ -221,6 +229,8 @@ module _ {T : Type 0} (code : Coding T) (law : IsCoding code) (kd : QueueKind) (
         let same : s.value ≡ first_one = item_same kd s.value first_one (sym s.is ∙ (stood 0 one).is) in
         (read_at k below).found_is ∙ (s.words k below ∙ ap (λ y. get_or (z.words_of y) k 0) same)
 
+    -- an item that was published at a position from which nobody had taken is a value that the
+    -- words have there
     waits : Waits i x
     waits =
         let y = first_one in
@@ -240,6 +250,8 @@ module _ {T : Type 0} (code : Coding T) (law : IsCoding code) (kd : QueueKind) (
 
   -- ---- the list: these words, but that it may begin later
 
+  -- ws are words with the same cells and the same write position, and a read position that is no
+  -- lower
   module _ (ws : List ℕ) (alike : (word : ℕ) → 4 ≤ word → slice_index ws word ≡ slice_index words word)
       (end : slice_index ws 0 ≡ write) (from : taken ≤ slice_index ws 1) (to : slice_index ws 1 ≤ write) where
     abbrev first : ℕ
@@ -255,6 +267,7 @@ module _ {T : Type 0} (code : Coding T) (law : IsCoding code) (kd : QueueKind) (
     abbrev pub older : List (Item T)
     older = take (first - taken) (waiting moment)
 
+    -- before the list lie as many that wait as its read position lies above the one that was read
     pub older_are : length older ≡ first - taken
     older_are =
         (let all = number in
@@ -269,6 +282,7 @@ module _ {T : Type 0} (code : Coding T) (law : IsCoding code) (kd : QueueKind) (
     value_there : (i : ℕ) → first ≤ i → i < write → slice_get values (i - first) ≡ Some (value_at z.value_of z.size cells words i)
     value_there i first_up_to_i i_below_write = grind (arith, value_in_list, value_at, same_value)
 
+    -- without those that wait before the list, what waited are the values of the list
     rest_is : drop (first - taken) (waiting moment) ≡ map named values
     rest_is =
         same_list (drop (first - taken) (waiting moment)) (map named values)
@@ -279,6 +293,8 @@ module _ {T : Type 0} (code : Coding T) (law : IsCoding code) (kd : QueueKind) (
         omega arith)
         each
       where
+        -- an item that waits at a place behind those before the list is the list's value at that
+        -- place
         each : (k : ℕ) (x : Item T) → slice_get (drop (first - taken) (waiting moment)) k ≡ Some x → slice_get (map named values) k ≡ Some x
         each k x e =
             let i : ℕ = first + k in
@@ -297,6 +313,8 @@ module _ {T : Type 0} (code : Coding T) (law : IsCoding code) (kd : QueueKind) (
     pub waiting_is : waiting moment ≡ older ++ map named values
     waiting_is = sym (take-append-drop (first - taken) (waiting moment)) ∙ ap (λ xs. older ++ xs) rest_is
 
+    -- the list says what a close promises of it, if with the whole share it begins at the read
+    -- position that was read
     pub closes_later : (IsAll v.share → first ≡ taken)
         → Closes named capacity v (record { capacity = capacity; first = first; values = values })
     closes_later exact =
@@ -322,6 +340,7 @@ module _ {T : Type 0} (code : Coding T) (law : IsCoding code) (kd : QueueKind) (
           );
         }
 
+  -- the list that these words make: from the read position to the write position
   abbrev closed : Bounded V
   closed =
       record {
@@ -356,6 +375,8 @@ module _ {E T : Type 0} {k : kinds.Ghosts E} {ws : Ghosts T} (pass : Pass E T k 
   pub made_then : (token_view l.then).made ≡ (view pass).made
   made_then = ap (λ (x : View T). x.made) l.view ∙ (l.last.reading.made ∙ l.last.opening.made)
 
+  -- the pass with the seat as it stood when it had seen just what it had read up to the read
+  -- position
   abbrev pub as_stood : Pass E T k ws
   as_stood =
       record {

@@ -146,11 +146,14 @@ pub role_alone : (r : Ring) (role : Role) → IsAlone (kind_of r) role
 role_alone of_indices role = tt
 role_alone of_values role = tt
 
+-- r says whether the queue is of indices or of values; base and w are what the pass knew before a
+-- call and after it
 module _ {T : Type 0} (code : Coding T) (r : Ring) (capacity : ℕ) (base w : View T) (h : IsSeen code (kind_of r) capacity w.seen) where
   marked : (role : Role) → Each (ByHolderOf role) w.seen
   marked role = ring_marked code capacity w.seen r role h
 
   module _ (item : Item T) where
+    -- a push that was refused found the capacity waiting, and nobody published meanwhile
     pub was_full : HasPushed item false base w → WasFull capacity item base w
     was_full pushing =
         let p = pushing.by in
@@ -172,6 +175,7 @@ module _ {T : Type 0} (code : Coding T) (r : Ring) (capacity : ℕ) (base w : Vi
               ∙ append-nil (published base.seen);
         }
 
+    -- a push that was taken published its item right after all that was seen to be published
     pub has_published : HasPushed item true base w → HasPublished item base w
     has_published pushing =
         (let p = pushing.by in
@@ -181,6 +185,7 @@ module _ {T : Type 0} (code : Coding T) (r : Ring) (capacity : ℕ) (base w : Vi
 
   -- ---- pops
 
+  -- a pop that answered None found nothing waiting, and nobody took anything out meanwhile
   pub was_empty : HasPopped None base w → WasEmpty base w
   was_empty popping =
       let p = popping.by in
@@ -202,6 +207,7 @@ module _ {T : Type 0} (code : Coding T) (r : Ring) (capacity : ℕ) (base w : Vi
             ∙ append-nil (handed_out base.seen);
       }
 
+  -- a pop that answered an item took it out right after all that was seen to be taken out
   pub has_taken_out : (item : Item T) → HasPopped (Some item) base w → HasTakenOut item base w
   has_taken_out item popping =
       let p = popping.by in
@@ -241,6 +247,8 @@ module _ {T : Type 0} (code : Coding T) (kd : QueueKind) where
         → HeldSometime p (λ part. answer ≡ length_answer which c (length (waiting part))) xs
     stood_as which p c answer xs tells_length = grind arith
 
+    -- a call on lengths that has ended answers that of the number that waited at one moment of the
+    -- call
     pub measured : (which : LengthOf) (n : ℕ) (m : Unit {0})
         → Ends code (machine_kind kd) (counts_waiting which base.capacity) base n m w
         → HasMeasured which base.capacity (length_answer which base.capacity n) base w
@@ -258,6 +266,7 @@ module _ {T : Type 0} (code : Coding T) (kd : QueueKind) where
         subst (λ k. TellsLength k xs last) h.run.sized ((promised code kd base.capacity w.seen h).lengths xs [] last (sym h.is ∙ is)) in
         record { by = p; mine = ends.mine; called = it; before = xs; is = is; stood = stood_as which p base.capacity answer xs told }
 
+    -- the length that a call answers is at most as many values as can wait
     pub few : (which : LengthOf) → which ≡ measures.Len → (n : ℕ) (m : Unit {0})
         → Ends code (machine_kind kd) (counts_waiting which base.capacity) base n m w
         → n ≤ most_waiting kd base.capacity
@@ -281,6 +290,8 @@ module _ {T : Type 0} (code : Coding T) (kd : QueueKind) where
     pub released : (role : Role) (e m : Unit {0}) → Ends code (machine_kind kd) (gives_role role) base e m w → HasReleased role base w
     released role e m ends = grind (arith, called)
 
+    -- where a role's holder alone writes what the role marks, who gave the role back has seen no
+    -- more of that than before
     left_after : (role : Role) → IsAlone kd role → IsHistory code (machine_kind kd) base.capacity w.seen
         → HasReleased role base w → flat_map (marks role) w.seen ≡ flat_map (marks role) base.seen
     left_after role only h left =
@@ -304,6 +315,7 @@ module _ {T : Type 0} (code : Coding T) (kd : QueueKind) where
         no_mark Producer p = refl
         no_mark Consumer p = refl
 
+    -- a release that has ended leaves what the role's holder alone writes as it was
     pub left_alone : (role : Role) → IsAlone kd role → (e m : Unit {0})
         → Ends code (machine_kind kd) (gives_role role) base e m w
         → flat_map (marks role) w.seen ≡ flat_map (marks role) base.seen
@@ -331,6 +343,8 @@ module _ {T : Type 0} (code : Coding T) (kind : Kind) where
     later_than : (p : ℕ) (wrote last : List (Event T)) → Since p call.start wrote last base w → IsBeginning base.seen w.seen
     later_than p wrote last since = grind (arith, opened, append_assoc)
 
+    -- a call that has ended leaves the share, and a history and a run that go on from those that
+    -- were known
     pub goes_on : (e : E) (m : M) → Ends code kind call base e m w → Goes base w
     goes_on e m ends =
         record {
@@ -348,6 +362,7 @@ module _ {T : Type 0} (code : Coding T) (kind : Kind) where
   looked_on base w looks =
       record { share = looks.share; since = looks.mine; first = looks.ran.first; all = λ whole. looks.all (subst IsAll looks.share whole) }
 
+  -- base and w are what the pass knew before the call and after it, e is its end, m its room then
   module _ {C M E : Type 0} (call : Calling T C M E) (base w : View T) (e : E) (m : M) where
     pub goes_over : Over code kind call base e m w → Goes base w
     goes_over (inl ends) = goes_on call base w e m ends

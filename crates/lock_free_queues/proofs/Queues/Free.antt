@@ -23,6 +23,8 @@ module _ {T : Type 0} where
       → takes role e + one (held role before) ≡ gives role e + one (role_after role (held role before) e)
   moves role before e grants_right = grind (arith, granted)
 
+  -- where each grant is right, a role is taken in some events as often as it is given back there,
+  -- but for one time more if only after them somebody has it, and one less if only before
   adds_up : (role : Role) (before es : List (Event T)) → Each GrantsRight (before ++ es)
       → sum_by (takes role) es + one (held role before) ≡ sum_by (gives role) es + one (held role (before ++ es))
   adds_up role before [] each =
@@ -43,6 +45,7 @@ module _ {T : Type 0} where
       → sum_by (takes role) events ≡ sum_by (gives role) events → held role events ≡ None
   is_free role events each same = (let sum = adds_up role [] events each in nobody (held role events) (omega arith))
 
+-- on an overflowing queue whose producer's role nobody has, at most the capacity waits
 pub few_when_free : {T : Type 0} (code : Coding T) (capacity : ℕ) (t : Trace T)
     → IsRun code kinds.Overflow capacity t → producer_of t.events ≡ None → length (waiting t.events) ≤ capacity
 few_when_free {T} code capacity t run free =

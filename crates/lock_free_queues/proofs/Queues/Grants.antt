@@ -33,6 +33,7 @@ module _ {T : Type 0} (answer : Answer T) (quiet : IsQuiet answer) where
   pub after_push : (role : Role) (x : Item T) (es : List (Event T)) → HasRole role es → HasRole role (es ++ pushed_once answer x)
   after_push role x es has = (let none = quiet role x in still_has role es (pushed_once answer x) none.0 none.1 has)
 
+  -- the party has either role after any number of rounds of a push and a pop
   pub has_it : (x : Item T) (n : ℕ) (role : Role) → HasRole role (rounds answer x n)
   has_it x zero Producer = refl
   has_it x zero Consumer = refl

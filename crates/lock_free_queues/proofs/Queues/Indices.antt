@@ -21,6 +21,7 @@ ends_at words_of value n a stage push_skips_true push_asks_is = grind (arith, na
 abbrev pub index_of : ℕ → Item ℕ
 index_of v = Index v
 
+-- the call of `steps` that pushes an index is a push of this number
 pub index_push : (v : ℕ) → IsPush one_word (Index v) (pushes_index v)
 index_push v =
     record {
@@ -42,6 +43,7 @@ pops_so : (o : Option ℕ) → popped {T = ℕ} o ≡ popped_item (option_map in
 pops_so None = refl
 pops_so (Some x) = refl
 
+-- the call of `steps` that pops an index is a pop, by way of a room of one word
 pub index_pop : IsPop index_of in_room pops_index
 index_pop =
     record {

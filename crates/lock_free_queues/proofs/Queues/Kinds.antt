@@ -49,6 +49,7 @@ module _ {T : Type 0} (code : Coding T) (law : IsCoding code) where
   looks_keep Overflow role = over_look_keeps code role
   looks_keep Queue role = value_look_keeps code law role
 
+  -- the calls on lengths keep the rule of a table that is a queue of any kind
   pub lengths_keep : (kd : QueueKind) (which : LengthOf)
       → KeepsRule (λ (z : View T). z.asked) (λ (z : View T). z.capacity)
       (λ (base : View T). At code (machine_kind kd) (counts_waiting which base.capacity) base)

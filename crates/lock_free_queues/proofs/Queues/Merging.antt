@@ -28,6 +28,8 @@ pub few_taken : (es : List (Event ℕ)) → length (taken by_pop es) + length (t
 few_taken [] = omega arith
 few_taken (HandedOut p x ∷ es) = go (by_pop (events_by p es)) (by_push (events_by p es)) refl refl (few_taken es)
   where
+    -- with the next event, which takes out x, the pops and the pushes took out no more together
+    -- than was taken out
     go : (a b : Bool) → by_pop (events_by p es) ≡ a → by_push (events_by p es) ≡ b
         → length (taken by_pop es) + length (taken by_push es) ≤ length (handed_out es)
         → length (if a then x ∷ taken by_pop es else taken by_pop es) + length (if b then x ∷ taken by_push es else taken by_push es)
@@ -49,6 +51,8 @@ merged (HandedOut p x ∷ es) e = go (by_pop (events_by p es)) (by_push (events_
     pushes : List (Item ℕ)
     pushes = taken by_push es
 
+    -- with the next event, which takes out x, what was taken out is a merge of what pops and of
+    -- what pushes took out, if both together took out all of it
     go : (a b : Bool) → by_pop (events_by p es) ≡ a → by_push (events_by p es) ≡ b
         → length pops + length pushes ≤ length (handed_out es)
         → (length pops + length pushes ≡ length (handed_out es) → Merges pops pushes (handed_out es))
@@ -65,6 +69,7 @@ none_of : (xs : List ℕ) → map item xs ≡ [] → xs ≡ []
 none_of [] e = refl
 none_of (x ∷ xs) e = absurd (cc)
 
+-- where a list of numbers as items begins with the item of z, the list of numbers begins with z
 first_of_items : (xs : List ℕ) (z : ℕ) (rest : List (Item ℕ)) → map item xs ≡ item z ∷ rest → (ws : List ℕ) × (xs ≡ z ∷ ws) × (rest ≡ map item ws)
 first_of_items [] z rest e = absurd (cc)
 first_of_items (x ∷ xs) z rest e =
@@ -73,6 +78,7 @@ first_of_items (x ∷ xs) z rest e =
     let more : map item xs ≡ rest = cc in
     (xs, ap (λ w. w ∷ xs) same, sym more)
 
+-- a merge of lists of numbers as items is one of the numbers
 pub numbers_merge : (xs ys zs : List ℕ) → Merges (map item xs) (map item ys) (map item zs) → Merges xs ys zs
 numbers_merge xs ys [] h = (none_of xs h.0, none_of ys h.1)
 numbers_merge xs ys (z ∷ zs) (inl h) =
@@ -84,10 +90,14 @@ numbers_merge xs ys (z ∷ zs) (inr h) =
 
 -- ---- both joined, and what waited is popped
 
+-- The first pass v of a queue of capacity n is split into left and right. With left all numbers
+-- are pushed, which hand back the numbers back, with right those of came are popped; both are
+-- joined to z, and with k, which has the consumer's role, what waits is popped, which leaves u.
 module _ (n : ℕ) (role : Role) (all back came new : List ℕ) (v left right a b z k u : View ℕ)
     (fits : length all < 2 ^ 64 - 1) (opens : v ≡ first_view n) (cut : HasSplit v left right)
     (s : HasPushedUpTo all back left a) (r : HasTaken came right b) (h : HasJoined a b z) (none : MissesNothing z)
     (goes : Goes z k) (acquired : HasAcquired role true z k) (drain : HasDrained came new k u) where
+  -- the pass that takes the consumer's role after both were joined has the whole share
   whole : IsAll k.share
   whole =
       let start : v.share ≡ all_shares = ap (λ (t : View ℕ). t.share) opens in
@@ -132,6 +142,7 @@ module _ (n : ℕ) (role : Role) (all back came new : List ℕ) (v left right a 
   emptied : handed_out u.seen ≡ published u.seen
   emptied = drain.emptied whole goes.all
 
+  -- in the end as many numbers were taken out as the pushes handed back and the pops took
   gets_all : length (handed_out u.seen) ≡ length back + (length came + length drain.more)
   gets_all =
       let size = counted.1 in
@@ -150,6 +161,8 @@ module _ (n : ℕ) (role : Role) (all back came new : List ℕ) (v left right a 
       subst (λ es. StandIn (map Index back) (taken by_push es)) (sym since.is)
       (grows by_push push_lasts (map Index back) a.seen since.rest (pushed.returned [] tt))
 
+  -- the numbers that were popped, before and after both were joined, stand in their order in what
+  -- pops took out
   in_pops : StandIn (map Index came ++ map Index drain.more) (taken by_pop u.seen)
   in_pops =
       let on = begins_further _ _ _ h.others goes.since in
@@ -157,6 +170,7 @@ module _ (n : ℕ) (role : Role) (all back came new : List ℕ) (v left right a 
       (subst (λ es. StandIn (map Index came) (taken by_pop es)) (sym on.is)
       (grows by_pop pop_lasts (map Index came) b.seen on.rest (r.popped [] tt)))
 
+  -- a list of numbers has as many items as numbers
   sizes : (length (map {B = Item ℕ} Index back) ≡ length back)
       × (length (map {B = Item ℕ} Index came ++ map Index drain.more) ≡ length came + length drain.more)
   sizes = (
@@ -167,6 +181,7 @@ module _ (n : ℕ) (role : Role) (all back came new : List ℕ) (v left right a 
         omega arith),
   )
 
+  -- the numbers that pushes handed back are all that pushes took out
   all_pushes : map Index back ≡ taken by_push u.seen
   all_pushes =
       same_list (map Index back) (taken by_push u.seen) in_pushes
@@ -177,6 +192,7 @@ module _ (n : ℕ) (role : Role) (all back came new : List ℕ) (v left right a 
       let all = gets_all in
       omega arith)
 
+  -- the numbers that were popped, before and after both were joined, are all that pops took out
   all_pops : map Index came ++ map Index drain.more ≡ taken by_pop u.seen
   all_pops =
       same_list (map Index came ++ map Index drain.more) (taken by_pop u.seen) in_pops

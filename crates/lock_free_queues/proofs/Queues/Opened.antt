@@ -43,6 +43,8 @@ use Rattle.lock_free_queues.proofs.Queues.Single.{wide_is, fresh_long}
 
 -- ---- the calls of the one party
 
+-- r says whether it is a queue of indices or of values, v is the value that is pushed and popped
+-- again and again
 module _ {T : Type 0} (code : Coding T) (law : IsCoding code) (r : Ring) (v : Val T (kind_of r)) (capacity : ℕ) (small : capacity < 2 ^ 32) where
   abbrev size : ℕ
   size = words_of_cell code.size (kind_of r)
@@ -108,6 +110,7 @@ module _ {T : Type 0} (code : Coding T) (law : IsCoding code) (r : Ring) (v : Va
         wrote_all = λ n p from e m es. Unit {0};
       }
 
+  -- the pop as a call of a pass, with nothing said of what it writes
   abbrev pop_call : Calling T (pop_calls.Pop (Val T (kind_of r)) (Room r)) (Room r) (Unit {0})
   pop_call =
       record {
@@ -132,6 +135,7 @@ module _ {T : Type 0} (code : Coding T) (law : IsCoding code) (r : Ring) (v : Va
       alone.goes_on machine words ts es start flight h a low asks finds
       words' next same goes.comes goes.quiet
 
+  -- n is the position of the next push and pop, ts are the turns so far, es the events so far
   module _ (room : 0 < capacity) (n : ℕ) (below_end : n < 2 ^ 64 - 1) (ts : List (Turn T)) (es : List (Event T)) where
     none : (capacity == 0) ≡ false
     none = some_cells capacity room
@@ -170,6 +174,8 @@ module _ {T : Type 0} (code : Coding T) (law : IsCoding code) (r : Ring) (v : Va
       word_low : (k : ℕ) → k < size → word_at cell k < 4 + size * capacity
       word_low k below = (let is = place_is k below in let inside = place_low k below in omega arith)
 
+      -- the push stores the words of its value from word k of the cell on, one turn for each, and
+      -- then stands at its last store
       fills : (us : List (Turn T)) (xs : List (Event T)) (rest k : ℕ) → k + suc rest ≡ size → Here (now k) us xs (Some (name, storing k))
           → Here (now size) (then_next us (suc rest)) xs (Some (name, pushing r v capacity (pushes.StoresWrite n)))
       fills us xs zero k sum h =
@@ -193,6 +199,8 @@ module _ {T : Type 0} (code : Coding T) (law : IsCoding code) (r : Ring) (v : Va
           (now (suc k)) (stored k (omega arith))
           (push_stores_cell code capacity r v n cell k (slice_index (now k) (word_at cell k)) t)))
 
+      -- a push by the party that has the producer's role, while it is alone and both positions are
+      -- n, moves the write position on, and publishes the value
       pushed : HasRole Producer es → Here (now 0) ts es None
           → Here (words_at (n + 1) n 0 0 (cells size)) (moved_turns size name ts) (es ++ pushed_once (Truth true) it) None
       pushed has h =
@@ -239,6 +247,8 @@ module _ {T : Type 0} (code : Coding T) (law : IsCoding code) (r : Ring) (v : Va
     room_at zero = fresh r
     room_at (suc k) = with_word r (room_at k) k (get_or ws k 0)
 
+    -- a room into which the first k words were read has these words first, and behind them what it
+    -- had
     room_is : (k : ℕ) → k ≤ size → words_in r (room_at k) ≡ mix k ws (words_in r (fresh r))
     room_is zero low = refl
     room_is (suc k) low =
@@ -248,6 +258,7 @@ module _ {T : Type 0} (code : Coding T) (law : IsCoding code) (r : Ring) (v : Va
         ∙ (ap (λ zs. set zs k (get_or ws k 0)) (room_is k (omega arith))
         ∙ mix_step k ws (words_in r (fresh r)) (omega arith) (omega arith))
 
+    -- what was read into the room once all words were read is the value
     reads_it : read_in code r (room_at size) ≡ v
     reads_it =
         let zs = words_in r (fresh r) in
@@ -281,6 +292,8 @@ module _ {T : Type 0} (code : Coding T) (law : IsCoding code) (r : Ring) (v : Va
       then_low : (k : ℕ) → k < size → word_at cell k < 4 + size * capacity
       then_low k below = (let is = place_is k below in let inside = place_low k below in omega arith)
 
+      -- the pop loads the words of the cell from word k on, one turn for each, and then stands at
+      -- its store of the read position
       loads : (us : List (Turn T)) (xs : List (Event T)) (rest k : ℕ) → k + suc rest ≡ size → Here then us xs (Some (Queues Pop, loading k))
           → Here then (then_next us (suc rest)) xs (Some (Queues Pop, last_of))
       loads us xs zero k sum h =
@@ -316,6 +329,8 @@ module _ {T : Type 0} (code : Coding T) (law : IsCoding code) (r : Ring) (v : Va
           then (set_same then (word_at cell k))
           (pop_loads_cell code capacity r n cell k (slice_index then (word_at cell k)) (room_at k) t))))
 
+      -- a pop by the party that has the consumer's role, while it is alone and the value stands in
+      -- the cell, moves the read position on, and takes the value out
       popped : HasRole Consumer es → Here then ts es None
           → Here (words_at (n + 1) (n + 1) 0 0 cells) (moved_turns size (Queues Pop) ts) (es ++ popped_once it) None
       popped role h =
@@ -385,6 +400,7 @@ module _ {T : Type 0} (code : Coding T) (law : IsCoding code) (r : Ring) (v : Va
   rank : (q k : ℕ) → k < size → (size * q + k) % size ≡ k
   rank q k below = mul-add-mod_self_left size q k ∙ mod-eq_of_lt below
 
+  -- after n rounds both positions are n, and the cells have the words of what was pushed
   driven : (n : ℕ) → 0 < capacity → n < 2 ^ 64 → Here (words_at n n 0 0 (cells_at n)) (took n) (rounds (Truth true) it n) None
   driven zero room low =
       let a =
@@ -428,6 +444,7 @@ module _ {T : Type 0} (code : Coding T) (law : IsCoding code) (r : Ring) (v : Va
       (subst (λ m. Here (words_at n n 0 0 (filled ws size capacity (size * m))) (took n) (rounds (Truth true) it n) None) all h)))
       (cases_lt n capacity)
 
+  -- after n rounds, with both roles given back, both positions are n, and the roles are free
   rests_at : (n : ℕ) → 0 < capacity → n < 2 ^ 64 → Here (words_at n n 1 1 (cells_at n)) (opened_turns size it n) (opened (Truth true) it n) None
   rests_at zero room low =
       let nothing = none_used size capacity in
@@ -442,6 +459,7 @@ module _ {T : Type 0} (code : Coding T) (law : IsCoding code) (r : Ring) (v : Va
       (opened_turns size it (position_at capacity position)) (opened (Truth true) it (position_at capacity position)) None
   rests position low = go capacity refl
     where
+      -- a queue of any capacity rests so; without capacity nothing was done
       go : (c : ℕ) → c ≡ capacity
           → Here (words_at (position_at capacity position) (position_at capacity position) 1 1 (cells_at position))
           (opened_turns size it (position_at capacity position)) (opened (Truth true) it (position_at capacity position)) None

@@ -23,6 +23,8 @@ use Rattle.lock_free_queues.proofs.Queues.Free.{is_free, few_when_free}
 use Rattle.lock_free_queues.proofs.Queues.Indices.{is_coding}
 use Rattle.lock_free_queues.proofs.Queues.Reads.{read_here}
 
+-- v is what the pass knew before it read the words, l says how they were read; the pass does not
+-- have the producer's role
 module _ (capacity : ℕ) (v : View ℕ) (words : List ℕ)
     (l : LastWords one_word kinds.Overflow (capacity + 1) capacity v words) (lacks : LacksRole Producer v.made) where
   -- the read position that leaves at most the capacity
@@ -53,6 +55,7 @@ module _ (capacity : ℕ) (v : View ℕ) (words : List ℕ)
   end : slice_index later 0 ≡ slice_index words 0
   end = other 0 (omega arith)
 
+  -- the words with this read position are those of a queue of one caller with this capacity
   pub over_fits : Represents capacity later
   over_fits =
       record {
@@ -93,6 +96,7 @@ module _ (capacity : ℕ) (v : View ℕ) (words : List ℕ)
   pub over_closes : Closes Index capacity v (list_in capacity later)
   over_closes = closing.closes_later one_word is_coding Overflow capacity v words l later above end from to exact
 
+  -- the list has the newest of what waited as the pass stood, at most the capacity of them
   pub newest : {E : Type 0} {k : queues.Ghosts E} {ws : Ghosts ℕ} (pass at : Pass E ℕ k ws) → view pass ≡ v → queue_of at ≡ queue_of pass
       → view at ≡ l.new → IsNewestThatWaits capacity pass (list_in capacity later)
   newest pass at is queue there =

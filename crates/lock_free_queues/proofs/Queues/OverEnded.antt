@@ -32,6 +32,8 @@ module _ {T : Type 0} (code : Coding T) (base w : View T) (h : IsHistory code ki
 
   -- ---- pushes
 
+  -- a push into an overflowing queue published its number right after all that was published
+  -- before, whatever it handed back
   pub over_published : (value : ℕ) (back : Option ℕ) → HasOverflowed value back base w → HasPublished (Index value) base w
   over_published value None push =
       (let p = push.by in
@@ -43,6 +45,7 @@ module _ {T : Type 0} (code : Coding T) (base w : View T) (h : IsHistory code ki
       (HandedOut p (Index oldest) ∷ Acted p (Queues (PushIndex value)) (PoppedIndex oldest) ∷ []) h tt push.called
       ((refl, refl), ((refl, refl), ((refl, refl), tt))))
 
+  -- a push that handed back a number has taken it out as the oldest that waited
   pub over_took : (value oldest : ℕ) → HasOverflowed value (Some oldest) base w → HasTakenFirst (Index oldest) base w
   over_took value oldest push =
       let p = push.by in
@@ -74,6 +77,7 @@ module _ {T : Type 0} (code : Coding T) (base w : View T) (h : IsHistory code ki
 
   -- ---- pops
 
+  -- a pop that answered a number has taken it out as the oldest that waited
   pub over_taken : (x : ℕ) → HasPopped (Some (Index x)) base w → HasTakenFirst (Index x) base w
   over_taken x popping =
       let p = popping.by in
@@ -106,6 +110,8 @@ module _ {T : Type 0} (code : Coding T) (base w : View T) (idle : base.going ≡
     overflowed : (e : PushEnd) (m : OneWord) → Ends code kinds.Overflow (pushes_over value) base e m w → HasOverflowed value (push_answer value m.0 e) base w
     overflowed e m ends = grind (arith, called, popped, told_is)
 
+    -- a push that is over is a call of the history with what it handed back, or handed back its
+    -- own number and was a look at a queue whose last position is reached
     pub over_pushed : (e : PushEnd) (m : OneWord) → Over code kinds.Overflow (pushes_over value) base e m w → Pushed (push_answer value m.0 e)
     over_pushed e m (inl ends) = inl (overflowed e m ends)
     over_pushed e m (inr left) =
@@ -134,6 +140,7 @@ module _ {T : Type 0} (code : Coding T) (base w : View T) (idle : base.going ≡
   abbrev named : ℕ → Item T
   named x = Index x
 
+  -- the call of `steps` that pops from an overflowing queue is a pop, by way of a room of one word
   over_pop : IsPop named in_room pops_over
   over_pop =
       record {

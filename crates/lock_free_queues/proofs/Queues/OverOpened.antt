@@ -148,6 +148,8 @@ module _ {T : Type 0} (code : Coding T) (law : IsCoding code) (capacity : ℕ) (
 
   -- ---- a step that goes on, and tells nothing
 
+  -- a turn of the one party whose step goes on and writes no event leads from each such moment to
+  -- the next
   step : (words : List ℕ) (ts : List (Turn T)) (es : List (Event T)) (start : Start T) (flight next : Flight T) (a : Ask)
       → Here words ts es (Some (start, flight)) → a.word < size → want_of code flight ≡ wants.Ask a
       → IsFreshCall (slice_index words a.word) flight → (words' : List ℕ)
@@ -159,6 +161,7 @@ module _ {T : Type 0} (code : Coding T) (law : IsCoding code) (capacity : ℕ) (
       alone.goes_on machine words ts es start flight h
       a low asks finds words' next same comes (quiet h.u.world)
 
+  -- n is the position of the next push and pop, ts are the turns so far, es the events so far
   module _ (room : 0 < capacity) (n : ℕ) (below_end : n < 2 ^ 64 - 1) (ts : List (Turn T)) (es : List (Event T)) where
     some : (capacity == 0) ≡ false
     some = some_cells capacity room
@@ -172,6 +175,7 @@ module _ {T : Type 0} (code : Coding T) (law : IsCoding code) (capacity : ℕ) (
     cell_low : cell < size
     cell_low = grind arith
 
+    -- the cell of position n has a zero, whatever the positions are
     zero_there : (write read : ℕ) → slice_index (at write read 0 0) cell ≡ 0
     zero_there write read =
         let low : n % (capacity + 1) < capacity + 1 = omega arith in
@@ -188,6 +192,8 @@ module _ {T : Type 0} (code : Coding T) (law : IsCoding code) (capacity : ℕ) (
     abbrev events_of_push : List (Event T)
     events_of_push = Published 0 it ∷ Acted 0 push_name answers.PoppedNone ∷ Finished 0 push_name answers.PoppedNone ∷ []
 
+    -- a push of 0 by the party that has the producer's role, while it is alone and both positions
+    -- are n, moves the write position on, and hands nothing back
     pushed : HasRole Producer es → Here (at n n 0 0) ts es None
         → Here (at (n + 1) n 0 0) (moved_turns 1 push_name ts) (es ++ pushed_once answers.PoppedNone it) None
     pushed has h =
@@ -250,6 +256,7 @@ module _ {T : Type 0} (code : Coding T) (law : IsCoding code) (capacity : ℕ) (
         (λ (other : push.0 ≢ 0). (let one : 1 ≤ push.0 = omega arith in let no = sym (h.between.further push.0 other one) ∙ waits.there in absurd (cc)))
         (cases_eq push.0 0)
 
+    -- the last step of the pop writes that it takes 0 out, and that it acted
     wrote_then : (us : List (Turn T)) (xs : List (Event T))
         → (h : Here then us xs (Some (pop_name, popping capacity (pops.MovesRead n))))
         → over_effects h.u.world 0 (popping capacity (pops.MovesRead n)) n
@@ -263,6 +270,8 @@ module _ {T : Type 0} (code : Coding T) (law : IsCoding code) (capacity : ℕ) (
         pop_tells code capacity n (same_number n) w words
         (none_beside us xs (popping capacity (pops.MovesRead n)) h (beside_of w.words w.kept w.latest 0) refl)
 
+    -- a pop by the party that has the consumer's role, while it is alone and 0 waits at position
+    -- n, moves the read position on, and takes 0 out
     popped : HasRole Consumer es → Here then ts es None → Here (at (n + 1) (n + 1) 0 0) (moved_turns 1 pop_name ts) (es ++ popped_once it) None
     popped role h =
         let xs = es ++ Begun 0 pop_name ∷ [] in
@@ -323,6 +332,7 @@ module _ {T : Type 0} (code : Coding T) (law : IsCoding code) (capacity : ℕ) (
   abbrev took : ℕ → List (Turn T)
   took n = round_turns 1 it n
 
+  -- after n rounds both positions are n, and the cells have zeros
   driven : (n : ℕ) → 0 < capacity → n < 2 ^ 64 → Here (at n n 0 0) (took n) (turns n) None
   driven zero room low =
       takes_both code Overflow capacity size over_effects (overflow_owes code capacity) (omega arith) quiet_roles 0 0
@@ -338,6 +348,7 @@ module _ {T : Type 0} (code : Coding T) (law : IsCoding code) (capacity : ℕ) (
       (subst (λ zs. Here (at (n + 1) (n + 1) 0 0) (took (suc n)) zs None)
       (append_assoc (turns n) (pushed_once answers.PoppedNone it) (popped_once it)) b)
 
+  -- after n rounds, with both roles given back, both positions are n, and the roles are free
   rests_at : (n : ℕ) → 0 < capacity → n < 2 ^ 64 → Here (at n n 1 1) (opened_turns 1 it n) (opened answers.PoppedNone it n) None
   rests_at zero room low = starts
   rests_at (suc n) room low =
@@ -350,6 +361,7 @@ module _ {T : Type 0} (code : Coding T) (law : IsCoding code) (capacity : ℕ) (
       (opened_turns 1 it (position_at capacity position)) (opened answers.PoppedNone it (position_at capacity position)) None
   rests position low = go capacity refl
     where
+      -- a queue of any capacity rests so; without capacity nothing was done
       go : (c : ℕ) → c ≡ capacity
           → Here (at (position_at capacity position) (position_at capacity position) 1 1)
           (opened_turns 1 it (position_at capacity position)) (opened answers.PoppedNone it (position_at capacity position)) None

@@ -22,6 +22,7 @@ module _ {T : Type 0} (code : Coding T) (kd : QueueKind) (base w : View T) (idle
 module _ {T : Type 0} (code : Coding T) (base w : View T) (idle : base.going ≡ None) where
   -- ---- roles and lengths
 
+  -- a call that takes a role takes one operation on a word at most
   pub acquire_takes : (kd : QueueKind) (role : Role) (e : Bool) (m : Unit {0}) → Ends code (machine_kind kd) (takes_role role) base e m w → TakesAtMost 1 base w
   acquire_takes IndexQueue Producer e m ends = takes_here code IndexQueue base w idle (takes_role Producer) e m (omega arith) ends
   acquire_takes IndexQueue Consumer e m ends = takes_here code IndexQueue base w idle (takes_role Consumer) e m (omega arith) ends
@@ -30,6 +31,7 @@ module _ {T : Type 0} (code : Coding T) (base w : View T) (idle : base.going ≡
   acquire_takes Queue Producer e m ends = takes_here code Queue base w idle (takes_role Producer) e m (omega arith) ends
   acquire_takes Queue Consumer e m ends = takes_here code Queue base w idle (takes_role Consumer) e m (omega arith) ends
 
+  -- a call that gives a role back takes one operation on a word at most
   pub release_takes : (kd : QueueKind) (role : Role) (e m : Unit {0}) → Ends code (machine_kind kd) (gives_role role) base e m w → TakesAtMost 1 base w
   release_takes IndexQueue Producer e m ends = takes_here code IndexQueue base w idle (gives_role Producer) e m (omega arith) ends
   release_takes IndexQueue Consumer e m ends = takes_here code IndexQueue base w idle (gives_role Consumer) e m (omega arith) ends
@@ -38,6 +40,7 @@ module _ {T : Type 0} (code : Coding T) (base w : View T) (idle : base.going ≡
   release_takes Queue Producer e m ends = takes_here code Queue base w idle (gives_role Producer) e m (omega arith) ends
   release_takes Queue Consumer e m ends = takes_here code Queue base w idle (gives_role Consumer) e m (omega arith) ends
 
+  -- a call that looks whether a role is taken takes one operation on a word at most
   pub look_takes : (kd : QueueKind) (role : Role) (e : Bool) (m : Unit {0}) → Ends code (machine_kind kd) (looks_role role) base e m w → TakesAtMost 1 base w
   look_takes IndexQueue Producer e m ends = takes_here code IndexQueue base w idle (looks_role Producer) e m (omega arith) ends
   look_takes IndexQueue Consumer e m ends = takes_here code IndexQueue base w idle (looks_role Consumer) e m (omega arith) ends
@@ -49,6 +52,8 @@ module _ {T : Type 0} (code : Coding T) (base w : View T) (idle : base.going ≡
   abbrev Counts : QueueKind → LengthOf → ℕ → Unit {0} → Type 0
   Counts kd which n m = Ends code (machine_kind kd) (counts_waiting which base.capacity) base n m w
 
+  -- a call on lengths takes at most four operations, and four more for each change of a word that
+  -- others make meanwhile
   pub length_takes : (kd : QueueKind) (which : LengthOf) (n : ℕ) (m : Unit {0}) → Counts kd which n m
       → TakesAlone 4 4 base w
   length_takes IndexQueue measures.Len n m ends = takes_here code IndexQueue base w idle (counts_waiting measures.Len base.capacity) n m (omega arith) ends

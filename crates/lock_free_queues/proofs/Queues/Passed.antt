@@ -41,6 +41,7 @@ module _ {T V : Type 0} (named : V → Item T) (tells : TellsApart named) where
       let here : named y ≡ named x = cc in
       ap (λ ws. x ∷ ws) (begins_with xs ys zs more) ∙ ap (λ w. w ∷ take (length xs) ys) (sym (tells y x here))
 
+  -- two lists of values with the same names are the same
   pub same_values : (xs ys : List V) → map named xs ≡ map named ys → xs ≡ ys
   same_values [] [] e = refl
   same_values [] (y ∷ ys) e = absurd (cc)
@@ -85,6 +86,7 @@ passed {T} {V} {named} {sent} {received} {n} {first} {left} {right} {a} {b} {z} 
     (cut.right_seen ∙ ap (λ (t : View T). t.seen) opens, cut.right_made) s r
     (λ f. ap (sum_by f) h.made ∙ sum_by-append f a.made b.made) h.ours h.others
   where
+    -- the pass to which both halves are joined has the whole share
     whole : IsAll z.share
     whole =
         let start : first.share ≡ all_shares = ap (λ (t : View T). t.share) opens in
@@ -180,6 +182,8 @@ emptied_is_all {T} {V} {named} {sent} {received} {v} {w} code kind capacity tell
 
 -- ---- calls that succeed
 
+-- where fewer were seen to wait than the capacity, and the last position was not reached, no push
+-- is refused
 not_full : {T : Type 0} (capacity : ℕ) (item : Item T) (old new : View T) → length (waiting old.seen) < capacity
     → length (published old.seen) < 2 ^ 64 - 1 → PushRefused capacity item old new → ⊥
 not_full capacity item old new room early (inl (pushed, f)) =
@@ -210,6 +214,7 @@ counted_push_succeeds {T} {item} {old} {new} code kind capacity taken history wh
     let q = counted.1 in
     push_succeeds {capacity = capacity} {item = item} {old = old} {new = new} taken (omega arith) (omega arith) full
 
+-- where something was seen to wait, no pop of the one that alone takes out finds the queue empty
 none_waited : {T : Type 0} (old new : View T) → 0 < length (waiting old.seen) → WasEmpty old new → ⊥
 none_waited old new some h =
     let more = hits_grow publishes old.seen h.before h.since in

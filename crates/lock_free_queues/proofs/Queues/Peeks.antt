@@ -57,6 +57,8 @@ module _ {T : Type 0} where
       c.is ∙ sym (append_assoc (old.seen ++ c.others) (Begun p start ∷ c.during) (Finished p start answer ∷ []))
 
 module _ {T : Type 0} (code : Coding T) (kd : QueueKind) (base w : View T) where
+  -- of a queue from which the consumer alone takes: a peek that wrote nothing, and whose end was
+  -- the machine's last step, answers the oldest value that waits, and meanwhile none was taken out
   peeked_by : IsAlone kd Consumer → (p : ℕ) (answer : Option (Item T)) → w.party ≡ Some p
       → Called p (Queues Peek) (popped_item answer) [] base w → IsSeen code kd base.capacity w.seen
       → LastStep code (machine_kind kd) base.capacity p (Finished p (Queues Peek) (popped_item answer)) w.seen
@@ -102,6 +104,7 @@ module _ {T : Type 0} (code : Coding T) (kd : QueueKind) (base w : View T) where
 
     -- ---- roles
 
+    -- a look at a role that has ended answers whether somebody has the role
     pub seen_role : (role : Role) (taken : Bool) (m : Unit {0}) → Ends code (machine_kind kd) (looks_role role) base taken m w
         → HasSeenRole role taken base w
     seen_role role taken m ends =

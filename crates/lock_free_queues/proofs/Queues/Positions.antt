@@ -24,6 +24,7 @@ at_rank : {T A : Type 0} (hit : Event T → List A) (before after : List (Event 
     → slice_get (flat_map hit (before ++ e ∷ after)) (length (flat_map hit before)) ≡ Some x
 at_rank hit before after e x = grind (arith, length, flat_map-append, get_here)
 
+-- q is a party, j a position, y an item
 module _ {T : Type 0} (events : List (Event T)) (q j : ℕ) (y : Item T) where
   -- each position is below their number
   pub published_low : IsPublished q j y events → j < length (published events)
@@ -32,7 +33,9 @@ module _ {T : Type 0} (events : List (Event T)) (q j : ℕ) (y : Item T) where
   pub taken_low : IsTaken q j y events → j < length (handed_out events)
   taken_low a = (let low = rank_low hands_out events a.before a.after (HandedOut q y) y refl a.is in let rank = a.rank in omega arith)
 
+-- p and q are parties, i is a position, x and y are items
 module _ {T : Type 0} (p q i : ℕ) (x y : Item T) (events : List (Event T)) where
+  -- one party at most published at a position, and one item
   pub published_once : IsPublished p i x events → IsPublished q i y events → (p ≡ q) × (x ≡ y)
   published_once a b =
       let same : ◌≡◌ {A = Event T} (Published p x) (Published q y) =
@@ -40,6 +43,7 @@ module _ {T : Type 0} (p q i : ℕ) (x y : Item T) (events : List (Event T)) whe
       (sym a.is ∙ b.is) (sym a.rank ∙ b.rank) in
       (let l : p ≡ q = cc in l, let r : x ≡ y = cc in r)
 
+  -- one party at most took from a position, and one item
   pub taken_once : IsTaken p i x events → IsTaken q i y events → (p ≡ q) × (x ≡ y)
   taken_once a b =
       let same : ◌≡◌ {A = Event T} (HandedOut p x) (HandedOut q y) =
@@ -47,6 +51,8 @@ module _ {T : Type 0} (p q i : ℕ) (x y : Item T) (events : List (Event T)) whe
       (sym a.is ∙ b.is) (sym a.rank ∙ b.rank) in
       (let l : p ≡ q = cc in l, let r : x ≡ y = cc in r)
 
+  -- where what was taken out is a beginning of what was published, what was taken from a position
+  -- is what was published there
   pub values_agree : published events ≡ handed_out events ++ waiting events → IsPublished p i x events → IsTaken q i y events → x ≡ y
   values_agree book a b =
       let one : slice_get (published events) i ≡ Some x =
@@ -67,6 +73,7 @@ module _ {T : Type 0} (p q i : ℕ) (x y : Item T) (events : List (Event T)) whe
   pub still_taken : (more : List (Event T)) → IsBeginning events more → IsTaken p i x events → IsTaken p i x more
   still_taken more beginning taken = grind (arith, append_assoc)
 
+-- a history of a bounded queue says of itself what is promised of each
 pub sound_history : {T : Type 0} (code : Coding T) (r : Ring) (capacity : ℕ) (events : List (Event T))
     → IsHistory code (machine_kind (kind_of r)) capacity events → IsSound capacity events
 sound_history code r capacity events h =

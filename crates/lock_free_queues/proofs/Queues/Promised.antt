@@ -30,6 +30,7 @@ module _ {T : Type 0} (code : Coding T) where
       (let t = h.trace in let r = h.run in let on = queue_run code capacity kind t r in subst (λ k. IsLinearized k t) r.of_kind
       (run_linearizable t (kept_on kind t r.of_kind on.reached.coded on.reached.admitted on.fresh)))
 
+  -- what a pass has seen of a queue is linearizable as a list of this kind and capacity
   pub linearizable : (kind : QueueKind) (capacity : ℕ) (v : View T) → IsSeen kind capacity v.seen → IsLinearizable (as_list kind capacity) v.seen
   linearizable queues.IndexQueue capacity v h =
       subst (λ es. IsLinearizable (as_list queues.IndexQueue capacity) es) (sym h.is)
@@ -63,6 +64,7 @@ module _ {T : Type 0} (code : Coding T) where
       → IsPublished p i x v.seen → IsTaken q i y v.seen → x ≡ y
   agree kind capacity p q i x y v h a b = values_agree p q i x y v.seen (listed_always code capacity v.seen kind h v.seen [] (sym (append-nil v.seen))).book a b
 
+  -- a history of an overflowing queue says of itself what is promised of each
   pub over_sound : (capacity : ℕ) (v : View T) → IsSeen queues.Overflow capacity v.seen → IsOverSound capacity v.seen
   over_sound capacity v h =
       record {
@@ -91,6 +93,8 @@ module _ {T : Type 0} (old new : View T) where
       → (q j : ℕ) (y : Item T) → IsTaken q j y old.seen → j + capacity < length (published old.seen)
   full_above capacity item all h q j y a = subst (λ n. j + capacity < n) (ap length h.next) (full_below old new capacity item h all q j y a)
 
+  -- an item that was taken out as the oldest was taken from a position that is no lower than the
+  -- number of those that were seen to be taken
   pub taken_first : (item : Item T) → HasTakenFirst item old new → (p i : ℕ) × IsTaken p i item new.seen × (length (handed_out old.seen) ≤ i)
   taken_first item h = (
     h.by,
@@ -99,6 +103,8 @@ module _ {T : Type 0} (old new : View T) where
     hits_grow hands_out old.seen h.before h.since,
   )
 
+  -- where a pop found nothing, each position that was seen to be published lies below the number
+  -- of values that were taken out in the end
   pub none_waited : FoundNone old new → (q j : ℕ) (y : Item T) → IsPublished q j y old.seen → (i : ℕ) × (j < i) × (i ≤ length (handed_out new.seen))
   none_waited h q j y a = (
     length (handed_out h.before),

@@ -32,6 +32,7 @@ module _ {T : Type 0} where
   not_read v all = record { share = refl; since = itself v.seen; made = refl; whole = λ x. refl; all = all }
 
 module _ {T : Type 0} (code : Coding T) (kd : QueueKind) where
+  -- v and w are what the pass knew before a look at the word and after it, l says how it looked
   module _ (capacity word found : ℕ) (v w : View T) (same : v.capacity ≡ capacity)
       (low : word < 4 + words_in_cells code.size kd capacity)
       (l : LooksAt code (machine_kind kd) v.capacity word v found w) where
@@ -47,6 +48,7 @@ module _ {T : Type 0} (code : Coding T) (kd : QueueKind) where
     pub was_read : WasRead code (machine_kind kd) capacity v w word found
     was_read = record { trace = l.trace; run = run; since = subst (IsBeginning v.seen) l.seen l.looks.mine; until = ends_there; found_is = has_word }
 
+    -- a word that was looked at was read of a machine whose history is just what is seen then
     pub was_read_last : WasRead code (machine_kind kd) capacity w w word found
     was_read_last =
         record {
@@ -57,6 +59,8 @@ module _ {T : Type 0} (code : Coding T) (kd : QueueKind) where
           found_is = has_word;
         }
 
+    -- a look changes nothing of what the pass has made and of its share, and with the whole share
+    -- of what it has seen
     pub has_read : v.other ≡ [] → HasRead v w
     has_read alone =
         record {
@@ -82,6 +86,7 @@ module _ {T : Type 0} (code : Coding T) (kd : QueueKind) where
   calm : (kind : QueueKind) (going : Option (Start T × Flight T)) → going ≡ None → (late : List (Event T)) → IsLate (machine_kind kind) going late → late ≡ []
   calm kind going going_is_none late is_late = grind arith
 
+  -- what a look owes is so where the seat has a share, and no call under way
   pub owed : (key slots id word : ℕ) (v : View T) (me : Me (Unit {0}) (View T)) → me ≡ (v, []) → v.capacity ≡ key
       → v.going ≡ None → 0 < v.share.part → Owed key slots id word me
   owed key slots id word v me same size idle some =
@@ -118,6 +123,7 @@ module _ {T : Type 0} (code : Coding T) (kd : QueueKind) where
       (below, owed key slots id word v (v, []) refl size idle some)
 
 module _ {T : Type 0} (code : Coding T) (kind : Kind) where
+  -- with the whole share, a look sees nothing more
   pub has_looked : (v w : View T) → v.other ≡ [] → Looks code kind v.capacity v w → HasLooked v w
   has_looked v w alone looks =
       record {
@@ -130,6 +136,7 @@ module _ {T : Type 0} (code : Coding T) (kind : Kind) where
 
   -- ---- one load after another
 
+  -- a word that was read since a later view was read since an earlier one
   pub read_since : (capacity word found : ℕ) (v w x : View T) → HasRead v w
       → WasRead code kind capacity w x word found → WasRead code kind capacity v x word found
   read_since capacity word found v w x a r =
@@ -141,6 +148,7 @@ module _ {T : Type 0} (code : Coding T) (kind : Kind) where
         found_is = r.found_is;
       }
 
+  -- a word that was read until an earlier view was read until a later one
   pub read_until : (capacity word found : ℕ) (v w x : View T) → WasRead code kind capacity v w word found
       → HasRead w x → WasRead code kind capacity v x word found
   read_until capacity word found v w x r b =

@@ -29,6 +29,7 @@ use Rattle.lock_free_queues.proofs.Queues.Sums.{done_pushed, done_refused, done_
 -- ---- a list that grows by one
 
 module _ {T V : Type 0} (named : V → Item T) (start : List (Item T)) (values : List V) (value : V) where
+  -- a list of items that grows by one value's item grows by this value in the list of values
   grown : (was now : List (Item T)) → was ≡ start ++ map named values → now ≡ was ++ named value ∷ []
       → now ≡ start ++ map named (values ++ value ∷ [])
   grown was now list more =
@@ -57,6 +58,7 @@ module _ {E T V : Type 0} {kind : kinds.Ghosts E} {words : Ghosts T} {named : V 
         share = refl;
       })
 
+  -- a consumer has popped nothing since it was itself
   pub receiving_none : {first : Consumer E T kind words} {values : List V} → values ≡ [] → Receiving named first values first
   receiving_none {first} {values} none =
       subst (λ xs. Receiving named first xs first) (sym none)
@@ -71,6 +73,7 @@ module _ {E T V : Type 0} {kind : kinds.Ghosts E} {words : Ghosts T} {named : V 
 module _ {E T V : Type 0} {kind : kinds.Ghosts E} {words : Ghosts T} {named : V → Item T} where
   -- ---- who pushes
 
+  -- a push that was taken adds its value to those that the producer has pushed
   pub sending_one : {first was now : Producer E T kind words} {taken : Bool} (values : List V) (value : V)
       → Sending named first values was → SameProducer was now → taken ≡ true
       → (taken ≡ true → PushDone (named value) (producer_view was) (producer_view now)) → Sending named first (values ++ value ∷ []) now
@@ -137,6 +140,7 @@ module _ {E T V : Type 0} {kind : kinds.Ghosts E} {words : Ghosts T} {named : V 
 
   -- ---- who pops
 
+  -- a pop that answers a value adds it to those that the consumer has popped
   pub receiving_one : {first was now : Consumer E T kind words} {answer : Option V} (values more : List V) (value : V)
       → Receiving named first values was → SameConsumer was now
       → IfSome answer (λ x. PopDone (named x) (consumer_view was) (consumer_view now))
@@ -198,6 +202,9 @@ module _ {E T V : Type 0} {kind : kinds.Ghosts E} {words : Ghosts T} {named : V 
 
 -- ---- both joined, and one pop more
 
+-- what came is a beginning of what was sent, in order, and all of it just where the last pop finds
+-- nothing; no more is left than the queue has room for: of the views of the two halves of a first
+-- pass, joined, and of one pop
 pub views_relayed : {T V : Type 0} (named : V → Item T) (code : Coding T) (queue : QueueKind) (n most : ℕ) (role : Role)
     (first left right mine theirs joined taking last : View T) (sent received : List V) (answer : Option V) (emptied : Bool)
     → TellsApart named → IsBounded queue → first ≡ first_view n → HasSplit first left right → HasSent named sent left mine

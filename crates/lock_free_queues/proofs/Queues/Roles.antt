@@ -43,6 +43,8 @@ module _ {T : Type 0} (code : Coding T) (kd : QueueKind) (capacity size : ℕ)
     abbrev released : List (Event T)
     released = Begun 0 (Queues (release_start role)) ∷ Finished 0 (Queues (release_start role)) answers.Done ∷ []
 
+    -- a free role is taken by the one party with one step, which writes the begin and the end of
+    -- the call
     role_taken : slice_index words (role_word role) ≡ 1 → slice_set words (role_word role) 0 ≡ words'
         → Now words' (call_turns ts (Queues (acquire_start role)) 1) (es ++ acquired)
     role_taken free same =
@@ -62,6 +64,8 @@ module _ {T : Type 0} (code : Coding T) (kd : QueueKind) (capacity size : ℕ)
         (ap (λ k. Done (Truth (k == 1))) free) ((quiet role).0 a.u.world (slice_index words (role_word role))) tt in
         subst (λ zs. Now words' (call_turns ts start 1) zs) (append_assoc es (Begun 0 start ∷ []) (Finished 0 start (Truth true) ∷ [])) b
 
+    -- a role that the one party has is given back with one step, which writes the begin and the
+    -- end of the call
     role_given : HasRole role es → slice_set words (role_word role) 1 ≡ words' → Now words' (call_turns ts (Queues (release_start role)) 1) (es ++ released)
     role_given has same =
         let start = Queues (release_start role) in
@@ -89,6 +93,7 @@ module _ {T : Type 0} (code : Coding T) (kd : QueueKind) (capacity size : ℕ)
         role_taken Consumer (now 0 1) (now 0 0) (call_turns [] (Queues AcquireProducer) 1) (acquired Producer (now 1 1) (now 0 1) [] [] h)
         (role_taken Producer (now 1 1) (now 0 1) [] [] h refl refl) refl refl
 
+    -- from the moment where the one party has both roles, it gives both back with a step each
     pub gives_both : (ts : List (Turn T)) (es : List (Event T)) → ((role : Role) → HasRole role es) → Now (now 0 0) ts es
         → Now (now 1 1) (given_turns ts) (es ++ given_roles)
     gives_both ts es has h =

@@ -23,6 +23,7 @@ length_named named [] = refl
 length_named named (x ∷ xs) = (let rest = length_named named xs in omega arith)
 
 module _ {T V : Type 0} (tells : Event T → List (Item T)) (named : V → Item T) where
+  -- a call that publishes and takes out nothing itself adds no value to the list
   pub appended_none : (v w : View T) → IsBeginning v.seen w.seen → w.share ≡ v.share → HasDone 0 0 v w → HasAppended tells named [] 0 0 v w
   appended_none v w begins share done =
       record {
@@ -34,7 +35,9 @@ module _ {T V : Type 0} (tells : Event T → List (Item T)) (named : V → Item 
         share = share;
       }
 
+  -- from v to w the pass has added xs, as k says; it goes on from w to u
   module _ (xs : List V) (put got : ℕ) (v w u : View T) (k : HasAppended tells named xs put got v w) (share : u.share ≡ w.share) where
+    -- a call that ends the list with one value's item adds this value, and its own counts
     pub appended_more : (x : V) (p g : ℕ) → HasDone p g w u → flat_map tells u.seen ≡ flat_map tells w.seen ++ named x ∷ []
         → HasAppended tells named (xs ++ x ∷ []) (put + p) (got + g) v u
     appended_more x p g done is =
@@ -48,6 +51,8 @@ module _ {T V : Type 0} (tells : Event T → List (Item T)) (named : V → Item 
           share = share ∙ k.share;
         }
 
+    -- a call that leaves the list as it was, and publishes and takes out nothing itself, leaves
+    -- what was added
     pub appended_same : HasDone 0 0 w u → flat_map tells u.seen ≡ flat_map tells w.seen → HasAppended tells named xs put got v u
     appended_same done is =
         let a = k.done in
@@ -91,6 +96,7 @@ module _ {T V : Type 0} {named : V → Item T} where
   pub sent_none : {role : Role} {old new : View T} → Goes old new → HasAcquired role true old new → HasSent named [] old new
   sent_none {role} {old} {new} goes h = appended_none publishes named old new goes.since goes.share (done_acquired old new role true h)
 
+  -- a push that was taken adds its value to those that were sent
   pub sent_one : {old was new : View T} (values : List V) (value : V) → HasSent named values old was
       → Goes was new → PushDone (named value) was new → HasSent named (values ++ value ∷ []) old new
   sent_one {old} {was} {new} values value k goes h =

@@ -61,6 +61,7 @@ module _ {T : Type 0} (code : Coding T) (capacity : ℕ) where
   push_wants of_indices v stage = refl
   push_wants of_values v stage = refl
 
+  -- a stage of a push that does not find the last position is a call that does not find it
   pub push_fresh : (r : Ring) (v : Val T (kind_of r)) (n : ℕ) (stage : PushStage) → IsFresh n stage → IsFreshCall n (pushing r v capacity stage)
   push_fresh of_indices v n stage h = h
   push_fresh of_values v n stage h = h

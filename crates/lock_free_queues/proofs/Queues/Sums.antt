@@ -65,6 +65,7 @@ module _ {T : Type 0} where
 
     -- ---- what it moves of the roles
 
+    -- a call that writes nothing but its begin and its end moves a role as often as its end does
     moves : (p : ℕ) (start : Start T) (answer : Answer T) → Called p start answer [] old new → (q : Role) (n m : ℕ)
         → takes q (Begun p start) ≡ 0 → gives q (Begun p start) ≡ 0
         → takes q (Finished p start answer) ≡ n → gives q (Finished p start answer) ≡ m → Moved q n m old.made new.made
@@ -73,6 +74,8 @@ module _ {T : Type 0} where
         let g : sum_by (gives q) new.made ≡ sum_by (gives q) old.made + (0 + m) = made_more p start answer [] old new call (gives q) b m d in
         record { takes = omega arith; gives = omega arith }
 
+    -- a call that takes a role moves it once where it answers true, and else not, and never moves
+    -- the other role
     pub acquired_moves : (role : Role) (taken : Bool) → HasAcquired role taken old new
         → (taken ≡ true → Moved role 1 0 old.made new.made) × (taken ≡ false → Moved role 0 0 old.made new.made)
         × Moved (other_role role) 0 0 old.made new.made
@@ -126,6 +129,7 @@ module _ {T : Type 0} where
     overflowed_moves value (Some oldest) h Producer = none_moved h.by _ _ _ h.called Producer refl refl refl refl refl refl
     overflowed_moves value (Some oldest) h Consumer = none_moved h.by _ _ _ h.called Consumer refl refl refl refl refl refl
 
+    -- a push into an overflowing queue, or a look in its place, moves no role
     pub over_push_moves : (value : ℕ) (back : Option ℕ) → HasOverflowed value back old new ⊎ (back ≡ Some value) × WasAtEnd old new
         → (q : Role) → Moved q 0 0 old.made new.made
     over_push_moves value back (inl h) q = overflowed_moves value back h q
@@ -141,6 +145,7 @@ module _ {T : Type 0} where
 
   -- ---- what they count
 
+  -- the number of pushes that events count is the number of items that were published
   pub all_puts : (events : List (Event T)) → sum_by puts events ≡ length (published events)
   all_puts [] = refl
   all_puts (e ∷ es) =
@@ -154,6 +159,7 @@ module _ {T : Type 0} where
       put_once (Published p item) = refl
       put_once x = refl
 
+  -- the number of pops that events count is the number of items that were taken out
   pub all_gets : (events : List (Event T)) → sum_by gets events ≡ length (handed_out events)
   all_gets [] = refl
   all_gets (e ∷ es) =

@@ -53,6 +53,8 @@ module _ {A : Type 0} where
 
 -- ---- what was taken out, as the history grows
 
+-- by says of what a party did next whether it was to act as such a call; lasts: a yes stays as
+-- more events follow
 module _ (by : List (Event ℕ) → Bool) (lasts : (xs ys : List (Event ℕ)) → by xs ≡ true → by (xs ++ ys) ≡ true) where
   next_lasts : (p : ℕ) (es ys : List (Event ℕ)) → by (events_by p es) ≡ true → by (events_by p (es ++ ys)) ≡ true
   next_lasts p es ys t = ap by (by_more p es ys) ∙ lasts (events_by p es) (events_by p ys) t
@@ -65,6 +67,8 @@ module _ (by : List (Event ℕ) → Bool) (lasts : (xs ys : List (Event ℕ)) �
   grows zs [] ys h = in_nothing zs (taken by ys) h
   grows zs (HandedOut p x ∷ es) ys h = go (by (events_by p es)) refl (λ vs. grows vs es ys) h
     where
+      -- with an item first that was taken out by such a call, a list that stands in it stands in
+      -- the longer one too
       here : (us : List (Item ℕ))
           → ((vs : List (Item ℕ)) → StandIn vs (taken by es) → StandIn vs (taken by (es ++ ys)))
           → StandIn us (x ∷ taken by es) → StandIn us (x ∷ taken by (es ++ ys))
@@ -72,6 +76,8 @@ module _ (by : List (Event ℕ) → Bool) (lasts : (xs ys : List (Event ℕ)) �
       here (u ∷ us) later (inl k) = inl (k.0, later us k.1)
       here (u ∷ us) later (inr k) = inr (later (u ∷ us) k)
 
+      -- an item that is taken out first, by such a call or not, leaves a list standing in what was
+      -- taken out as events follow
       go : (b : Bool) → by (events_by p es) ≡ b
           → ((vs : List (Item ℕ)) → StandIn vs (taken by es) → StandIn vs (taken by (es ++ ys)))
           → StandIn zs (if b then x ∷ taken by es else taken by es) → StandIn zs (taken by (HandedOut p x ∷ (es ++ ys)))
@@ -89,6 +95,8 @@ module _ (by : List (Event ℕ) → Bool) (lasts : (xs ys : List (Event ℕ)) �
       rest : List (Event ℕ)
       rest = es ++ HandedOut p x ∷ ys
 
+      -- with an item first that was taken out by such a call, a list and x stand in the longer one
+      -- too
       here : (us : List (Item ℕ))
           → ((vs : List (Item ℕ)) → StandIn vs (taken by es) → StandIn (vs ++ x ∷ []) (taken by rest))
           → StandIn us (y ∷ taken by es) → StandIn (us ++ x ∷ []) (y ∷ taken by rest)
@@ -96,6 +104,8 @@ module _ (by : List (Event ℕ) → Bool) (lasts : (xs ys : List (Event ℕ)) �
       here (u ∷ us) later (inl k) = inl (k.0, later us k.1)
       here (u ∷ us) later (inr k) = inr (later (u ∷ us) k)
 
+      -- an item that is taken out first, by such a call or not, leaves a list and x standing in
+      -- what was taken out
       go : (b : Bool) → by (events_by q es) ≡ b
           → ((vs : List (Item ℕ)) → StandIn vs (taken by es) → StandIn (vs ++ x ∷ []) (taken by rest))
           → StandIn zs (if b then y ∷ taken by es else taken by es)
@@ -114,6 +124,8 @@ module _ (by : List (Event ℕ) → Bool) (lasts : (xs ys : List (Event ℕ)) �
       subst (λ es. StandIn (earlier ++ map Index xs) (taken by es)) (sym begins.is)
       (grows (earlier ++ map Index xs) w.seen begins.rest (k earlier h))
 
+  -- after numbers that were taken out, one more that is taken out by such a call stands behind
+  -- them
   took_more : (xs : List ℕ) (x p : ℕ) (v w u : View ℕ) (before after : List (Event ℕ)) → TookOut by xs v w
       → IsBeginning w.seen before → u.seen ≡ before ++ HandedOut p (Index x) ∷ after → by (events_by p after) ≡ true
       → TookOut by (xs ++ x ∷ []) v u
@@ -146,6 +158,7 @@ pop_wrote xs x v w u k h =
     let at = first_wrote p (Queues Pop) (PoppedIndex x) (HandedOut p (Index x)) (Acted p (Queues Pop) (PoppedIndex x) ∷ []) w u h.called in
     took_more by_pop pop_lasts xs x p v w u at.before at.after k at.since at.is (ap by_pop at.mine)
 
+-- who takes a role has popped nothing by that
 pub takes_none : (role : Role) (v w : View ℕ) → Goes v w → HasAcquired role true v w → HasTaken [] v w
 takes_none role v w goes h =
     record {
@@ -156,6 +169,7 @@ takes_none role v w goes h =
       all = λ none. goes.all;
     }
 
+-- a pop that answers a number adds it to those that the pass has popped
 pub takes_one : (xs : List ℕ) (x : ℕ) (v w u : View ℕ) → HasTaken xs v w → Goes w u → HasPopped (Some (Index x)) w u → HasTaken (xs ++ x ∷ []) v u
 takes_one xs x v w u k goes h =
     record {
@@ -166,6 +180,7 @@ takes_one xs x v w u k goes h =
       all = λ none. goes.all;
     }
 
+-- a call that publishes and takes out nothing leaves the counts of what was done
 same_done : (a b : ℕ) (v w u : View ℕ) → HasDone a b v w → HasDone 0 0 w u → HasDone a b v u
 same_done a b v w u x y =
     record {
@@ -173,6 +188,7 @@ same_done a b v w u x y =
       gets_more = (let p = x.gets_more in let q = y.gets_more in omega arith);
     }
 
+-- a call that publishes and takes out nothing leaves the numbers that the pass has popped
 takes_same : (xs : List ℕ) (v w u : View ℕ) → HasTaken xs v w → Goes w u → HasDone 0 0 w u → HasTaken xs v u
 takes_same xs v w u k goes done =
     record {
@@ -189,6 +205,7 @@ takes_nothing xs v w u k goes h = takes_same xs v w u k goes (done_none w u h)
 pub takes_all : (xs : List ℕ) (role : Role) (v w u : View ℕ) → HasTaken xs v w → Goes w u → HasReleased role w u → HasTaken xs v u
 takes_all xs role v w u k goes h = takes_same xs v w u k goes (done_released w u role h)
 
+-- a pass has popped nothing since it knew just what it knows
 pub takes_here : (v : View ℕ) → HasTaken [] v v
 takes_here v =
     record {
@@ -199,6 +216,8 @@ takes_here v =
       all = λ none. none;
     }
 
+-- where numbers were popped until a pop found none, the pass has drained the queue, and the
+-- numbers stand behind the old ones
 pub drained : (c : ℕ) (old new more : List ℕ) (v w u : View ℕ) → new ≡ old ++ more → HasTaken more v w
     → Goes w u → IsHistory one_word (machine_kind kinds.Overflow) c u.seen → HasPopped None w u → HasDrained old new v u
 drained c old new more v w u is k goes history h =
@@ -214,6 +233,7 @@ drained c old new more v w u is k goes history h =
 
 -- ---- pushes
 
+-- a push that handed a number back adds it to those that pushes took out
 push_wrote : (back : List ℕ) (value oldest : ℕ) (v w u : View ℕ) → TookOut by_push back v w
     → HasOverflowed value (Some oldest) w u → TookOut by_push (back ++ oldest ∷ []) v u
 push_wrote back value oldest v w u k h =
@@ -248,6 +268,7 @@ counted_as : (xs : List ℕ) (put got put' got' : ℕ) (v w : View ℕ) → put 
     → HasAppended publishes Index xs put got v w → HasAppended publishes Index xs put' got' v w
 counted_as xs put got put' got' v w p q k = subst (λ (t : ℕ × ℕ). HasAppended publishes Index xs t.0 t.1 v w) (λ i. (p i, q i)) k
 
+-- who takes a role has pushed nothing by that
 pub pushed_none : (all : List ℕ) (role : Role) (v w : View ℕ) → Goes v w → HasAcquired role true v w → HasPushedUpTo (take 0 all) [] v w
 pushed_none all role v w goes h =
     let done = done_acquired v w role true h in
@@ -257,6 +278,7 @@ pushed_none all role v w goes h =
       all = λ under. record { added = appended_none publishes Index v w goes.since goes.share done; returned = took_none by_push push_lasts v w goes.since };
     }
 
+-- the pass has pushed xs, and got back, since it knew v; it goes on from w to u with a push of x
 module _ (c : ℕ) (some : 0 < c) (xs back : List ℕ) (x : ℕ) (v w u : View ℕ) (k : HasPushedUpTo xs back v w) (goes : Goes w u) where
   long : length (xs ++ x ∷ []) ≡ length xs + 1
   long = length-append xs (x ∷ [])
@@ -264,6 +286,7 @@ module _ (c : ℕ) (some : 0 < c) (xs back : List ℕ) (x : ℕ) (v w u : View �
   earlier : length (published u.seen) < 2 ^ 64 - 1 → HasPushedAll xs back v w
   earlier under = k.all (let low = seen_later w u goes.since in omega arith)
 
+  -- a push that handed nothing back adds its number to those that were pushed
   pushes_one : HasOverflowed x None w u → HasPublished (Index x) w u → HasPushedUpTo (xs ++ x ∷ []) back v u
   pushes_one h p =
       let done = done_added w u x h in
@@ -280,6 +303,8 @@ module _ (c : ℕ) (some : 0 < c) (xs back : List ℕ) (x : ℕ) (v w u : View �
             });
       }
 
+  -- a push that handed a number back adds its own to those that were pushed, and this one to those
+  -- that came back
   replaces_one : (oldest : ℕ) → HasOverflowed x (Some oldest) w u → HasPublished (Index x) w u → HasPushedUpTo (xs ++ x ∷ []) (back ++ oldest ∷ []) v u
   replaces_one oldest h p =
       let done = done_replaced w u x oldest h in
@@ -313,6 +338,8 @@ module _ (c : ℕ) (some : 0 < c) (xs back : List ℕ) (x : ℕ) (v w u : View �
   returns_one y (inl h) = replaces_one y h.0 h.1
   returns_one y (inr h) = took_none_there (back ++ y ∷ []) h.1
 
+-- the pass has pushed the first n of all, and got back, since it knew v; it goes on from w to u
+-- with a push of the next, x
 module _ (c : ℕ) (some : 0 < c) (all : List ℕ) (n x : ℕ) (back : List ℕ) (v w u : View ℕ) (lt : n < length all)
     (is : x ≡ get_or all n 0) (k : HasPushedUpTo (take n all) back v w) (goes : Goes w u) where
   longer : take n all ++ x ∷ [] ≡ take (n + 1) all
@@ -326,6 +353,7 @@ module _ (c : ℕ) (some : 0 < c) (all : List ℕ) (n x : ℕ) (back : List ℕ)
       subst (λ xs. HasPushedUpTo xs (back ++ y ∷ []) v u) longer
       (returns_one c some (take n all) back x v w u k goes y p)
 
+-- a pass that gives the role back once all are pushed has pushed all of them
 pub pushed_all : (all : List ℕ) (n : ℕ) (back : List ℕ) (role : Role) (v w u : View ℕ) → length all ≤ n
     → HasPushedUpTo (take n all) back v w → Goes w u → HasReleased role w u → published u.seen ≡ published w.seen
     → HasPushedUpTo all back v u

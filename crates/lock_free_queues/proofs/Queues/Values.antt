@@ -12,6 +12,7 @@ module _ {T : Type 0} (code : Coding T) where
   abbrev pub value_of : T → Item T
   value_of v = Value v
 
+  -- the call of `steps` that pushes a value is a push of this value
   pub value_push : (v : T) → IsPush code (Value v) (pushes_value code v)
   value_push v =
       record {
@@ -30,6 +31,7 @@ module _ {T : Type 0} (code : Coding T) where
   pops_so None = refl
   pops_so (Some x) = refl
 
+  -- the call of `steps` that pops a value is a pop, by way of a room that has the value's words
   pub value_pop : {R : Type 0} (words_in : R → List ℕ) → IsPop value_of (value_there code words_in) (pops_value code words_in)
   value_pop words_in =
       record {

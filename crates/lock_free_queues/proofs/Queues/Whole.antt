@@ -24,6 +24,7 @@ module _ {T : Type 0} (m : Event T → List (Item T)) where
   module _ (old new : View T) (es : List (Event T))
       (all : IsAll old.share) (before : MissesNothing old) (goes : Goes old new)
       (made : new.made ≡ old.made ++ es) where
+    -- with the whole share, what the history tells grows by as much as the pass itself has made
     as_many : length (flat_map m new.seen) ≡ length (flat_map m old.seen) + length (flat_map m es)
     as_many =
         let was = before all counts in

@@ -70,11 +70,11 @@ module _ {T : Type 0} where
     pub list : published new.seen ≡ published old.seen
 
   -- a push that was taken
-  abbrev pub PushDone : Item T → View T → View T → Type 0
+  abbrev pub PushDone : Item T → (old new : View T) → Type 0
   PushDone item old new = HasPushed item true old new × HasPublished item old new
 
   -- one that was refused
-  abbrev pub PushRefused : ℕ → Item T → View T → View T → Type 0
+  abbrev pub PushRefused : ℕ → Item T → (old new : View T) → Type 0
   PushRefused capacity item old new = HasPushed item false old new × WasFull capacity item old new ⊎ WasAtEnd old new
 
   -- ---- pops
@@ -118,11 +118,11 @@ module _ {T : Type 0} where
     pub list : handed_out new.seen ≡ handed_out old.seen
 
   -- a pop that took an item out
-  abbrev pub PopDone : Item T → View T → View T → Type 0
+  abbrev pub PopDone : Item T → (old new : View T) → Type 0
   PopDone item old new = HasPopped (Some item) old new × HasTakenOut item old new
 
   -- one that found none
-  abbrev pub PopEmpty : View T → View T → Type 0
+  abbrev pub PopEmpty : (old new : View T) → Type 0
   PopEmpty old new = HasPopped None old new × WasEmpty old new
 
   -- the item was taken out after all that was seen, as the oldest that waited
@@ -145,11 +145,11 @@ module _ {T : Type 0} where
     pub empty : waiting before ≡ []
 
   -- a pop that took the oldest item out
-  abbrev pub PopOldest : Item T → View T → View T → Type 0
+  abbrev pub PopOldest : Item T → (old new : View T) → Type 0
   PopOldest item old new = HasPopped (Some item) old new × HasTakenFirst item old new
 
   -- one that found none
-  abbrev pub PopFoundNone : View T → View T → Type 0
+  abbrev pub PopFoundNone : (old new : View T) → Type 0
   PopFoundNone old new = HasPopped None old new × FoundNone old new
 
   -- ---- peeks

@@ -24,18 +24,18 @@ most_waiting kind capacity = cells_of kind capacity
 
 module _ {T : Type 0} where
   -- no value was taken out; of an overflowing queue, whose pushes take out too, nothing is said
-  abbrev pub NoneTaken : QueueKind → View T → View T → Type 0
+  abbrev pub NoneTaken : QueueKind → (old new : View T) → Type 0
   NoneTaken IndexQueue old new = handed_out new.seen ≡ handed_out old.seen
   NoneTaken Overflow old new = Unit {0}
   NoneTaken Queue old new = handed_out new.seen ≡ handed_out old.seen
 
   -- nothing was written that the role's holder alone writes, where it alone does
-  abbrev pub NoneMarked : Role → QueueKind → View T → View T → Type 0
+  abbrev pub NoneMarked : Role → QueueKind → (old new : View T) → Type 0
   NoneMarked Producer kind old new = published new.seen ≡ published old.seen
   NoneMarked Consumer kind old new = NoneTaken kind old new
 
   -- what the first pass of a queue knows that opens at a position: of so many pushes and pops of this
-  abbrev pub opened_by : Coding T → QueueKind → ℕ → ℕ → View T
+  abbrev pub opened_by : Coding T → QueueKind → (capacity position : ℕ) → View T
   opened_by code IndexQueue capacity position = opened_view 1 (Index 0) capacity position
   opened_by code Overflow capacity position = over_opened_view capacity position
   opened_by code Queue capacity position =

@@ -84,7 +84,7 @@ position_at (suc less) position = position
 
 module _ {T : Type 0} where
   -- what the first pass knows, where a cell has so many words and each push answered so: it is the party, and has the whole share
-  abbrev pub opened_with : ℕ → Answer T → Item T → ℕ → ℕ → View T
+  abbrev pub opened_with : ℕ → Answer T → Item T → (capacity position : ℕ) → View T
   opened_with size answer item capacity position =
       record {
         capacity = capacity;
@@ -104,9 +104,9 @@ module _ {T : Type 0} where
       }
 
   -- of a bounded queue
-  abbrev pub opened_view : ℕ → Item T → ℕ → ℕ → View T
+  abbrev pub opened_view : ℕ → Item T → (capacity position : ℕ) → View T
   opened_view size item capacity position = opened_with size (Truth true) item capacity position
 
   -- of an overflowing queue, of the number 0
-  abbrev pub over_opened_view : ℕ → ℕ → View T
+  abbrev pub over_opened_view : (capacity position : ℕ) → View T
   over_opened_view capacity position = opened_with 1 PoppedNone (Index 0) capacity position

@@ -24,7 +24,7 @@ HasHistory capacity v = IsHistory one_word kinds.Overflow capacity v.seen
 
 module _ {T : Type 0} where
   -- what a push writes: it publishes its number, and where there was no room it takes out the oldest
-  abbrev pub over_push_events : ℕ → ℕ → Option ℕ → List (Event T)
+  abbrev pub over_push_events : (p value : ℕ) → Option ℕ → List (Event T)
   over_push_events p value None =
       Published p (Index value) ∷ Acted p (Queues (PushIndex value)) PoppedNone ∷ []
   over_push_events p value (Some oldest) =
@@ -44,16 +44,16 @@ TookNone capacity old new = (capacity ≡ 0) × (new ≡ old) ⊎ WasAtEnd old n
 
 module _ {T : Type 0} where
   -- a push that handed nothing back
-  abbrev pub PushAdded : ℕ → View T → View T → Type 0
+  abbrev pub PushAdded : ℕ → (old new : View T) → Type 0
   PushAdded value old new = HasOverflowed value None old new × HasPublished (Index value) old new
 
   -- one that took the oldest number out, to hand it back
-  abbrev pub PushReplaced : ℕ → ℕ → View T → View T → Type 0
+  abbrev pub PushReplaced : (value oldest : ℕ) → (old new : View T) → Type 0
   PushReplaced value oldest old new =
       HasOverflowed value (Some oldest) old new
       × HasPublished (Index value) old new
       × HasTakenFirst (Index oldest) old new
 
   -- one that handed a number back: the oldest, or its own, where the queue takes none
-  abbrev pub PushHandedBack : ℕ → ℕ → ℕ → View T → View T → Type 0
+  abbrev pub PushHandedBack : (capacity value back : ℕ) → (old new : View T) → Type 0
   PushHandedBack capacity value back old new = PushReplaced value back old new ⊎ (back ≡ value) × TookNone capacity old new

@@ -25,7 +25,7 @@ module _ {T : Type 0} (code : Coding T) (kind : Kind) where
     pub found_is : found ≡ slice_index trace.world.words word
 
   -- so were all words of the cells
-  abbrev pub CellsRead : ℕ → View T → View T → List ℕ → Type 0
+  abbrev pub CellsRead : ℕ → (old new : View T) → List ℕ → Type 0
   CellsRead capacity old new words =
       (word : ℕ) → 4 ≤ word → word < length words
       → WasRead capacity old new word (slice_index words word)

@@ -21,11 +21,11 @@ module _ {T V : Type 0} where
     pub share : new.share ≡ old.share
 
   -- it has pushed these values, one after the other, and popped none
-  abbrev pub HasSent : (V → Item T) → List V → View T → View T → Type 0
+  abbrev pub HasSent : (V → Item T) → List V → (old new : View T) → Type 0
   HasSent named values old new = HasAppended publishes named values (length values) 0 old new
 
   -- it has popped these values, one after the other, and pushed none
-  abbrev pub HasReceived : (V → Item T) → List V → View T → View T → Type 0
+  abbrev pub HasReceived : (V → Item T) → List V → (old new : View T) → Type 0
   HasReceived named values old new = HasAppended hands_out named values 0 (length values) old new
 
   -- different values have different names

@@ -34,6 +34,7 @@ use Rattle.lock_free_sets.proofs.Steps.{bits_take}
 
 -- ---- the places of one word, one after another
 
+-- a range that is longer by one has one number more at its end
 pub range_more : (a n : ℕ) → range_with_len a (n + 1) ≡ range_with_len a n ++ (a + n) ∷ []
 range_more a zero = let same : a ≡ a + 0 = omega arith in ap (λ z. z ∷ []) same
 range_more a (suc n) =
@@ -55,6 +56,7 @@ kept_cons : (Q : ℕ → Type 0) (first : ℕ) (rest : List ℕ) (t : Bool) → 
 kept_cons Q first rest true h all = All-cons Q first rest (h refl) all
 kept_cons Q first rest false h all = all
 
+-- what is so of each number of a range that passes the test is so of all that the test keeps
 kept_all : (Q : ℕ → Type 0) (test : ℕ → Bool) (first n : ℕ)
     → ((p : ℕ) → first ≤ p → p < first + n → test p ≡ true → Q p) → All Q (filter test (range_with_len first n))
 kept_all Q test first zero h = All-nil Q
@@ -80,6 +82,7 @@ folds_more : {F : Type 0} (R : F → ℕ → F → Type 0) (xs ys : List ℕ) (v
 folds_more R [] ys v p q a b = subst (λ z. FoldsTo R z ys q) (sym a) b
 folds_more R (x ∷ xs) ys v p q a b = (a.0, a.1, folds_more R xs ys a.0 p q a.2 b)
 
+-- after a place more, the closure is as it was, or called with this place where its flag was found
 pub visited_more : {F : Type 0} (R : F → ℕ → F → Type 0) (found first n : ℕ) (v p q : F) (t : Bool)
     → has_flag found (first + n) ≡ t → (t ≡ true → R p (first + n) q) → (t ≡ false → q ≡ p)
     → Visited R found first v n p → Visited R found first v (n + 1) q
@@ -92,6 +95,8 @@ visited_more {F} R found first n v p q t is hit miss h =
     whole : filter has (range_with_len first (n + 1)) ≡ filter has (range_with_len first n) ++ cond (has (first + n)) ((first + n) ∷ []) []
     whole = ap (filter has) (range_more first n) ∙ filter-append has (range_with_len first n) ((first + n) ∷ [])
 
+    -- of the list that is kept: after a place more, the closure is as it was, or called with this
+    -- place where its flag was found
     go : (u : Bool) → has (first + n) ≡ u → (u ≡ true → R p (first + n) q) → (u ≡ false → q ≡ p)
         → FoldsTo R v (filter has (range_with_len first n) ++ cond (has (first + n)) ((first + n) ∷ []) []) q
     go true e hits misses = rw e (FoldsTo-push R v (filter has (range_with_len first n)) p (first + n) q h (hits refl))
@@ -114,6 +119,8 @@ visited_rest R found first n (suc m) v p none h =
 
 -- ---- no place past the capacity is found
 
+-- with an event more, which is the party's own or not, the party's clears of a place are still no
+-- more than all clears of the place
 clears_cons : (b : ℕ) (e : Event ℕ) (own all : List (Event ℕ)) (t : Bool) → clears b own ≤ clears b all
     → clears b (cond t (e ∷ []) [] ++ own) ≤ clears b (e ∷ all)
 clears_cons b e own all true less =
@@ -136,6 +143,7 @@ found_clear cap word v w room low s size place here past = go (has_flag room.0 p
     h : IsBitSet s.history.trace
     h = bits_go_on s.history.trace s.history.run.of_kind s.history.run.reached
 
+    -- a place past the capacity was never cleared
     none : clears place w.seen ≡ 0
     none =
         let sets_none = h.within place (let same = s.history.run.sized in omega arith) in
@@ -146,6 +154,7 @@ found_clear cap word v w room low s size place here past = go (has_flag room.0 p
     named : clears place (clear_events {T = ℕ} s.party word room.0) ≡ count_by (λ q. q == place) (places_in word room.0)
     named = clears_named ℕ s.party place (places_in word room.0)
 
+    -- the clears of a place that the step wrote are some of those that were seen
     some : clears place (clear_events {T = ℕ} s.party word room.0) ≤ clears place w.seen
     some =
         let within = clears_of_party place s.party s.since.during in
@@ -158,6 +167,7 @@ found_clear cap word v w room low s size place here past = go (has_flag room.0 p
         let is = ap (clears place) s.since.is in
         omega arith
 
+    -- the flag of a place past the capacity was not found, whatever was found
     go : (t : Bool) → has_flag room.0 place ≡ t → has_flag room.0 place ≡ false
     go false e = e
     go true e =
@@ -179,6 +189,7 @@ module _ {F : Type 0} (R : F → ℕ → F → Type 0) (cap : ℕ) (visit : F) w
     pub below : All (λ x. x < first_place c.word) places
     pub folds : FoldsTo R visit places f
 
+  -- as the call begins nothing is cleared, and the closure was not called
   pub first_so_far : (v : View ℕ) → IsIdle cap v → 0 < cap → SoFar v v (all_bits cap) fresh visit
   first_so_far v idle some =
       record {
@@ -189,6 +200,8 @@ module _ {F : Type 0} (R : F → ℕ → F → Type 0) (cap : ℕ) (visit : F) w
         folds = refl;
       }
 
+  -- the call began at base and stands at c at v with room m, f is the closure; n is the word that
+  -- its step found, a how it goes on, w what the pass knows then
   module _ (base v w : View ℕ) (c : Emptying) (m room : OneWord) (n : ℕ) (f : F)
       (h : SoFar base v c m f) (kept : room ≡ reset_all_kept m n) (a : After Emptying (Unit {0}))
       (goes_so : reset_all_after c n ≡ a)
@@ -250,6 +263,7 @@ module _ {F : Type 0} (R : F → ℕ → F → Type 0) (cap : ℕ) (visit : F) w
       same_events : (p : ℕ) → map (cleared_by p) h.places ++ clear_events p c.word room.0 ≡ map (cleared_by p) all_places
       same_events p = sym (map-append (cleared_by p) h.places (places_in c.word room.0))
 
+      -- where the call goes on, the closure was called with what it has cleared so far
       pub so_far_on : (next : Emptying) → a ≡ GoOn next → SoFar base w next room g
       so_far_on next is =
           let word : next.word ≡ c.word + 1 = ap (λ (z : Emptying). z.word) (goes_next c n next (goes_so ∙ is)).0 in
@@ -268,6 +282,8 @@ module _ {F : Type 0} (R : F → ℕ → F → Type 0) (cap : ℕ) (visit : F) w
             folds = all_folds;
           }
 
+      -- where the call ends, it has cleared just the places that the closure was called with, in
+      -- ascending order
       pub cleared_all : a ≡ Done tt → HasCleanedOut R cap visit g base w × HasDone kinds.Bits base w
       cleared_all is =
           let all = wrote_all Flags cap (λ p. map (cleared_by p) h.places) base v c m h.call w room n kept a goes_so told is in (

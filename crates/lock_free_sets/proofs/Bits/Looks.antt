@@ -14,6 +14,7 @@ use Rattle.lock_free_sets.specs.Bits.Looks.{looks_at, IsSetDone}
 use Rattle.lock_free_sets.proofs.Ends.{has_made, before_end, to_end}
 
 module _ (place : ℕ) where
+  -- a look at a place is a call of the model
   is_call : IsCallOf one_word set_effects (λ capacity. 1 + elements capacity) (λ c. is_set_want c place)
       (λ c n. is_set_after c place n) (λ c m n. m) (looks_at {T = ℕ} place)
   is_call =
@@ -38,6 +39,7 @@ module _ (place : ℕ) where
           let same : record { word = element_of place; op = Load } ≡ a = cc in
           ap (λ (z : Ask). is_set_after c place (answered z.op n)) (sym same)
 
+  -- the step of a look keeps the rule of the table, and tells what is known after it
   pub look_keeps : KeepsRule (λ (z : View ℕ). z.asked) (λ (z : View ℕ). z.capacity) (At one_word kinds.Bits (looks_at place))
       (Ends one_word kinds.Bits (looks_at place)) (λ key. 1 + elements key + 1) (λ key. key)
       (λ key. IsMachine one_word kinds.Bits key) (λ c. is_set_want c place) (λ c n. is_set_after c place n) (λ c m n. m)
@@ -54,6 +56,7 @@ module _ (place : ℕ) where
     made : HasMade (Bits (IsSet place)) (Truth answer) (λ by. []) base w
     made = grind (arith, has_made, looks_at)
 
+    -- a look that has ended changed nothing, and answered whether the place stood as it ended
     pub looked : IsSetDone place answer base w
     looked =
         let h = ends.history in

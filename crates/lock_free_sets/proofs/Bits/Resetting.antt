@@ -54,6 +54,8 @@ takes cap p n m resets.LoadsPosition h = comes_to cap p (at_most cap n) 0 resets
 takes cap p n m (resets.LoadsElement start passed) h = tests cap p start passed n (resets.LoadsElement start passed) h.0 h.1
 takes cap p n m (resets.ExchangesElement start passed found) h = go (n == found) refl
   where
+    -- after an exchange, which found what it expected or not, the call stands at a place below the
+    -- capacity, and what it has written is right
     go : (b : Bool) → (n == found) ≡ b
         → Stands cap p (reset_after (at_stage cap (resets.ExchangesElement start passed found)) n)
         ([] ++ set_effects p (resets_next.flight (at_stage cap (resets.ExchangesElement start passed found)) m) n)
@@ -83,6 +85,7 @@ asks cap c h = subst (λ k. (a : Ask) × (a.word < 1 + elements cap) × (reset_a
     near : (place : ℕ) → place < cap → element_of place < 1 + elements cap
     near place below = omega arith
 
+    -- at each of its stages the call asks for a word of the set
     at : (stage : ResetNextStage) → ResetStands cap stage → (a : Ask) × (a.word < 1 + elements cap) × (reset_asks cap stage ≡ wants.Ask a)
     at resets.LoadsPosition s = (record { word = 0; op = Load }, omega arith, refl)
     at (resets.LoadsElement start passed) s = (
@@ -101,6 +104,7 @@ asks cap c h = subst (λ k. (a : Ask) × (a.word < 1 + elements cap) × (reset_a
 hears : (c : Resetting) (a : Ask) (n : ℕ) → reset_want c ≡ wants.Ask a → reset_after c (answered a.op n) ≡ reset_after c n
 hears c a n e = at c.stage e
   where
+    -- at each of its stages the call goes on after what it is handed as after what its word had
     at : (stage : ResetNextStage) → reset_asks c.capacity stage ≡ wants.Ask a → reset_takes c stage (answered a.op n) ≡ reset_takes c stage n
     at resets.LoadsPosition w =
         let same : record { word = 0; op = Load } ≡ a = cc in
@@ -120,6 +124,7 @@ hears c a n e = at c.stage e
 is_call : IsCallOf one_word set_effects (λ capacity. 1 + elements capacity) reset_want reset_after (λ c m n. m) (resets_next {T = ℕ})
 is_call = grind (arith, same_after, hears, reset_so_far, set_effects, resets_next, stands_on, asks)
 
+-- each step of a reset keeps the rule of the table, and tells what is known after it
 pub next_keeps : KeepsRule (λ (z : View ℕ). z.asked) (λ (z : View ℕ). z.capacity) (At one_word kinds.Bits resets_next)
     (Ends one_word kinds.Bits resets_next) (λ key. 1 + elements key + 1) (λ key. key)
     (λ key. IsMachine one_word kinds.Bits key) reset_want reset_after (λ c m n. m)
@@ -130,6 +135,7 @@ next_keeps =
 pub next_first : (v : View ℕ) (m : Unit {0}) → IsIdle v.capacity v → At one_word kinds.Bits resets_next v v (first_reset v.capacity) m
 next_first v m idle = grind (arith, bits_starts, one_word, resets_next, first_reset)
 
+-- base and w are what the pass knew before the call and after it, o is the place that it answers
 module _ (base w : View ℕ) (o : Option ℕ) (m : Unit {0}) (idle : base.going ≡ None) (ends : Ends one_word kinds.Bits resets_next base o m w) where
   cleared : HasReset o base w
   cleared =
@@ -142,6 +148,7 @@ module _ (base w : View ℕ) (o : Option ℕ) (m : Unit {0}) (idle : base.going 
       go None h = tt
       go (Some place) h = h
 
+  -- where a reset found none, each place was clear at some moment of the call
   all_clear : o ≡ None → AllClearOnce base.capacity w
   all_clear none =
       let h = ends.history in
@@ -154,6 +161,8 @@ module _ (base w : View ℕ) (o : Option ℕ) (m : Unit {0}) (idle : base.going 
       set.answers before [] (Finished p (Bits ResetNext) ResetNone) (sym h.is ∙ is) in
       record { by = p; before = before; is = is; clear = λ place below. right place (subst (λ n. place < n) (sym h.run.sized) below) }
 
+  -- where a reset found a place, it came to this place from where the reset position stood at a
+  -- moment of the call
   came_from : (place : ℕ) → o ≡ Some place → CameFromPosition base.capacity place w
   came_from place some =
       let h = ends.history in
@@ -167,6 +176,8 @@ module _ (base w : View ℕ) (o : Option ℕ) (m : Unit {0}) (idle : base.going 
       record { by = p; before = before; is = is; came = subst (λ n. CameTo p n place before) h.run.sized right }
 
   module _ (capacity : ℕ) (size : base.capacity ≡ capacity) where
+    -- a reset that found a place has cleared it, it lies below the capacity, and the call came to
+    -- it from the reset position
     pub found_place : (place : ℕ) → o ≡ Some place → ResetDone capacity place base w
     found_place place some =
         subst (λ n. ResetDone n place base w) size

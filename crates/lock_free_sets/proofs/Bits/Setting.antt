@@ -34,6 +34,8 @@ module _ (place : ℕ) where
       at sets.LoadsElement = tests (has_flag n place) refl sets.LoadsElement
       at (sets.ExchangesElement found) = go (n == found) refl
         where
+          -- the model's call goes on after an exchange as that of `steps`, whether it found what
+          -- it expected or not
           go : (b : Bool) → (n == found) ≡ b
               → after_of one_word ((sets_place {T = ℕ} place).flight (record { stage = sets.ExchangesElement found }) m) n
               ≡ goes (sets_place place) (set_after (record { stage = sets.ExchangesElement found }) place n) m
@@ -59,6 +61,7 @@ module _ (place : ℕ) where
   hears : (c : Setting) (a : Ask) (n : ℕ) → set_want c place ≡ wants.Ask a → set_after c place (answered a.op n) ≡ set_after c place n
   hears c a n e = at c.stage e
     where
+      -- at each of its stages the call goes on after what it is handed as after what its word had
       at : (stage : SetStage) → set_want (record { stage = stage }) place ≡ wants.Ask a
           → set_after (record { stage = stage }) place (answered a.op n) ≡ set_after (record { stage = stage }) place n
       at sets.LoadsElement w =
@@ -98,6 +101,7 @@ module _ (place : ℕ) where
       (λ c n. set_after c place n) (λ c m n. m) (sets_place {T = ℕ} place)
   is_call = grind (arith, same_after, hears, asks, set_effects, sets_place, writes)
 
+  -- each step of a set keeps the rule of the table, and tells what is known after it
   pub set_keeps : KeepsRule (λ (z : View ℕ). z.asked) (λ (z : View ℕ). z.capacity) (At one_word kinds.Bits (sets_place place))
       (Ends one_word kinds.Bits (sets_place place)) (λ key. 1 + elements key + 1) (λ key. key)
       (λ key. IsMachine one_word kinds.Bits key) (λ c. set_want c place) (λ c n. set_after c place n) (λ c m n. m)
@@ -108,11 +112,13 @@ module _ (place : ℕ) where
   pub set_first : (v : View ℕ) (m : Unit {0}) → IsIdle v.capacity v → place < v.capacity → At one_word kinds.Bits (sets_place place) v v first_set m
   set_first v m idle place_below_capacity = grind (arith, nat_le, nat_tests, bits_starts, one_word, sets_place, first_set)
 
+  -- base and w are what the pass knew before the call and after it, b is its answer
   module _ (base w : View ℕ) (b : Bool) (m : Unit {0}) (idle : base.going ≡ None) (ends : Ends one_word kinds.Bits (sets_place place) base b m w) where
     added : HasSet place b base w
     added =
         has_made kinds.Bits (sets_place place) base w b m ends idle (λ by. set_wrote by place b) ends.tells
 
+    -- a set that answers false met a moment at which the place stood
     stood : b ≡ false → StoodOnce place w
     stood not =
         let h = ends.history in

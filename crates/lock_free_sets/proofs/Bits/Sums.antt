@@ -32,6 +32,7 @@ sets_within capacity events h b past =
 module _ (old new : View ℕ) where
   -- ---- a set
 
+  -- a set that answers true adds one to the sets of its place, and nothing else
   pub set_adds : (place : ℕ) → HasSet place true old new → (b : ℕ)
       → (sets b new.made ≡ sets b old.made + cond (place == b) 1 0) × (clears b new.made ≡ clears b old.made)
   set_adds place h b =
@@ -67,6 +68,7 @@ module _ (old new : View ℕ) where
 
   -- ---- a reset of the next place
 
+  -- a reset that found a place adds one to the clears of this place, and nothing else
   pub reset_adds : (place : ℕ) → HasReset (Some place) old new → (b : ℕ)
       → (sets b new.made ≡ sets b old.made) × (clears b new.made ≡ clears b old.made + cond (place == b) 1 0)
   reset_adds place h b =
@@ -97,6 +99,7 @@ module _ (old new : View ℕ) where
       sets_before : sets b old.seen ≡ sets b new.made
       sets_before = before (λ e. cond (is_set_of b e) 1 0) ∙ sym (reset_adds_none h b).0
 
+      -- a place past the capacity was neither set nor cleared
       past : capacity ≤ b → sets b new.made ≡ clears b new.made
       past far =
           let none = sets_within capacity new.seen history b far in
@@ -105,6 +108,7 @@ module _ (old new : View ℕ) where
           let c = clears_seen in
           omega arith
 
+      -- a place below the capacity was cleared as often as set
       below : b < capacity → sets b new.made ≡ clears b new.made
       below near =
           let p = h.by in

@@ -16,6 +16,7 @@ use Rattle.lock_free_sets.specs.Counts.Contracts.{HasCounted, AnswersCount, SetD
 use Rattle.lock_free_sets.proofs.Ends.{has_made, before_end, to_end}
 
 module _ (place : ℕ) where
+  -- counting a place is a call of the model
   is_call : IsCallOf one_word set_effects (λ capacity. capacity) (λ c. set_want c place) (λ c n. set_after c n) (λ c m n. m) (counts_place {T = ℕ} place)
   is_call =
       record {
@@ -36,6 +37,7 @@ module _ (place : ℕ) where
           let same : record { word = place; op = Add 1 } ≡ a = cc in
           ap (λ (z : Ask). set_after c (answered z.op n)) (sym same)
 
+  -- the step of counting a place keeps the rule of the table, and tells what is known after it
   pub count_keeps : KeepsRule (λ (z : View ℕ). z.asked) (λ (z : View ℕ). z.capacity) (At one_word kinds.Counts (counts_place place))
       (Ends one_word kinds.Counts (counts_place place)) (λ key. key + 1) (λ key. key)
       (λ key. IsMachine one_word kinds.Counts key) (λ c. set_want c place) (λ c n. set_after c n) (λ c m n. m)
@@ -52,6 +54,7 @@ module _ (place : ℕ) where
     counted : HasCounted place number base w
     counted = grind (arith, has_made, counts_place)
 
+    -- the answer of counting a place is the count just before, modulo 2^64
     answers : AnswersCount place number w
     answers =
         let p = counted.by in

@@ -8,6 +8,7 @@ use Rattle.lock_free_sets.specs.Counts.Callable.{CountsAscend, TakesCounts}
 
 -- ---- places with their counts
 
+-- the closure was called with these counts, which ascend and lie below the place `low`
 pub record Counted {F : Type 0} (R : F → BitState → F → Type 0) (cap low : ℕ) (v p : F) : Type 0 where
   pub states : List BitState
   pub ascend : CountsAscend cap states
@@ -25,6 +26,8 @@ module _ {F : Type 0} (R : F → BitState → F → Type 0) (cap : ℕ) (v : F) 
   pub counted_on : (low : ℕ) (p q : F) → q ≡ p → Counted R cap low v p → Counted R cap (low + 1) v q
   counted_on low p q q_is_p counted = grind arith
 
+  -- with the count of the next place, which is above 0, the closure was called with the counts up
+  -- to this place
   pub counted_more : (low count : ℕ) (p q : F) → low < cap → 0 < count → count < 2 ^ 64 → R p (record { bit = low; count = count }) q
       → Counted R cap low v p → Counted R cap (low + 1) v q
   counted_more low count p q within some small hit h =
@@ -53,6 +56,8 @@ module _ {F : Type 0} (R : F → BitState → F → Type 0) (cap : ℕ) (v : F) 
   pub found_events : (p place n : ℕ) → map (taken_by p) (found place n) ≡ take_events p place n
   found_events p place n = grind (arith, suc, nat_tests)
 
+  -- with what was found at the next place, handed on if it is above 0, the closure was called with
+  -- the counts up to this place
   pub counted_found : (low n : ℕ) (p q : F) → low < cap → n < 2 ^ 64 → (0 < n → R p (record { bit = low; count = n }) q)
       → (n ≡ 0 → q ≡ p) → (h : Counted R cap low v p)
       → (g : Counted R cap (low + 1) v q) × (g.states ≡ h.states ++ found low n)

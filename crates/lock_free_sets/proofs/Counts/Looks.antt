@@ -14,6 +14,7 @@ use Rattle.lock_free_sets.specs.Counts.Looks.{looks_at, CountDone}
 use Rattle.lock_free_sets.proofs.Ends.{has_made, before_end, to_end}
 
 module _ (place : ℕ) where
+  -- a look at a count is a call of the model
   is_call : IsCallOf one_word set_effects (λ capacity. capacity) (λ c. count_want c place) (λ c n. count_after c n) (λ c m n. m) (looks_at {T = ℕ} place)
   is_call =
       record {
@@ -34,6 +35,7 @@ module _ (place : ℕ) where
           let same : record { word = place; op = Load } ≡ a = cc in
           ap (λ (z : Ask). count_after c (answered z.op n)) (sym same)
 
+  -- the step of a look keeps the rule of the table, and tells what is known after it
   pub look_keeps : KeepsRule (λ (z : View ℕ). z.asked) (λ (z : View ℕ). z.capacity) (At one_word kinds.Counts (looks_at place))
       (Ends one_word kinds.Counts (looks_at place)) (λ key. key + 1) (λ key. key)
       (λ key. IsMachine one_word kinds.Counts key) (λ c. count_want c place) (λ c n. count_after c n) (λ c m n. m)
@@ -50,6 +52,7 @@ module _ (place : ℕ) where
     made : HasMade (Bits (Count place)) (Number number) (λ by. []) base w
     made = grind (arith, has_made, looks_at)
 
+    -- a look that has ended changed nothing, and answered the count of the place as it ended
     pub looked : CountDone place number base w
     looked =
         let h = ends.history in

@@ -29,6 +29,7 @@ takes_of p b (s ∷ states) =
     sum_by-cons (take_of b) (taken_by p s) (map (taken_by p) states)
     ∙ (ap (λ n. cond (s.bit == b) s.count 0 + n) (takes_of p b states) ∙ sym (sum_by-cons (λ (z : BitState). cond (z.bit == b) z.count 0) s states))
 
+-- what takes counts out counts no place
 counts_of : (p b : ℕ) (states : List BitState) → counts b (map (taken_by p) states) ≡ 0
 counts_of p b [] = refl
 counts_of p b (s ∷ states) =
@@ -37,6 +38,7 @@ counts_of p b (s ∷ states) =
     omega arith
 
 module _ (old new : View ℕ) where
+  -- counting a place adds one to the counts of this place, and nothing else
   pub count_adds : (place number : ℕ) → HasCounted place number old new → (b : ℕ)
       → (counts b new.made ≡ counts b old.made + cond (place == b) 1 0) × (takes b new.made ≡ takes b old.made)
   count_adds place number h b =
@@ -45,6 +47,8 @@ module _ (old new : View ℕ) where
       let t = sum_made (take_of b) h.by (Bits (Set place)) (Number number) wrote old new h.called in
       (omega arith, omega arith)
 
+  -- taking all counts out adds what came out of each place to what was taken out of it, and
+  -- nothing else
   pub take_adds : {F : Type 0} {visited : F} (step : F → BitState → F → Type 0) (capacity : ℕ) (visit : F)
       (h : HasTakenOut step capacity visit visited old new) (b : ℕ)
       → (counts b new.made ≡ counts b old.made) × (takes b new.made ≡ takes b old.made + taken_at b h.states)

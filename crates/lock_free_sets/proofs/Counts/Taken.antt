@@ -25,6 +25,7 @@ module _ {F : Type 0} (R : F → BitState → F → Type 0) (cap : ℕ) (visit :
     pub handed : Counted R cap c.word visit f
     pub call : WroteSoFar Counts cap (λ p. map (taken_by p) handed.states) base v c m
 
+  -- as the call begins nothing is taken out, and the closure was not called
   pub first_so_far : (v : View ℕ) → IsIdle cap v → 0 < cap → SoFar v v (all_counts cap) fresh visit
   first_so_far v idle some =
       record {
@@ -34,6 +35,8 @@ module _ {F : Type 0} (R : F → BitState → F → Type 0) (cap : ℕ) (visit :
             (λ i p. sym (ap (map (taken_by p)) (none_states R cap visit 0)) i) (first_wrote Counts cap v idle some);
       }
 
+  -- the call began at base and stands at c at v with room m, f is the closure; n is the word that
+  -- its step found, a how it goes on, w what the pass knows then
   module _ (base v w : View ℕ) (c : Emptying) (m room : OneWord) (n : ℕ) (f : F)
       (h : SoFar base v c m f) (kept : room ≡ reset_all_kept m n) (a : After Emptying (Unit {0}))
       (goes_so : reset_all_after c n ≡ a)
@@ -60,6 +63,7 @@ module _ {F : Type 0} (R : F → BitState → F → Type 0) (cap : ℕ) (visit :
       same_events : (p : ℕ) → map (taken_by p) h.handed.states ++ take_events p c.word room.0 ≡ map (taken_by p) next_handed.0.states
       same_events p = grind (arith, map, taken_by, found_events, map-append, found, next_handed)
 
+      -- where the call goes on, the closure was called with what it has taken out so far
       pub so_far_on : (next : Emptying) → a ≡ GoOn next → SoFar base w next room g
       so_far_on next is =
           record {
@@ -74,6 +78,8 @@ module _ {F : Type 0} (R : F → BitState → F → Type 0) (cap : ℕ) (visit :
               subst (λ k. (x : Counted R cap k visit g) × (x.states ≡ next_handed.0.states))
               (sym (ap (λ (z : Emptying). z.word) (goes_next c n next (goes_so ∙ is)).0)) (next_handed.0, refl)
 
+      -- where the call ends, it has taken out just the counts that the closure was called with, in
+      -- ascending order
       pub taken_all : a ≡ Done tt → HasTakenOut R cap visit g base w × HasDone kinds.Counts base w
       taken_all is =
           let all = wrote_all Counts cap (λ p. map (taken_by p) h.handed.states) base v c m h.call w room n kept a goes_so told is in (

@@ -25,6 +25,7 @@ as_much n = omega arith
 module _ {T C M E : Type 0} (machines : LoneMachines T) (call : Calling T C M E) where
   open machines use {code, kind, effects, size_of, laws}
 
+  -- a call that asks for no word and ends with its first step is one load of any word of the table
   pub owes_once : (v : View T) (c : C) (m m' : M) (end : E) → IsFirst code kind call v v c m
       → want_of code (call.flight c m) ≡ wants.Nothing → NeverPushes call.flight
       → after_of code (call.flight c m) 0 ≡ Done (call.answer end m')

@@ -27,6 +27,7 @@ word_at_first : (kind : SetKind) (n : ℕ) → (all_words kind n).word ≡ first
 word_at_first Flags n = refl
 word_at_first Counts n = refl
 
+-- the call that empties a set begins at the set's first word
 begins_at : (kind : SetKind) (n : ℕ) (c : Emptying) (m : OneWord)
     → first_of (machine_kind kind) n emptying ((opening_of (machine_kind kind)).kept n) ≡ Some (flight_at kind c m) → c.word ≡ first_word kind
 begins_at kind n c m first_of_is = grind (arith, flight_at, all_words, fresh, begins, has_word, flight_word, word_at_first)
@@ -73,6 +74,8 @@ module _ (kind : SetKind) where
   pub same_capacity : (base v : View ℕ) (c : Emptying) (m : OneWord) → AtWord base v c m → v.capacity ≡ base.capacity
   same_capacity base v c m at_word = grind arith
 
+  -- the call began at base and stands at c at v with room m; n is the word that its step found, w
+  -- what the pass knows then, f what was made so far
   module _ (base v w : View ℕ) (c : Emptying) (m room : OneWord) (n : ℕ) (f : ℕ → List (Event ℕ))
       (idle : base.going ≡ None) (so_far : MadeSoFar emptying base v f) (at : AtWord base v c m)
       (kept : room ≡ reset_all_kept m n) where
@@ -91,6 +94,7 @@ module _ (kind : SetKind) where
         word : next.word ≡ c.word + 1
         word = ap (λ (z : Emptying). z.word) (goes_next c n next e).0
 
+        -- the pass has made what it had made, and what emptying this word wrote
         go : AtWord v w next room → MadeSoFar emptying base w (λ p. f p ++ emptied kind p c.word room.0)
         go (inl now) =
             let none = begins_at kind v.capacity next room now.first in
@@ -138,6 +142,7 @@ module _ (kind : SetKind) where
       word : next.word ≡ c.word + 1
       word = ap (λ (z : Emptying). z.word) (goes_next c n next e).0
 
+      -- a step that goes on wrote what emptying its word writes
       go : AtWord v w next room → Stepped kind v w c.word room
       go (inl now) =
           let none = begins_at kind v.capacity next room now.first in
@@ -172,12 +177,16 @@ module _ (kind : SetKind) where
   pub first_wrote : (cap : ℕ) (v : View ℕ) → IsIdle cap v → 0 < cap → WroteSoFar kind cap (λ p. []) v v (all_words kind cap) fresh
   first_wrote cap v is_idle cap_positive = grind (arith, all_words, fresh, first_at)
 
+  -- the call began at base and stands at c at v with room m
   module _ (cap : ℕ) (wrote : ℕ → List (Event ℕ)) (base v : View ℕ) (c : Emptying) (m : OneWord) (h : WroteSoFar kind cap wrote base v c m) where
     pub words_left : (c.end ≡ words_of kind cap) × (first_word kind ≤ c.word) × (c.word < c.end)
     words_left = grind (arith, words_of, first_word, stands)
 
+    -- n is the word that its step found, a how it goes on, w what the pass knows then
     module _ (w : View ℕ) (room : OneWord) (n : ℕ) (kept : room ≡ reset_all_kept m n) (a : After Emptying (Unit {0}))
         (goes_so : reset_all_after c n ≡ a) (told : (b : View ℕ) → AtWord b v c m → Goes b a room w) where
+      -- where the call goes on to the next word, it has written what it had, and what emptying
+      -- this word wrote
       pub wrote_on : (next : Emptying) → a ≡ GoOn next → WroteSoFar kind cap (λ p. wrote p ++ emptied kind p c.word room.0) base w next room
       wrote_on next is =
           let on =
@@ -185,6 +194,7 @@ module _ (kind : SetKind) where
           (λ b at. subst (λ z. Goes b z room w) is (told b at)) in
           record { at = on.1; size = h.size; idle = h.idle; made = on.0 }
 
+      -- where the call ends, it wrote what it had, and what emptying the last word wrote
       pub wrote_all : a ≡ Done tt
           → HasMade emptying answers.Done (λ p. wrote p ++ emptied kind p c.word room.0) base w × HasDone (machine_kind kind) base w
       wrote_all is =

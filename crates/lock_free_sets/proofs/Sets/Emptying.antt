@@ -40,6 +40,8 @@ hears_word : (c : Emptying) (m : OneWord) (a : Ask) (n : ℕ) → reset_all_want
     → (reset_all_after c (answered a.op n) ≡ reset_all_after c n) × (reset_all_kept m (answered a.op n) ≡ reset_all_kept m n)
 hears_word c m a n e = go (nat_lt c.word c.end) refl
   where
+    -- the call goes on after what it is handed as after what its word had, whether its word is one
+    -- of the set or not
     go : (b : Bool) → nat_lt c.word c.end ≡ b
         → (reset_all_after c (answered a.op n) ≡ reset_all_after c n) × (reset_all_kept m (answered a.op n) ≡ reset_all_kept m n)
     go true t =
@@ -66,6 +68,7 @@ same_after : (kind : SetKind) (c : Emptying) (m : OneWord) (n : ℕ)
     → after_of one_word (flight_at {T = ℕ} kind c m) n ≡ goes (empties kind) (reset_all_after c n) (reset_all_kept m n)
 same_after kind c m n = go kind (nat_lt (c.word + 1) c.end) refl
   where
+    -- the model's call goes on as that of `steps`, whether a word follows or not
     go : (k : SetKind) (b : Bool) → nat_lt (c.word + 1) c.end ≡ b
         → after_of one_word (flight_at {T = ℕ} k c m) n ≡ goes (empties k) (reset_all_after c n) (reset_all_kept m n)
     go Flags true t = rw t refl
@@ -82,6 +85,7 @@ never Flags c m n = tt
 never Counts c m n = tt
 
 module _ (kind : SetKind) where
+  -- emptying a set of either kind is a call of the model
   is_call : IsCallOf one_word set_effects (words_of kind) reset_all_want reset_all_after (λ c m n. reset_all_kept m n) (empties {T = ℕ} kind)
   is_call =
       record {
@@ -121,6 +125,8 @@ module _ (kind : SetKind) where
       all_of p c m n from here es none =
           ap (λ zs. zs ++ set_effects p (flight_at kind c m) n) none ∙ (same_effects kind p c m n ∙ ap (λ z. emptied kind p z n) here)
 
+  -- each step of the call that empties a set keeps the rule of the table, and tells what is known
+  -- after it
   pub keeps : KeepsRule (λ (z : View ℕ). z.asked) (λ (z : View ℕ). z.capacity) (At one_word (machine_kind kind) (empties kind))
       (Ends one_word (machine_kind kind) (empties kind)) (λ key. words_of kind key + 1) (λ key. key)
       (λ key. IsMachine one_word (machine_kind kind) key) reset_all_want reset_all_after (λ c m n. reset_all_kept m n)
@@ -181,6 +187,7 @@ module _ (kind : SetKind) (v : View ℕ) (idle : IsIdle v.capacity v) where
       (all_words kind v.capacity) fresh fresh tt none_first (asks_none kind) (never kind)
       (ends_so kind) (writes_none kind) (λ p wrote h. h)
     where
+      -- on a set of no place the call asks for no word
       asks_none : (k : SetKind) → want_of one_word (flight_at {T = ℕ} k (all_words k v.capacity) fresh) ≡ wants.Nothing
       asks_none Flags =
           let few : elements v.capacity ≡ 0 = omega arith in
@@ -188,6 +195,7 @@ module _ (kind : SetKind) (v : View ℕ) (idle : IsIdle v.capacity v) where
           rw t refl
       asks_none Counts = let t : nat_lt 0 v.capacity ≡ false = grind (arith, nat_tests) in rw t refl
 
+      -- on a set of no place the call ends with its first step
       ends_so : (k : SetKind) → after_of one_word (flight_at {T = ℕ} k (all_words k v.capacity) fresh) 0 ≡ Done ((empties_none k).answer tt fresh)
       ends_so Flags =
           let few : elements v.capacity ≡ 0 = omega arith in

@@ -13,6 +13,7 @@ module _ {E : Type 0} {kind : Ghosts E} {words : Words.Ghosts ℕ} where
   pub same_size : (set : Set E) (pass : Held E ℕ (SetRule E) kind words) → IsPassOf set pass → (view pass).capacity ≡ capacity_of set
   same_size set pass of = pass.known ∙ ap (λ (z : SetId). z.capacity) of
 
+  -- a pass of the same set after a whole call is what each call leaves of a pass
   pub same_pass : {of : Kind} {old new : Held E ℕ (SetRule E) kind words} → set_of new ≡ set_of old
       → HasDone of (view old) (view new) → SamePass old new
   same_pass set done =

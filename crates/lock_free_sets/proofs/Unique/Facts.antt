@@ -91,6 +91,7 @@ module _ (base w : View ℕ) (same : w.capacity ≡ base.capacity) (h : IsHistor
     at_end : h.trace.events ≡ before ++ last ∷ []
     at_end = sym h.is ∙ is_last
 
+    -- a call that has ended has answered right by what came before its end
     pub answered_by : Answered start answer base w
     answered_by =
         record {
@@ -114,6 +115,7 @@ module _ (base w : View ℕ) (same : w.capacity ≡ base.capacity) (h : IsHistor
         go (Open call es) x = (set_acts es, x.1)
         go (Ended call other es) x = absurd x
 
+  -- no more indices are counted as in use than there are
   pub at_most : (p number : ℕ) (wrote : List (Event ℕ)) → Called p (Indices BorrowedIndices) (Number number) wrote base w → number ≤ base.capacity
   at_most p number wrote c =
       let few =
@@ -144,6 +146,8 @@ module _ (base w : View ℕ) (m : Unit {0}) (idle : base.going ≡ None) where
       has_made kinds.Indices takes_index base w answer m ends idle (λ by. claimed_by by answer) ends.tells
 
   module _ (i : ℕ) (ends : Ends one_word kinds.Indices takes_index base (Ok i) m w) where
+    -- an index that was acquired had no holder at its claim, it lies below the capacity, and the
+    -- set was not locked
     pub free : WasFree i base w
     free =
         let p = (taken (Ok i) ends).by in
@@ -204,6 +208,7 @@ module _ (base w : View ℕ) (m : Unit {0}) (idle : base.going ≡ None) where
       let fits = fits_call base w ends.capacity ends.history g.by (Release index modes.Default) (State state) (Freed g.by index ∷ []) g.called in
       never_locks index state fits.0 fits.1
 
+  -- a release that may lock has answered right by what came before its end
   pub locked_answered : (index : ℕ) (state : ReleaseState)
       → Ends one_word kinds.Indices (gives_or_locks index) base state m w
       → Answered (Release index modes.LockIfLastIndex) (State state) base w

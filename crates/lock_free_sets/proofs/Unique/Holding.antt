@@ -20,7 +20,9 @@ pub record Moves (j more less : ℕ) (v w : View ℕ) : Type 0 where
   pub claimed : sum_by (claims j) w.made ≡ sum_by (claims j) v.made + more
   pub freed : sum_by (frees j) w.made ≡ sum_by (frees j) v.made + less
 
+-- v and w are what the pass knew before a call and after it, j is any index
 module _ (v w : View ℕ) (j : ℕ) where
+  -- an acquire that took an index adds one claim of this index, and no free
   pub taken_moves : (i : ℕ) → HasTaken (Ok i) v w → Moves j (one_if i j) 0 v w
   taken_moves i h =
       let a = sum_made (claims j) h.by (Indices Acquire) (Index i) (Claimed h.by i ∷ []) v w h.called in
@@ -29,6 +31,7 @@ module _ (v w : View ℕ) (j : ℕ) where
       let none : sum_by (frees {T = ℕ} j) (Claimed h.by i ∷ []) ≡ 0 = refl in
       record { claimed = omega arith; freed = omega arith }
 
+  -- an acquire that took none adds neither claim nor free
   pub refused_moves : (e : UniqueIndexSetAcquireFailure) → HasTaken (Err e) v w → Moves j 0 0 v w
   refused_moves e h =
       let a = sum_made (claims j) h.by (Indices Acquire) (NoIndex e) [] v w h.called in
@@ -37,6 +40,7 @@ module _ (v w : View ℕ) (j : ℕ) where
       let none' : sum_by (frees {T = ℕ} j) [] ≡ 0 = refl in
       record { claimed = omega arith; freed = omega arith }
 
+  -- a release adds one free of its index, and no claim
   pub given_moves : (i : ℕ) (state : ReleaseState) → HasGiven i state v w → Moves j 0 (one_if i j) v w
   given_moves i state h =
       let a = sum_made (claims j) h.by (Indices (Release i modes.Default)) (State state) (Freed h.by i ∷ []) v w h.called in
@@ -45,6 +49,7 @@ module _ (v w : View ℕ) (j : ℕ) where
       let is : sum_by (frees {T = ℕ} j) (Freed h.by i ∷ []) ≡ one_if i j = omega arith in
       record { claimed = omega arith; freed = omega arith }
 
+  -- a release that may lock adds one free of its index, and no claim, whether it locks or not
   pub locked_moves : (i : ℕ) (state : ReleaseState) → HasGivenOrLocked i state v w → Moves j 0 (one_if i j) v w
   locked_moves i state h =
       let a = sum_made (claims j) h.by (Indices (Release i modes.LockIfLastIndex)) (State state) (given_by h.by i state) v w h.called in
@@ -61,6 +66,7 @@ module _ (v w : View ℕ) (j : ℕ) where
       one_free Unlocked = omega arith
       one_free Locked = omega arith
 
+  -- counting the indices in use adds neither claim nor free
   pub counted_moves : (n : ℕ) → HasCounted n v w → Moves j 0 0 v w
   counted_moves n h =
       let a = sum_made (claims j) h.by (Indices BorrowedIndices) (Number n) [] v w h.called in
@@ -69,6 +75,7 @@ module _ (v w : View ℕ) (j : ℕ) where
       let none' : sum_by (frees {T = ℕ} j) [] ≡ 0 = refl in
       record { claimed = omega arith; freed = omega arith }
 
+  -- a look at the lock adds neither claim nor free
   pub looked_moves : (b : Bool) → HasLooked b v w → Moves j 0 0 v w
   looked_moves b h =
       let a = sum_made (claims j) h.by (Indices IsLocked) (Truth b) [] v w h.called in
@@ -158,6 +165,7 @@ held_first i is v sound held =
 pub held_apart : (is : List ℕ) (v : View ℕ) → IsSound v → HeldBy is v.made → AllPairs (λ i j. i ≢ j) is
 held_apart is v sound held = go is (λ i. (let was = held i in let most = sound.once i in omega arith))
   where
+    -- a number that does not stand in a list differs from each number of the list
     none : (x : ℕ) (xs : List ℕ) → times x xs ≡ 0 → All (λ y. x ≢ y) xs
     none x [] zero_is = All-nil (λ y. x ≢ y)
     none x (y ∷ xs) zero_is =
@@ -166,6 +174,7 @@ held_apart is v sound held = go is (λ i. (let was = held i in let most = sound.
         let other : x ≢ y = λ e. (let t : (y == x) ≡ true = grind (arith, nat_tests) in let one_is : one_if y x ≡ 1 = rw t refl in absurd (omega arith)) in
         All-cons (λ z. x ≢ z) y xs other (none x xs (omega arith))
 
+    -- in a list in which no number stands twice, all numbers differ
     go : (xs : List ℕ) → ((i : ℕ) → times i xs ≤ 1) → AllPairs (λ i j. i ≢ j) xs
     go [] few = λ i j d low less. absurd (omega arith)
     go (x ∷ xs) few =

@@ -33,6 +33,8 @@ module _ {S : Type 0} (a b : Event ℕ → ℕ) (after : S → Event ℕ → S) 
   abbrev Moves : List (Event ℕ) → Event ℕ → Type 0
   Moves before e = a e + weight (fold after first before) ≡ b e + weight (after (fold after first before) e)
 
+  -- over some events, the sum of a and the weight before them are the sum of b and the weight
+  -- after them, if this is so of each event
   adds : (before es : List (Event ℕ)) → Each Moves (before ++ es)
       → sum_by a es + weight (fold after first before) ≡ sum_by b es + weight (fold after first (before ++ es))
   adds before [] each =
@@ -57,6 +59,8 @@ module _ (c i : ℕ) (before : List (Event ℕ)) where
   moves : (e : Event ℕ) → HoldsRight c before e → claims i e + one_held (holder_of i before) ≡ frees i e + one_held (holder_after i (holder_of i before) e)
   moves (Claimed p index) h = go (index == i) refl
     where
+      -- a claim of the index, or of another one, counts as much as it changes whether the index
+      -- has a holder
       go : (b : Bool) → (index == i) ≡ b
           → claims {T = ℕ} i (Claimed p index) + one_held (holder_of i before)
           ≡ 0 + one_held (holder_after {T = ℕ} i (holder_of i before) (Claimed p index))
@@ -67,6 +71,8 @@ module _ (c i : ℕ) (before : List (Event ℕ)) where
       go false t = rw t refl
   moves (Freed p index) h = go (index == i) refl
     where
+      -- a free of the index, or of another one, counts as much as it changes whether the index has
+      -- a holder
       go : (b : Bool) → (index == i) ≡ b
           → 0 + one_held (holder_of i before)
           ≡ frees {T = ℕ} i (Freed p index) + one_held (holder_after {T = ℕ} i (holder_of i before) (Freed p index))
@@ -79,6 +85,8 @@ module _ (c i : ℕ) (before : List (Event ℕ)) where
 
 -- ---- how long a list is whose numbers are below a bound
 
+-- a list of numbers below c is as long as the times that each number below c stands in it add up
+-- to
 pub length_is : (c : ℕ) (is : List ℕ) → ((i : ℕ) → c ≤ i → times i is ≡ 0) → sum_below (λ i. times i is) c ≡ length is
 length_is c [] none = sum_none (λ i. times i []) c (λ i below. refl)
 length_is c (x ∷ xs) none =
@@ -162,6 +170,7 @@ module _ (capacity : ℕ) (seen : List (Event ℕ)) (h : IsHistory one_word kind
 
   -- who made all of it holds these, and has no call under way
   module _ (made : List (Event ℕ)) (all : (f : Event ℕ → ℕ) → sum_by f seen ≡ sum_by f made) (done : IsDone made) (is : List ℕ) (held : HeldBy is made) where
+    -- no party has a call under way
     idle : (p : ℕ) → flight_of (doing_of (party_of p t.world.latest)) ≡ None
     idle p =
         let calls = (counted_as kinds.Indices t h.run.reached).calls p in
@@ -208,6 +217,8 @@ module _ (capacity : ℕ) (v : View ℕ) (h : IsHistory one_word kinds.Indices c
   times_most : (i : ℕ) → times i is ≤ one_held (holder holders i)
   times_most i = ⊎_elim holds_it (λ less. (let a = held i in omega arith)) (cases_lt (sum_by (frees i) v.made) (sum_by (claims i) v.made))
     where
+      -- an index that the pass claimed more often than it freed has a holder, and stands in the
+      -- list once at most
       holds_it : sum_by (frees i) v.made < sum_by (claims i) v.made → times i is ≤ one_held (holder holders i)
       holds_it more =
           let right = holds_right capacity v.seen h in

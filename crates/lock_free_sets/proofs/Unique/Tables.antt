@@ -45,6 +45,8 @@ module _ {A : Type 0} (free : A) (out : A → Bool) where
         let was = held j in
         omega arith
 
+    -- i is the index that is given back or acquired, p its place from then on, w what the pass
+    -- knows then
     module _ (i : ℕ) (p : A) (lt : i < length table) (w : View ℕ) where
       -- one place more or less is out, as one index is held
       abbrev Moves : Type 0
@@ -54,6 +56,8 @@ module _ {A : Type 0} (free : A) (out : A → Bool) where
       moved : Moves → IsTableOf w (set table i p)
       moved moves k = ⊎_elim (here k) (there k) (cases_eq k i)
         where
+          -- at the place that changed, the index is claimed once more than freed just if the place
+          -- is out now
           here : (j : ℕ) → j ≡ i → sum_by (claims j) w.made ≡ sum_by (frees j) w.made + as_number (out (get_or (set table i p) j free))
           here j e =
               let t : (i == i) ≡ true = grind (arith, nat_tests) in
@@ -64,6 +68,8 @@ module _ {A : Type 0} (free : A) (out : A → Bool) where
               let now : as_number (out (get_or (set table i p) i free)) ≡ as_number (out p) = ap (λ z. as_number (out z)) (get_or-set_same table i p free lt) in
               subst (λ n. sum_by (claims n) w.made ≡ sum_by (frees n) w.made + as_number (out (get_or (set table i p) n free))) (sym e) (omega arith)
 
+          -- at another place, the index is claimed once more than freed just if the place is out,
+          -- as before
           there : (j : ℕ) → j ≢ i → sum_by (claims j) w.made ≡ sum_by (frees j) w.made + as_number (out (get_or (set table i p) j free))
           there j ne =
               let t : (i == j) ≡ false = grind (arith, nat_tests) in
@@ -79,6 +85,7 @@ module _ {A : Type 0} (free : A) (out : A → Bool) where
       pub is_freed : (state : ReleaseState) → out (get_or table i free) ≡ true → out p ≡ false → HasGiven i state v w → IsTableOf w (set table i p)
       is_freed state was now given = moved go
         where
+          -- with the release one place less is out, as one index less is held
           go : Moves
           go j =
               let m = given_moves v w j i state given in
@@ -94,6 +101,7 @@ module _ {A : Type 0} (free : A) (out : A → Bool) where
       pub is_taken : out p ≡ true → HasAcquired i v w → IsTableOf w (set table i p)
       is_taken now taken = moved go
         where
+          -- with the acquire one place more is out, as one index more is held
           go : Moves
           go j =
               let m = taken_moves v w j i taken.taken in

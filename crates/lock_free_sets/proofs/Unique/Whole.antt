@@ -75,6 +75,8 @@ module _ (base w : View ℕ) (m : Unit {0}) (idle : base.going ≡ None) where
       let a = taken_answered base w m idle (Err WasLocked) ends in
       (sound_after ends).lock (lock_stays (last_of a) a.right)
 
+  -- an acquire that failed found none left, where with the whole share its pass holds all of them,
+  -- or it found the lock, where its pass holds none
   pub refused : (e : UniqueIndexSetAcquireFailure) → Ends one_word kinds.Indices takes_index base (Err e) m w → IsDone base.made → WasRefused e base w
   refused OutOfIndices ends done =
       let t = taken base w m idle (Err OutOfIndices) ends in
@@ -149,6 +151,7 @@ module _ (base w : View ℕ) (m : Unit {0}) (idle : base.going ≡ None) where
         own : (length is ≤ (tally_of w.seen).held) × (is_locked w.seen ≡ true → length is ≡ 0)
         own = own_few base.capacity w ends.history ends.parties is held
 
+        -- no fewer are counted than the pass holds, whether the set was locked or not
         go : (b : Bool) → is_locked a.before ≡ b → length is ≤ n
         go true t = let none = own.1 (same_lock ∙ t) in omega arith
         go false t =
@@ -167,6 +170,8 @@ module _ (base w : View ℕ) (m : Unit {0}) (idle : base.going ≡ None) where
         now : IsDone w.made
         now = counted_done base w n (counted base w m idle n ends) done
 
+        -- with the whole share as many are counted as the pass holds, whether the set was locked
+        -- or not
         go : (b : Bool) → is_locked a.before ≡ b → length is ≡ n
         go true t =
             let none = none_left base.capacity w.seen ends.history w.made all now is held (same_lock ∙ t) in
@@ -199,6 +204,8 @@ module _ (base w : View ℕ) (m : Unit {0}) (idle : base.going ≡ None) where
       → Ends one_word kinds.Indices (gives_index index) base state m w → ReleaseDone index state base w
   release_done index state ends = record { given = given base w m idle index state ends; unlocked = unlocked base w m idle index state ends }
 
+  -- a release that may lock frees its index and answers right; if it locked its pass holds
+  -- nothing, and if not, with the whole share, it holds something
   pub release_or_lock_done : (index : ℕ) (state : ReleaseState)
       → Ends one_word kinds.Indices (gives_or_locks index) base state m w → IsDone base.made → ReleaseOrLockDone index state base w
   release_or_lock_done index state ends done =
@@ -209,6 +216,8 @@ module _ (base w : View ℕ) (m : Unit {0}) (idle : base.going ≡ None) where
         whole = locked_whole index state ends done;
       }
 
+  -- a count of the indices in use is no less than its pass holds, at most the capacity, and with
+  -- the whole share what its pass holds
   pub borrowed_done : (n : ℕ) → Ends one_word kinds.Indices counts_out base n m w → IsDone base.made → (capacity : ℕ)
       → base.capacity ≡ capacity → BorrowedDone capacity n base w
   borrowed_done n ends done capacity size =
@@ -220,6 +229,8 @@ module _ (base w : View ℕ) (m : Unit {0}) (idle : base.going ≡ None) where
         whole = counted_whole n ends done;
       }
 
+  -- a look at the lock answers right; who sees the lock holds nothing, and who does not see it had
+  -- not seen it before
   pub is_locked_done : (b : Bool) → Ends one_word kinds.Indices looks_locked base b m w → IsLockedDone b base w
   is_locked_done b ends =
       record {

@@ -28,6 +28,7 @@ module _ {T : Type 0} where
   none_by f p none [] = refl
   none_by f p none (e ∷ es) = go (is_party p (whose e)) refl (none_by f p none es)
     where
+      -- with one event more, of the party or not, its own events still count nothing
       go : (b : Bool) → is_party p (whose e) ≡ b → sum_by f (events_by p es) ≡ 0 → sum_by f ((if b then e ∷ [] else []) ++ events_by p es) ≡ 0
       go true is rest =
           let one = sum_by-cons f e (events_by p es) in
@@ -91,6 +92,7 @@ module _ {T : Type 0} where
         same_during (beside c.by)
         ∙ (ap (sum_by (beside c.by)) (sym c.called.during_own) ∙ none_by (beside c.by) c.by (none_beside c.by) c.called.during)
 
+    -- no call of another party has ended since this call began
     none_ended : passed c.by new.seen ≡ 0
     none_ended =
         ap (passed c.by) seen_is
@@ -145,6 +147,7 @@ module _ {T : Type 0} where
 -- ---- who has the whole keeps it
 
 module _ {T : Type 0} where
+  -- a pass with the whole share that has seen and made nothing has the whole
   pub first_whole : (v : View T) → IsAll v.share → v.seen ≡ [] → v.made ≡ [] → HasWhole v
   first_whole v share seen made =
       record {
@@ -155,6 +158,8 @@ module _ {T : Type 0} where
 
   -- one call more has ended
   module _ (p : ℕ) (start : Start T) (answer : Answer T) (wrote : List (Event T)) (old new : View T) (called : Called p start answer wrote old new) where
+    -- with a call more that wrote no begin and no end but its own, each call that was begun has
+    -- still ended
     pub still_done : AllInside wrote → IsDone old.made → IsDone new.made
     still_done inside done q =
         let a = sum_made (begins q) p start answer wrote old new called in
@@ -169,6 +174,7 @@ module _ {T : Type 0} where
         let mine : IsAll new.share = subst IsAll (sym share) was.share in
         record { share = mine; all = all mine; done = still_done inside was.done }
 
+  -- where in both lists each call that was begun has ended, it has in both together
   pub joined_done : (mine theirs : List (Event T)) → IsDone mine → IsDone theirs → IsDone (mine ++ theirs)
   joined_done mine theirs one two p =
       let a = one p in

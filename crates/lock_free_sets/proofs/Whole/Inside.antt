@@ -67,6 +67,7 @@ module _ (T : Type 0) where
       either (old == found) (Cleared p (place_after capacity start passed) ∷ []) [] (tt, tt) tt
   of_reset p capacity stage old = tt
 
+  -- no step of a call on a bit set, or on a counting one, writes that a call began or ended
   of_bits : (p : ℕ) (flight : BitsFlight) (old : ℕ) → AllInside {T = T} (bits.effects_of p flight old)
   of_bits p (Set run) old = of_set p run.given run.call.stage old
   of_bits p (ResetNext run) old = of_reset p run.call.capacity run.call.stage old

@@ -52,6 +52,7 @@ module _ {T : Type 0} where
   passed_by p n (Finished q start answer) = if q == p then n else n + 1
   passed_by p n e = n
 
+  -- how many calls of others have ended in all these events since the party's latest began
   abbrev pub passed : ℕ → List (Event T) → ℕ
   passed p events = fold (passed_by p) 0 events
 
@@ -88,6 +89,8 @@ module _ {T : Type 0} where
 
   -- ---- a call goes on
 
+  -- r is the party that steps, x its latest call, s the step, y the call after the step, later the
+  -- trace then
   module _ (t : Trace T) (h : IsCounted t) (r : ℕ) (x : Party T) (ask : Option Ask) (n : ℕ) (flight : Flight T) (since : ℕ)
       (found : party_of r t.world.latest ≡ Some x) (doing : x.doing ≡ Going flight since) where
     abbrev s : Step (Flight T) (Registry T) T
@@ -114,6 +117,8 @@ module _ {T : Type 0} where
     went : is_going (party_of r t.world.latest) ≡ 1
     went = ap is_going found ∙ ap goes doing
 
+    -- what the events of the step do not count changes by what the end of the call counts, if the
+    -- call ends
     sum_then : (f : Event T → ℕ) → sum_by f s.wrote ≡ 0
         → sum_by f later.events ≡ sum_by f t.events + sum_by f (ending_of r x.start (answer_in s.after))
     sum_then f none =
@@ -152,6 +157,8 @@ module _ {T : Type 0} where
         none : sum_by (begins q) (ending_of r x.start (answer_in s.after)) ≡ 0
         none = begins_last q s.after
 
+        -- of the party that steps, as many calls began as ended, and one more if it has one under
+        -- way
         own : q ≡ r → sum_by (begins q) later.events ≡ sum_by (ends q) later.events + is_going (party_of q later.world.latest)
         own same =
             let was = h.calls q in
@@ -164,6 +171,7 @@ module _ {T : Type 0} where
             subst (λ z. sum_by (ends z) (ending_of r x.start (answer_in s.after)) + goes y.doing ≡ 1) (sym same) (ends_mine s.after _ _) in
             omega arith
 
+        -- of another party, as many calls began as ended, and one more if it has one under way
         other : q ≢ r → sum_by (begins q) later.events ≡ sum_by (ends q) later.events + is_going (party_of q later.world.latest)
         other ne =
             let was = h.calls q in
@@ -198,6 +206,8 @@ module _ {T : Type 0} where
         → others_of later.world.changes z.doing ≡ 0
     others_then p z there quiet none = ⊎_elim own other (cases_eq p r)
       where
+        -- if the party that steps is this one, others have still changed no word since its call
+        -- began
         own : p ≡ r → others_of later.world.changes z.doing ≡ 0
         own same =
             let is : Some y ≡ Some z = sym mine ∙ (ap (λ n. party_of n later.world.latest) (sym same) ∙ there) in
@@ -234,6 +244,7 @@ module _ {T : Type 0} where
   decides t h r said None found = subst (λ es. IsCounted record { world = t.world; events = es }) (sym (append-nil t.events)) h
   decides t h r said (Some x) found = answered t h r x None (number_of said) found x.doing refl
 
+  -- with an owner that dies, the calls are still counted right
   dies : (t : Trace T) → IsCounted t → (owner : ℕ) → IsCounted (after_turn t (Die owner))
   dies t h owner =
       record {
@@ -247,6 +258,7 @@ module _ {T : Type 0} where
 
   -- ---- a call begins
 
+  -- r is the party that begins a call, new this call, begun the trace then
   module _ (t : Trace T) (h : IsCounted t) (r : ℕ) (start : Start T) (flight : Flight T) (free : is_going (party_of r t.world.latest) ≡ 0) where
     abbrev begun : Trace T
     begun = record { world = after_begin t.world r start (Some flight); events = t.events ++ Begun r start ∷ [] }
@@ -272,6 +284,7 @@ module _ {T : Type 0} where
             two : sum_by (ends q) begun.events ≡ sum_by (ends q) t.events + 0
             two = sum_by-append (ends q) t.events (Begun r start ∷ [])
 
+            -- of the party that begins, one call more began than ended
             own : q ≡ r → sum_by (begins q) begun.events ≡ sum_by (ends q) begun.events + is_going (party_of q begun.world.latest)
             own same =
                 let was = h.calls q in
@@ -283,6 +296,7 @@ module _ {T : Type 0} where
                 let e : is_going (party_of q begun.world.latest) ≡ 1 = ap (λ z. is_going (party_of z begun.world.latest)) same ∙ ap is_going found_new in
                 omega arith
 
+            -- of another party, as many calls began as ended, and one more if it has one under way
             other : q ≢ r → sum_by (begins q) begun.events ≡ sum_by (ends q) begun.events + is_going (party_of q begun.world.latest)
             other ne =
                 let was = h.calls q in
@@ -298,6 +312,7 @@ module _ {T : Type 0} where
             → others_of begun.world.changes z.doing ≡ 0
         others p z there quiet none = ⊎_elim own other (cases_eq p r)
           where
+            -- of the party that begins, others have changed no word since its call began
             own : p ≡ r → others_of begun.world.changes z.doing ≡ 0
             own same =
                 let is : Some new ≡ Some z = sym found_new ∙ (ap (λ n. party_of n begun.world.latest) (sym same) ∙ there) in
@@ -307,6 +322,7 @@ module _ {T : Type 0} where
                 no_change : (n : ℕ) → n - n ≡ 0
                 no_change n = omega arith
 
+            -- of another party, others have still changed no word since its call began
             other : p ≢ r → others_of begun.world.changes z.doing ≡ 0
             other ne =
                 let no = sym (ap is_going found_new) ∙ quiet r (λ e. ne (sym e)) in
@@ -314,6 +330,7 @@ module _ {T : Type 0} where
 
   -- ---- any turn
 
+  -- the party has no call under way, and the call is one that the kind has
   record BeginsFree (t : Trace T) (p : ℕ) (start : Start T) : Type 0 where
     pub free : flight_in t.world p ≡ None
     pub call : is_none (first_of t.world.kind t.world.capacity start t.world.kept) ≡ false
@@ -328,6 +345,7 @@ module _ {T : Type 0} where
   none_goes : (o : Option (Party T)) → flight_of (doing_of o) ≡ None → is_going o ≡ 0
   none_goes o e = grind arith
 
+  -- after each turn the calls are still counted right, if a begin is free
   turn_counted : (t : Trace T) (turn : Turn T) → IsFree t turn → IsCounted t → IsCounted (after_turn t turn)
   turn_counted t (Next p) f h = nexts t h p (party_of p t.world.latest) refl
   turn_counted t (Decide p said) f h = decides t h p said (party_of p t.world.latest) refl

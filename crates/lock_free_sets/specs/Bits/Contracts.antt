@@ -47,7 +47,7 @@ pub record CameFromPosition (capacity place : ℕ) (new : View ℕ) : Type 0 whe
   pub is : new.seen ≡ before ++ Finished by (Bits ResetNext) (Reset place) ∷ []
   pub came : CameTo by capacity place before
 
-abbrev pub cleared_by : ℕ → ℕ → Event ℕ
+abbrev pub cleared_by : (p place : ℕ) → Event ℕ
 cleared_by p place = Cleared p place
 
 -- the call cleared just these places, ascending, and the closure was called with each of them, which led it from the

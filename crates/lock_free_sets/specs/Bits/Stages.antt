@@ -30,7 +30,7 @@ IsPlace capacity (Some place) = place < capacity
 module _ {T : Type 0} where
   -- ---- setting a place
 
-  abbrev pub set_wrote : ℕ → ℕ → Bool → List (Event T)
+  abbrev pub set_wrote : (p place : ℕ) → Bool → List (Event T)
   set_wrote p place true = events.Set p place ∷ []
   set_wrote p place false = []
 

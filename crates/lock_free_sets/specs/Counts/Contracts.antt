@@ -15,7 +15,7 @@ use Rattle.lock_free_sets.specs.Driven.{HasMade}
 use Rattle.lock_free_sets.specs.Counts.Callable.{CountsAscend}
 
 -- the call counted the place, and answered this number
-abbrev pub HasCounted : ℕ → ℕ → View ℕ → View ℕ → Type 0
+abbrev pub HasCounted : (place number : ℕ) → View ℕ → View ℕ → Type 0
 HasCounted place number =
     HasMade (Bits (Set place)) (Number number) (λ by. Counted by place ∷ [])
 

@@ -46,13 +46,13 @@ module _ {T : Type 0} where
       (calls.TakeAll (record { call = c; given = tt; room = m }))
 
   -- what emptying a word that held this writes
-  abbrev pub emptied : SetKind → ℕ → ℕ → ℕ → List (Event T)
+  abbrev pub emptied : SetKind → (p word old : ℕ) → List (Event T)
   emptied Flags p word old = clear_events p word old
   emptied Counts p word old = take_events p word old
 
   -- what it wrote since it stood at the word `from`: nothing where it stands there, and what
   -- stood in that word, which lies in the room, where it has come to the next
-  abbrev pub HasEmptied : SetKind → ℕ → ℕ → ℕ → OneWord → List (Event T) → Type 0
+  abbrev pub HasEmptied : SetKind → (p from word : ℕ) → OneWord → List (Event T) → Type 0
   HasEmptied kind p from word m es =
       (from ≤ word) × (word ≡ from → es ≡ []) × (word ≡ from + 1 → es ≡ emptied kind p from m.0)
 

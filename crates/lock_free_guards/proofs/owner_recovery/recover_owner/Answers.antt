@@ -1,3 +1,5 @@
+-- `recover_owner` (src/owner_recovery.rt): its call of `recover` meets the requirement `freed`,
+-- and its return meets the clauses `recovered`, `counted`, `others` and `answered`.
 use Rattle.std.proofs.Common.{rules, arith}
 use Rattle.lock_free_owners.specs.Robust.Callable.{Owned}
 use Rattle.lock_free_owners.specs.RobustUniqueIndexSet.{view}
@@ -8,6 +10,8 @@ use Rattle.lock_free_guards.specs.contracts.owner_recovery.fn.recover_owner.reco
 use Rattle.lock_free_guards.specs.contracts.owner_recovery.fn.recover_owner.recover+arg4 as told
 use Rattle.lock_free_guards.proofs.owner_recovery.recover_owner.Goals as goal
 
+-- the second closure may be called with each index that was freed: the number of those before is
+-- below the capacity
 pub recover-state-requires-clause-freed : goal.recover-state-requires-clause-freed
 recover-state-requires-clause-freed g c free =
     record {
@@ -24,6 +28,7 @@ returns-clause-recovered g c =
     recovers_owner _ (λ f. (asked.captures f).owner) c.args.owner (λ p o i b q k. search rules) _ c.args.mode c.recover-state.result _ _ _ _
     (view c.args.pass.now) (view c.recover-state.new.pass) (search rules) c.recover-state.ensures.recovered.recovered
 
+-- the number that is answered is that of the owner's indices that were freed
 pub returns-clause-counted : goal.returns-clause-counted
 returns-clause-counted g c =
     let v = view c.args.pass.now in
@@ -38,6 +43,7 @@ returns-clause-counted g c =
     let number = all.1 in
     search (rules, arith)
 
+-- no index of another owner was freed
 pub returns-clause-others : goal.returns-clause-others
 returns-clause-others g c =
     let v = view c.args.pass.now in
@@ -46,6 +52,7 @@ returns-clause-others g c =
     (recovers_owner _ (λ f. (asked.captures f).owner) c.args.owner (λ p o i b q k. search rules) _ c.args.mode c.recover-state.result _ _ _ _ v w
     (search rules) c.recover-state.ensures.recovered.recovered)
 
+-- the recovery answers right for this owner
 pub returns-clause-answered : goal.returns-clause-answered
 returns-clause-answered g c =
     let v = view c.args.pass.now in

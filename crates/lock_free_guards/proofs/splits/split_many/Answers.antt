@@ -4,6 +4,7 @@ use Rattle.lock_free_guards.specs.Cuts.{AreCut}
 use Rattle.lock_free_guards.proofs.Cuts.{one_more_cut}
 use Rattle.lock_free_guards.proofs.splits.split_many.Goals as goal
 
+-- a split that was made adds its half to those that were cut off in turn
 pub loop-preserved : goal.loop-preserved
 loop-preserved g c =
     let cut = g.H.Splits.cut in

@@ -1,3 +1,5 @@
+-- `acquire_waiting` (src/unique_index.rt): the invariant of its loop holds at the start and after
+-- each iteration, and its returns meet the clauses `acquired`, `held`, `locked` and `lock`.
 use Rattle.std.proofs.Common.{refl, subst, ◌∙◌, ◌+◌}
 use Rattle.model.specs.declared.event.Start.TheVariants.{Indices}
 use Rattle.model.specs.declared.families.indices.IndexStart.TheVariants.{Acquire}
@@ -11,6 +13,7 @@ use Rattle.lock_free_guards.proofs.unique_index.acquire_waiting.Goals as goal
 pub loop-init : goal.loop-init
 loop-init g c = (refl, (0, none_tried (Indices Acquire) (view c.args.pass)))
 
+-- a try that took none is one more of the tries that took none
 pub loop-preserved : goal.loop-preserved
 loop-preserved g c =
     let was = c.loop.invariant in

@@ -1,3 +1,6 @@
+-- `acquire_within` (src/unique_index.rt): the invariant of its loop holds at the start and after
+-- each iteration, and its returns meet the clauses `acquired`, `held`, `locked`, `lock`,
+-- `unlocked` and `kept`.
 use Rattle.std.proofs.Common.{◌≡◌, ◌≤◌, ◌-◌, refl, subst, ◌∙◌, arith}
 use Rattle.model.specs.declared.event.Start.TheVariants.{Indices}
 use Rattle.model.specs.declared.families.indices.IndexStart.TheVariants.{Acquire}
@@ -12,6 +15,7 @@ use Rattle.lock_free_guards.proofs.unique_index.acquire_within.Goals as goal
 pub loop-init : goal.loop-init
 loop-init g c = (refl, none_tried (Indices Acquire) (view c.args.pass))
 
+-- a try that took none is one more of the tries that took none
 pub loop-preserved : goal.loop-preserved
 loop-preserved g c =
     let was = c.loop.invariant in
@@ -19,6 +23,7 @@ loop-preserved g c =
     let none = subst (λ f. WasRefused f (view c.loop.pass) (view c.in-Err.back)) c.in-OutOfIndices.is c.in-Err.ensures.refused in
     (same.set ∙ was.0, tries.one_next c.loop.counter c.args.pass c.loop.pass c.in-Err.back was.1 same none)
 
+-- the try that took an index ends the tries within their limit
 pub returns-in-Ok-clause-acquired : goal.returns-in-Ok-clause-acquired
 returns-in-Ok-clause-acquired g c =
     let i = c.in-Ok.index in
@@ -34,6 +39,7 @@ returns-in-Ok-clause-held g c =
     let i = c.in-Ok.index in
     tries.holds_more c.loop.counter (view c.args.pass) (view c.loop.pass) c.loop.invariant.1 (index_view i) (value_of i) c.in-Ok.ensures.acquired
 
+-- the try that saw the lock ends the tries within their limit
 pub returns-in-IsLocked-clause-locked : goal.returns-in-IsLocked-clause-locked
 returns-in-IsLocked-clause-locked g c is =
     let few : c.loop.counter ≤ c.args.tries - 1 = omega arith in

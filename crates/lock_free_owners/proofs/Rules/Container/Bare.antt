@@ -27,6 +27,8 @@ one_more v = record v { asked = v.asked + 1; aside = v.aside + 1 }
 
 module _ {T : Type 0} (views : List (View T)) (events : List (Event T)) (id : ℕ) (v : View T) (at : get_elem? views id ≡ some v)
     (k : Known views events) where
+  -- with one operation more asked for, each seat without a share has still made nothing, and has
+  -- no call under way
   spent_on : (j : ℕ) (u : View T) → get_elem? (set views id (one_more v)) j ≡ some u → u.share.part ≡ 0 → (u.made ≡ []) × (u.going ≡ None)
   spent_on j u found part =
       ⊎_elim (λ (e : (j ≡ id) × (one_more v ≡ u)). subst (λ (z : View T). (z.made ≡ []) × (z.going ≡ None)) e.1
@@ -37,6 +39,7 @@ module _ {T : Type 0} (views : List (View T)) (events : List (Event T)) (id : �
   known_on : Known (set views id (one_more v)) events
   known_on = ⊎_elim mine theirs (cases_eq k.by id)
     where
+      -- if the seat is the one that knows all, it still knows all after one operation more
       mine : k.by ≡ id → Known (set views id (one_more v)) events
       mine e =
           let there : some k.last ≡ some v = sym k.at ∙ (ap (get_elem? views) e ∙ at) in
@@ -52,6 +55,7 @@ module _ {T : Type 0} (views : List (View T)) (events : List (Event T)) (id : �
             spent = spent_on;
           }
 
+      -- if another seat knows all, that one still knows all after one operation more
       theirs : k.by ≢ id → Known (set views id (one_more v)) events
       theirs ne =
           record {
@@ -75,6 +79,8 @@ asked_on views steps id v at h =
     (have_more views id v (one_more v) steps 0 at h (omega arith) (λ none. (let same = h.spent id v at none in omega arith)))
 
 module _ {T : Type 0} (code : Coding T) (key slots id : ℕ) (v : View T) where
+  -- an operation that leaves each word as it is leaves the table its machine, with a view that has
+  -- asked for one operation more
   pub leaves : (word : ℕ) (f : ℕ → ℕ) → ((k : ℕ) → f k ≡ k) → (Says : View T → ℕ → View T → Type 0) → ((k : ℕ) → Says v k (one_more v))
       → Allows (IsMachine code kinds.Container key) slots id (v, []) word f (λ found new. moves (λ (z : View T). z.asked) Says (v, []) found new)
   leaves word f same Says says s r wide at small =

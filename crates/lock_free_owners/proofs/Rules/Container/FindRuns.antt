@@ -54,6 +54,7 @@ module _ {T R : Type 0} where
   taken_after size capacity (Done n) = capacity * (size + 3)
 
   module _ (size capacity : ℕ) (c : Find T R) (same : c.capacity ≡ capacity) where
+    -- operations within those of the indices up to this one are within those that lead past it
     past : (index found most : ℕ) → index < capacity → most ≤ index * (size + 3) + (size + 3)
         → most ≤ taken_after size capacity (find_comes_to c (index + 1) found)
     past index found most low few =

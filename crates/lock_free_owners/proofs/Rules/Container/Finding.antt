@@ -70,6 +70,7 @@ module _ {T F : Type 0} (step : F → T → ContainerHandle → CallbackProgress
   came_on : (low n : ℕ) (visits : List (Visit T)) (p : F) → Came low n visits p → Came (low + 1) n visits p
   came_on low n visits p came = grind (arith, below_more, higher)
 
+  -- what was visited below an index lies below any index that is no lower
   pub widen : (low high n : ℕ) (visits : List (Visit T)) (p : F) → low ≤ high → Came low n visits p → Came high n visits p
   widen low high n visits p up h =
       record {
@@ -111,6 +112,7 @@ module _ {T F : Type 0} (step : F → T → ContainerHandle → CallbackProgress
   own : (index : ℕ) → index < cap → mine (named index owner id)
   own index within = ((refl, within), refl)
 
+  -- visits that ascend below an index still ascend with one more, at this index
   ascend_more : (low : ℕ) (value : T) (xs : List (Visit T)) → low < cap → VisitsAscend mine xs → Below low xs
       → VisitsAscend mine (xs ++ at_index low value ∷ [])
   ascend_more low value xs within h below = (
@@ -140,6 +142,8 @@ module _ {T F : Type 0} (step : F → T → ContainerHandle → CallbackProgress
         calls = FoldsTo-push (goes_on step) f visits p x q h.calls hit;
       }
 
+  -- an answer to stop ends the find: the closure was called with these visits, of which the last
+  -- was told to stop
   found_last : (low n found : ℕ) (value : T) (visits : List (Visit T)) (p q : F) → low < cap → n + 1 ≡ found → step p value (named low owner id) Stop q
       → Came low n visits p → HasFound step cap mine f found (low + 1) (visits ++ at_index low value ∷ []) q
   found_last low n found value visits p q within more hit h =

@@ -37,6 +37,8 @@ module _ {T : Type 0} (code : Coding T) (value_of : List ℕ → T) (size : ℕ)
   finds : (index count : ℕ) → index < v.capacity → Here (look_finds c index count)
   finds index count index_below_capacity = grind (arith, by_test, is_even, look_comes_to, at_look, comes)
 
+  -- at each of its stages the step of a look of a state that the pass has not keeps the rule, and
+  -- leaves what is known
   stage_owes : (stage : looks.LookStage) → ((k : ℕ) → look_takes size c stage seen k ≡ look_after size c seen k) → LookStage size v stage
       → Owes (λ (z : View T). z.asked) (IsMachine code kinds.Container cap) words slots id Says (look_asks size c.capacity stage) (v, [])
   stage_owes looks.TheVariants.LoadsChange is at = (

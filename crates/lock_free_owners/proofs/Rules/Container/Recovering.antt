@@ -145,6 +145,7 @@ module _ {T F : Type 0} (step : F → T → Bool → F → Type 0) (cap : ℕ) (
       so_then : (value : T) (p : F) (r s : After (Recover T R) ReleaseState) (xs ys : Visits) → r ≡ s → xs ≡ ys → Onward s ys value p → Onward r xs value p
       so_then value p r s xs ys r_is_s xs_are_ys onward = grind arith
 
+      -- at an index, or behind the last, the closure was asked about those below it
       comes : (index : ℕ) (visits : Visits) (value : T) (p : F) → index ≤ cap → Asked index visits p → Onward (recover_comes_to c index) visits value p
       comes index visits value p within h =
           by_test (λ stage. Onward (goes_to c stage) visits value p) (nat_lt index c.capacity) (recovers.LoadsCell index)
@@ -152,6 +153,7 @@ module _ {T F : Type 0} (step : F → T → Bool → F → Type 0) (cap : ℕ) (
           (λ t. h)
           (λ t. widen index cap visits p within h)
 
+      -- at a number that was seen, the closure was asked about those below its index
       sees_count : (index count : ℕ) (visits : Visits) (value : T) (p : F) → Asked index visits p
           → Onward (recover_sees c index count) (seen_under index count visits) value p
       sees_count index count visits value p h =
@@ -180,6 +182,7 @@ module _ {T F : Type 0} (step : F → T → Bool → F → Type 0) (cap : ℕ) (
             Onward (recover_takes size c stage given k) (visits_after given.owner stage k (value_of room) visits)
             (value_of (recover_keeps with_word stage room k)) p
 
+        -- a step at a word leaves what the closure was asked
         pub quietly : (stage : RecoverStage) → IsQuiet stage → RecoverIn size cap given.mode stage → (visits : Visits) (room : R) (p : F) (k : ℕ)
             → SoFar stage visits (value_of room) p → StepsOnward stage visits room k p
         quietly recovers.LoadsCounter still at visits room p k so =
@@ -187,6 +190,7 @@ module _ {T F : Type 0} (step : F → T → Bool → F → Type 0) (cap : ℕ) (
             (λ e. begun cap)
             (λ ne. comes 0 visits (value_of room) p (omega arith) (begun 0))
           where
+            -- as it begins nothing was visited, and the closure was not asked
             begun : (low : ℕ) → Asked low visits p
             begun low = subst (λ vs. Asked low vs p) (sym so.1) (none low p so.0)
         quietly (recovers.LoadsCell index) still at visits room p k so =

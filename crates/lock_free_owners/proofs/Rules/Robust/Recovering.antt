@@ -155,6 +155,7 @@ module _ {F S : Type 0} (step : F → ℕ → ℕ → Bool → F → Type 0) (te
         → Onward a (visits_taken stage visits k) p' q'
     quietly stage k same_stage p p' q q' a onward_holds goes_quietly = grind (arith, visits_taken, recover_takes)
 
+    -- an answer to a question is one question more, of an index below the capacity and its owner
     answered : (index owner : ℕ) (answer : Bool) (p p' : F) (q : S) → owner < empty → index < cap → step p owner index answer p'
         → Visits visits index index p q
         → Onward (recover_takes c (recovers.Asks index owner) mode (number_of answer)) (visits ++ visit index owner HasAsked ∷ []) p' q
@@ -171,6 +172,8 @@ module _ {F S : Type 0} (step : F → ℕ → ℕ → Bool → F → Type 0) (te
         (widen _ _ (index + 1) index (index + 1) (index + 1) p' q (omega arith) (omega arith)
         (asks_more (questions_of visits) (freed_of visits) index owner false p p' q named within hit h)))
 
+    -- an exchange that empties the cell tells the second closure of this index, and one that fails
+    -- tells it nothing
     emptied : (index owner k : ℕ) (p : F) (q q' : S) → owner < empty → index < cap → HasCome mode index HasAsked owner visits
         → SoFar (recovers.EmptiesCell index owner) visits p q
         → (has_freed (recover_takes c (recovers.EmptiesCell index owner) mode k) ≡ true → tell q owner index q')
@@ -183,6 +186,7 @@ module _ {F S : Type 0} (step : F → ℕ → ℕ → Bool → F → Type 0) (te
         fails = comes c (index + 1) (came_to WasTold visits) p q
             (wide (came_to WasTold visits) (index + 1) index (index + 1) (index + 1) p q (omega arith) (omega arith) h)
 
+        -- with the exchange the index is freed, and the second closure was told of it
         frees : tell q owner index q' → Visits (came_to HasFreed visits) (index + 1) (index + 1) p q'
         frees hit =
             as_lists _ _ _ _ (index + 1) (index + 1) p q'
@@ -194,6 +198,8 @@ module _ {F S : Type 0} (step : F → ℕ → ℕ → Bool → F → Type 0) (te
         no_cell = by_test (λ stage. has_freed (GoOn (at_recover c stage)) ≡ false) (nat_lt (index + 1) c.capacity) (recovers.LoadsCell (index + 1))
             recovers.LoadsCounterAgain (λ t. refl) (λ t. refl)
 
+        -- the second closure was told of the index just if the exchange found the owner in the
+        -- cell
         go : (b : Bool) → (k == owner) ≡ b
             → (has_freed (recover_takes c (recovers.EmptiesCell index owner) mode k) ≡ true → tell q owner index q')
             → (has_freed (recover_takes c (recovers.EmptiesCell index owner) mode k) ≡ false → q' ≡ q)
@@ -202,6 +208,7 @@ module _ {F S : Type 0} (step : F → ℕ → ℕ → Bool → F → Type 0) (te
         go true e = rw e (λ hit miss. frees (hit refl))
         go false e = rw e (λ hit miss. subst (Onward (recover_comes_to c (index + 1)) (came_to WasTold visits) p) (sym (miss no_cell)) fails)
 
+    -- a visit that locks the set leaves what the closures were called with
     shuts : (index k : ℕ) (lock : Lock) (p : F) (q : S) → VisitsAt cap mode (recovers.Locks index lock) visits
         → Visits visits (index + 1) (index + 1) p q → Visits (visits_locked lock visits k) (index + 1) (index + 1) p q
     shuts index k (locks.Counts count) p q at h = h
@@ -212,6 +219,8 @@ module _ {F S : Type 0} (step : F → ℕ → ℕ → Bool → F → Type 0) (te
         (ap freed_of at.1.is ∙ (freed_last at.1.before (visit index at.0 HasFreed) ∙ sym (freed_to at.1 HasLocked))) h)
         (λ t. h)
 
+    -- at each of its stages a step, or an answer, leaves what the closures were called with as it
+    -- should
     by_stage : (stage : RecoverStage) (k : ℕ) → c.stage ≡ stage → Knows cap mode shut stage visits → (p p' : F) (q q' : S)
         (a : After Recover ReleaseState) → SoFar stage visits p q → RecoverMoves step tell c mode stage k p q a p' q'
         → Onward a (visits_taken stage visits k) p' q'

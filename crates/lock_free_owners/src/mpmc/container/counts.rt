@@ -3,8 +3,8 @@ ghost use Rattle.std.specs.Prelude.{◌≡◌, ℕ};
 ghost use Rattle.steps.specs.Indices.Robust.Looks.{first_borrowed, borrowed_after};
 ghost use Rattle.steps.specs.declared.indices.robust.parts.Count.TheVariants as stages;
 ghost use Rattle.model.specs.Coding.{coding_by};
-ghost use Rattle.threaded.specs.Seats.{seen, IsSame};
-ghost use Rattle.lock_free_owners.specs.Container.Turns.{IsBoard, CountAt, CountEnds, CountStands, CountGoes};
+ghost use Rattle.threaded.specs.Seats.{seen};
+ghost use Rattle.lock_free_owners.specs.Container.Turns.{IsBoard, StaysAtBoard, CountAt, CountEnds, CountStands, CountGoes};
 
 use super::drives::{Counting, Counts};
 use super::rule::Seat;
@@ -23,8 +23,7 @@ fn step_count<T: Words, W: Counting>(
 ) -> After<BorrowedIndices, usize>
     requires board { IsBoard T.WORDS seat.old }
     requires at { CountStands (coding_by T.Words) W.which (seen seat.old) call }
-    ensures same { IsSame seat.old seat.new }
-    ensures board { IsBoard T.WORDS seat.new }
+    ensures stays { StaysAtBoard T.WORDS seat.old seat.new }
     ensures after { (k : ℕ) × (result ≡ borrowed_after call k) }
     ensures goes { CountGoes (coding_by T.Words) W.which (seen seat.old) call result (seen seat.new) }
 {
@@ -43,8 +42,7 @@ fn count_cells<T: Words, W: Counting>(
     requires board { IsBoard T.WORDS seat.old }
     requires at { CountStands (coding_by T.Words) W.which (seen seat.old)
         (record { capacity = capacity; count = stages.LoadsCell counter first filled }) }
-    ensures same { IsSame seat.old seat.new }
-    ensures board { IsBoard T.WORDS seat.new }
+    ensures stays { StaysAtBoard T.WORDS seat.old seat.new }
     ensures goes { CountGoes (coding_by T.Words) W.which (seen seat.old)
         (record { capacity = capacity; count = stages.LoadsCell counter first filled }) result (seen seat.new) }
 {
@@ -83,8 +81,7 @@ fn count_next<T: Words, W: Counting>(
 ) -> After<BorrowedIndices, usize>
     requires board { IsBoard T.WORDS seat.old }
     requires at { CountStands (coding_by T.Words) W.which (seen seat.old) call }
-    ensures same { IsSame seat.old seat.new }
-    ensures board { IsBoard T.WORDS seat.new }
+    ensures stays { StaysAtBoard T.WORDS seat.old seat.new }
     ensures goes { CountGoes (coding_by T.Words) W.which (seen seat.old) call result (seen seat.new) }
 {
     let count = call.count;
@@ -107,8 +104,7 @@ pub(crate) fn count_all<T: Words, W: Counting>(
 ) -> usize
     requires board { IsBoard T.WORDS seat.old }
     requires at { CountAt (coding_by T.Words) W.which (seen seat.old) (seen seat.old) (first_borrowed capacity) tt }
-    ensures same { IsSame seat.old seat.new }
-    ensures board { IsBoard T.WORDS seat.new }
+    ensures stays { StaysAtBoard T.WORDS seat.old seat.new }
     ensures ends { CountEnds (coding_by T.Words) W.which (seen seat.old) result tt (seen seat.new) }
 {
     // The first turns stand by themselves, so that a compiler sees at each of them the call's stage.

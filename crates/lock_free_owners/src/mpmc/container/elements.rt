@@ -1,10 +1,10 @@
 //! The loops of a look that has found a change. One goes over the elements, one over the words of an element.
-ghost use Rattle.std.specs.Prelude.{◌≡◌, ◌⊎◌, ℕ};
+ghost use Rattle.std.specs.Prelude.{◌≡◌, ℕ};
 ghost use Rattle.steps.specs.Container.Look.{look_after};
 ghost use Rattle.model.specs.Coding.{coding_by};
-ghost use Rattle.threaded.specs.Seats.{seen, IsSame};
-ghost use Rattle.lock_free_owners.specs.Container.LookTurns.{IsOnHistory, LookOnAt, LookOnOver, LookOnGoes, at_count, at_word};
-ghost use Rattle.lock_free_owners.specs.Container.Turns.{IsBoard};
+ghost use Rattle.threaded.specs.Seats.{seen};
+ghost use Rattle.lock_free_owners.specs.Container.LookTurns.{LookOnMay, LookOnOver, LookOnGoes, at_count, at_word};
+ghost use Rattle.lock_free_owners.specs.Container.Turns.{IsBoard, StaysAtBoard};
 
 use super::drives::{Beginning, LooksOn};
 use super::rule::Seat;
@@ -24,12 +24,9 @@ fn step_on<T: Words, B: Beginning<T>>(
     room: &mut Shown<T>,
 ) -> After<Look<T>, bool>
     requires board { IsBoard T.WORDS seat.old }
-    requires decided { IsOnHistory (coding_by T.Words) B.which B.from B.shown given.now
-        ⊎ (IsOnHistory (coding_by T.Words) B.which B.from B.shown given.now → ⊥) }
-    requires at { LookOnAt (coding_by T.Words) B.which B.from B.shown given.now (seen seat.old)
+    requires may_step { LookOnMay (coding_by T.Words) B.which B.from B.shown given.now (seen seat.old)
         call room.old }
-    ensures same { IsSame seat.old seat.new }
-    ensures board { IsBoard T.WORDS seat.new }
+    ensures stays { StaysAtBoard T.WORDS seat.old seat.new }
     ensures taken { (n : ℕ) × (result ≡ look_after T.WORDS call given.now n) }
     ensures goes { LookOnGoes (coding_by T.Words) B.which B.from B.shown given.now result room.new
         (seen seat.new) }
@@ -48,12 +45,9 @@ fn pass_over<T: Words, B: Beginning<T>>(
     room: &mut Shown<T>,
 ) -> After<Look<T>, bool>
     requires board { IsBoard T.WORDS seat.old }
-    requires decided { IsOnHistory (coding_by T.Words) B.which B.from B.shown given.now
-        ⊎ (IsOnHistory (coding_by T.Words) B.which B.from B.shown given.now → ⊥) }
-    requires at { LookOnAt (coding_by T.Words) B.which B.from B.shown given.now (seen seat.old)
+    requires may_step { LookOnMay (coding_by T.Words) B.which B.from B.shown given.now (seen seat.old)
         (at_count capacity first) room.old }
-    ensures same { IsSame seat.old seat.new }
-    ensures board { IsBoard T.WORDS seat.new }
+    ensures stays { StaysAtBoard T.WORDS seat.old seat.new }
     ensures goes { LookOnGoes (coding_by T.Words) B.which B.from B.shown given.now result room.new
         (seen seat.new) }
 {
@@ -83,12 +77,9 @@ fn copy_words<T: Words, B: Beginning<T>>(
     room: &mut Shown<T>,
 ) -> After<Look<T>, bool>
     requires board { IsBoard T.WORDS seat.old }
-    requires decided { IsOnHistory (coding_by T.Words) B.which B.from B.shown given.now
-        ⊎ (IsOnHistory (coding_by T.Words) B.which B.from B.shown given.now → ⊥) }
-    requires at { LookOnAt (coding_by T.Words) B.which B.from B.shown given.now (seen seat.old)
+    requires may_step { LookOnMay (coding_by T.Words) B.which B.from B.shown given.now (seen seat.old)
         (at_word capacity index count first) room.old }
-    ensures same { IsSame seat.old seat.new }
-    ensures board { IsBoard T.WORDS seat.new }
+    ensures stays { StaysAtBoard T.WORDS seat.old seat.new }
     ensures goes { LookOnGoes (coding_by T.Words) B.which B.from B.shown given.now result room.new
         (seen seat.new) }
 {
@@ -115,12 +106,9 @@ fn pass_first<T: Words, B: Beginning<T>>(
     room: &mut Shown<T>,
 ) -> After<Look<T>, bool>
     requires board { IsBoard T.WORDS seat.old }
-    requires decided { IsOnHistory (coding_by T.Words) B.which B.from B.shown given.now
-        ⊎ (IsOnHistory (coding_by T.Words) B.which B.from B.shown given.now → ⊥) }
-    requires at { LookOnAt (coding_by T.Words) B.which B.from B.shown given.now (seen seat.old)
+    requires may_step { LookOnMay (coding_by T.Words) B.which B.from B.shown given.now (seen seat.old)
         call room.old }
-    ensures same { IsSame seat.old seat.new }
-    ensures board { IsBoard T.WORDS seat.new }
+    ensures stays { StaysAtBoard T.WORDS seat.old seat.new }
     ensures goes { LookOnGoes (coding_by T.Words) B.which B.from B.shown given.now result room.new
         (seen seat.new) }
 {
@@ -145,12 +133,9 @@ fn copy_first<T: Words, B: Beginning<T>>(
     room: &mut Shown<T>,
 ) -> After<Look<T>, bool>
     requires board { IsBoard T.WORDS seat.old }
-    requires decided { IsOnHistory (coding_by T.Words) B.which B.from B.shown given.now
-        ⊎ (IsOnHistory (coding_by T.Words) B.which B.from B.shown given.now → ⊥) }
-    requires at { LookOnAt (coding_by T.Words) B.which B.from B.shown given.now (seen seat.old)
+    requires may_step { LookOnMay (coding_by T.Words) B.which B.from B.shown given.now (seen seat.old)
         call room.old }
-    ensures same { IsSame seat.old seat.new }
-    ensures board { IsBoard T.WORDS seat.new }
+    ensures stays { StaysAtBoard T.WORDS seat.old seat.new }
     ensures goes { LookOnGoes (coding_by T.Words) B.which B.from B.shown given.now result room.new
         (seen seat.new) }
 {
@@ -171,12 +156,9 @@ pub(crate) fn look_on<T: Words, B: Beginning<T>>(
     room: &mut Shown<T>,
 ) -> bool
     requires board { IsBoard T.WORDS seat.old }
-    requires decided { IsOnHistory (coding_by T.Words) B.which B.from B.shown given.now
-        ⊎ (IsOnHistory (coding_by T.Words) B.which B.from B.shown given.now → ⊥) }
-    requires at { LookOnAt (coding_by T.Words) B.which B.from B.shown given.now (seen seat.old)
+    requires may_step { LookOnMay (coding_by T.Words) B.which B.from B.shown given.now (seen seat.old)
         first room.old }
-    ensures same { IsSame seat.old seat.new }
-    ensures board { IsBoard T.WORDS seat.new }
+    ensures stays { StaysAtBoard T.WORDS seat.old seat.new }
     ensures end { LookOnOver (coding_by T.Words) B.which B.from B.shown given.now result room.new
         (seen seat.new) }
 {

@@ -2,17 +2,16 @@
 //! faithful history of few turns (`laws`), as it stands when the call comes to its index (tests). The state of the last
 //! `get_state` is the pass's: its update is a call of the history. An update of any other only counts its steps, without
 //! bound, as the pass sees no change by others; a find that rests rests on.
-ghost use Rattle.std.specs.Prelude.{◌≡◌, ◌⊎◌, ◌<◌, ◌↔◌, IsTrue, IsFalse, IfOk, IfErr};
-ghost use Rattle.steps.specs.Container.Look.{first_look};
+ghost use Rattle.std.specs.Prelude.{◌≡◌, ◌↔◌, IsTrue, IsFalse, IfOk, IfErr};
 ghost use Rattle.steps.specs.declared.ask.After.TheVariants.{Done};
 ghost use Rattle.model.specs.Coding.{coding_by};
 ghost use Rattle.model.specs.Families.Container.Calls.{settled_if};
-ghost use Rattle.threaded.specs.Seats.{seen, IsSame};
+ghost use Rattle.threaded.specs.Seats.{seen};
 ghost use Rattle.lock_free_owners.specs.Container.Bare.{IsCounted};
 ghost use Rattle.lock_free_owners.specs.Container.Calls.{GetStateDone, UpdateDone, UpdateKeeps};
-ghost use Rattle.lock_free_owners.specs.Container.LookTurns.{IsOnHistory, LookAt, LookOver};
+ghost use Rattle.lock_free_owners.specs.Container.LookTurns.{LookBegins, LookOver};
 ghost use Rattle.lock_free_owners.specs.Container.Steps.{LookTakes};
-ghost use Rattle.lock_free_owners.specs.Container.Turns.{IsBoard};
+ghost use Rattle.lock_free_owners.specs.Container.Turns.{IsReady, StaysAtBoard};
 ghost use Rattle.lock_free_owners.specs.Container.Names.{view, container_of, capacity_of, IsPassOf, IsStateOf, IsLeft, IsLatestState};
 
 use super::drives::{Beginning, Looks};
@@ -33,16 +32,10 @@ fn bring_up<T: Words, B: Beginning<T>>(
     state: &mut ContainerState<T>,
     capacity: u32,
 ) -> bool
-    requires board { IsBoard T.WORDS seat.old }
-    requires known { (seen seat.old).capacity ≡ capacity }
-    requires some { 0 < capacity }
-    requires from { B.from ≡ seen seat.old }
-    requires decided { IsOnHistory (coding_by T.Words) B.which B.from B.shown state.old.seen
-        ⊎ (IsOnHistory (coding_by T.Words) B.which B.from B.shown state.old.seen → ⊥) }
-    requires at { LookAt (coding_by T.Words) B.which B.from B.shown state.old.seen
-        (seen seat.old) (first_look capacity) state.old.shown }
-    ensures same { IsSame seat.old seat.new }
-    ensures board { IsBoard T.WORDS seat.new }
+    requires ready { IsReady T.WORDS capacity seat.old }
+    requires begins { LookBegins (coding_by T.Words) B.which B.from B.shown state.old.seen capacity
+        (seen seat.old) state.old.shown }
+    ensures stays { StaysAtBoard T.WORDS seat.old seat.new }
     ensures over { LookOver (coding_by T.Words) B.which B.from B.shown state.old.seen
         result state.new.shown (seen seat.new) }
     ensures state { state.new ≡ settled_if (Done result) (record state.old { shown = state.new.shown }) }

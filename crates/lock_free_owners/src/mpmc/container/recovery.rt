@@ -19,7 +19,7 @@ ghost use Rattle.lock_free_owners.specs.Container.RecoverTurns.{IsRecovered, Rec
 ghost use Rattle.lock_free_owners.specs.Container.RecoverTurns.{RecoverTells, RecoverTurns, RecoverAsks, RecoverMoves};
 ghost use Rattle.lock_free_owners.specs.Container.RecoverTurns.{at_cell, RecoverPasses, HasPassed, IsWithin, PassesFrom};
 ghost use Rattle.lock_free_owners.specs.Container.Steps.{RecoverTakes};
-ghost use Rattle.lock_free_owners.specs.Container.Turns.{IsBoard};
+ghost use Rattle.lock_free_owners.specs.Container.Turns.{IsBoard, IsReady, StaysAtBoard};
 ghost use Rattle.lock_free_owners.specs.Container.Names.{view, history, capacity_of, IsPassOf};
 
 use super::rule::Seat;
@@ -46,8 +46,7 @@ fn step_recover<T: Words>(
 ) -> After<Recover<T, Copied>, ReleaseState>
     requires board { IsBoard T.WORDS seat.old }
     requires at { RecoverMay (coding_by T.Words) given (seen seat.old) call room.old }
-    ensures same { IsSame seat.old seat.new }
-    ensures board { IsBoard T.WORDS seat.new }
+    ensures stays { StaysAtBoard T.WORDS seat.old seat.new }
     ensures goes { RecoverGoes (coding_by T.Words) given (seen seat.old) call room.old
         result room.new (seen seat.new) }
 {
@@ -89,8 +88,7 @@ fn load_cell<T: Words>(
     requires within { cell < capacity }
     requires at { RecoverMay (coding_by T.Words) given.now (seen seat.old)
         (at_cell capacity cell) room.now }
-    ensures same { IsSame seat.old seat.new }
-    ensures board { IsBoard T.WORDS seat.new }
+    ensures stays { StaysAtBoard T.WORDS seat.old seat.new }
     ensures goes { RecoverTells (coding_by T.Words) given.now (at_cell capacity cell) room.now
         (seen seat.old) result (seen seat.new) }
 {
@@ -111,8 +109,7 @@ fn pass_over<T: Words>(
     requires within { first < capacity }
     requires at { RecoverMay (coding_by T.Words) given.now (seen seat.old)
         (at_cell capacity first) room.now }
-    ensures same { IsSame seat.old seat.new }
-    ensures board { IsBoard T.WORDS seat.new }
+    ensures stays { StaysAtBoard T.WORDS seat.old seat.new }
     ensures goes { RecoverPasses (coding_by T.Words) given.now (seen seat.old)
         (at_cell capacity first) room.now result (seen seat.new) }
     ensures passed { HasPassed capacity first result }
@@ -142,8 +139,7 @@ fn pass_others<T: Words>(
     requires board { IsBoard T.WORDS seat.old }
     requires within { IsWithin call.capacity call.stage }
     requires at { RecoverMay (coding_by T.Words) given.now (seen seat.old) call room.now }
-    ensures same { IsSame seat.old seat.new }
-    ensures board { IsBoard T.WORDS seat.new }
+    ensures stays { StaysAtBoard T.WORDS seat.old seat.new }
     ensures goes { RecoverPasses (coding_by T.Words) given.now (seen seat.old) call room.now result
         (seen seat.new) }
     ensures passed { PassesFrom call call.stage result }
@@ -178,8 +174,7 @@ fn recover_next<T: Words, F: FnMut(T) -> bool>(
     requires board { IsBoard T.WORDS seat.old }
     requires at { RecoverMay (coding_by T.Words) given (seen seat.old) call room.old }
     requires asks { RecoverAsks F.pre call.stage (value_in T.value_of T.WORDS room.old.words) predicate.old }
-    ensures same { IsSame seat.old seat.new }
-    ensures board { IsBoard T.WORDS seat.new }
+    ensures stays { StaysAtBoard T.WORDS seat.old seat.new }
     ensures turns { RecoverTurns (coding_by T.Words) given call.stage (seen seat.old) call
         room.old result room.new (seen seat.new) }
     ensures moves { RecoverMoves (λ p x b q. F.step p x b q) T.WORDS call given call.stage
@@ -222,14 +217,12 @@ fn free_all<T: Words, F: FnMut(T) -> bool>(
     mode: ReleaseMode,
     predicate: &mut F,
 ) -> ReleaseState
-    requires board { IsBoard T.WORDS seat.old }
-    requires known { (seen seat.old).capacity ≡ capacity }
+    requires ready { IsReady T.WORDS capacity seat.old }
     requires at { RecoverAt (coding_by T.Words) (record { owner = owner; mode = mode })
         (seen seat.old) (seen seat.old) (first_recover capacity) (fresh_cell, []) }
     requires questions { is_locked (seen seat.old).seen ≡ false → TakesValues F.pre
         (λ p x b q. F.step p x b q) capacity predicate.old }
-    ensures same { IsSame seat.old seat.new }
-    ensures board { IsBoard T.WORDS seat.new }
+    ensures stays { StaysAtBoard T.WORDS seat.old seat.new }
     ensures recovered { IsRecovered (coding_by T.Words) (λ p x b q. F.step p x b q)
         (record { owner = owner; mode = mode }) result capacity predicate.old predicate.new (seen seat.old)
         (seen seat.new) }

@@ -19,7 +19,7 @@ ghost use Rattle.lock_free_owners.specs.Container.FindContract.{HasSearched, IsS
 ghost use Rattle.lock_free_owners.specs.Container.FindTurns.{FindAt, FindMay, FindTells, FindGoes, FindTurns, IsAtWord};
 ghost use Rattle.lock_free_owners.specs.Container.FindTurns.{at_cell, FindPasses, HasPassed, IsWithin, PassesFrom};
 ghost use Rattle.lock_free_owners.specs.Container.Steps.{FindTakes};
-ghost use Rattle.lock_free_owners.specs.Container.Turns.{IsBoard};
+ghost use Rattle.lock_free_owners.specs.Container.Turns.{IsBoard, IsReady, StaysAtBoard};
 ghost use Rattle.lock_free_owners.specs.Container.Visits.{IsNamed, FindAsks, FindMoves};
 ghost use Rattle.lock_free_owners.specs.Container.Names.{view, capacity_of, IsPassOf, IsHandleFor};
 
@@ -46,8 +46,7 @@ fn step_find<T: Words>(
     requires board { IsBoard T.WORDS seat.old }
     requires at { FindMay (coding_by T.Words) owner (seen seat.old) call room.old }
     requires word { IsAtWord call.stage }
-    ensures same { IsSame seat.old seat.new }
-    ensures board { IsBoard T.WORDS seat.new }
+    ensures stays { StaysAtBoard T.WORDS seat.old seat.new }
     ensures goes { FindGoes (coding_by T.Words) owner (seen seat.old) call room.old
         result room.new (seen seat.new) }
 {
@@ -91,8 +90,7 @@ fn load_cell<T: Words>(
     requires within { cell < capacity }
     requires at { FindMay (coding_by T.Words) owner (seen seat.old)
         (at_cell capacity cell found) room.now }
-    ensures same { IsSame seat.old seat.new }
-    ensures board { IsBoard T.WORDS seat.new }
+    ensures stays { StaysAtBoard T.WORDS seat.old seat.new }
     ensures goes { FindTells (coding_by T.Words) owner (at_cell capacity cell found) room.now
         (seen seat.old) result (seen seat.new) }
     ensures steps { TakesAtMost 1 (seen seat.old) (seen seat.new) }
@@ -127,8 +125,7 @@ fn pass_over<T: Words>(
     requires within { first < capacity }
     requires at { FindMay (coding_by T.Words) owner (seen seat.old)
         (at_cell capacity first found) room.now }
-    ensures same { IsSame seat.old seat.new }
-    ensures board { IsBoard T.WORDS seat.new }
+    ensures stays { StaysAtBoard T.WORDS seat.old seat.new }
     ensures goes { FindPasses (coding_by T.Words) owner (seen seat.old)
         (at_cell capacity first found) room.now result (seen seat.new) }
     ensures passed { HasPassed capacity first found result (seen seat.old) (seen seat.new) }
@@ -164,8 +161,7 @@ fn pass_others<T: Words>(
     requires board { IsBoard T.WORDS seat.old }
     requires within { IsWithin call.capacity call.stage }
     requires at { FindMay (coding_by T.Words) owner (seen seat.old) call room.now }
-    ensures same { IsSame seat.old seat.new }
-    ensures board { IsBoard T.WORDS seat.new }
+    ensures stays { StaysAtBoard T.WORDS seat.old seat.new }
     ensures goes { FindPasses (coding_by T.Words) owner (seen seat.old) call room.now result
         (seen seat.new) }
     ensures passed { PassesFrom call call.stage result (seen seat.old) (seen seat.new) }
@@ -191,8 +187,7 @@ fn find_next<T: Words, F: FnMut(T, ContainerHandle) -> CallbackProgression>(
     requires board { IsBoard T.WORDS seat.old }
     requires at { FindMay (coding_by T.Words) owner (seen seat.old) call room.old }
     requires asks { FindAsks F.pre owner id call.stage (value_in T.value_of T.WORDS room.old.words) visit.old }
-    ensures same { IsSame seat.old seat.new }
-    ensures board { IsBoard T.WORDS seat.new }
+    ensures stays { StaysAtBoard T.WORDS seat.old seat.new }
     ensures turns { FindTurns (coding_by T.Words) owner call.stage (seen seat.old) call
         room.old result room.new (seen seat.new) }
     ensures moves { FindMoves (λ p x h a q. F.step p x h a q) T.WORDS id call owner call.stage
@@ -226,15 +221,13 @@ fn find_all<T: Words, F: FnMut(T, ContainerHandle) -> CallbackProgression>(
     id: u64,
     visit: &mut F,
 ) -> usize
-    requires board { IsBoard T.WORDS seat.old }
-    requires known { (seen seat.old).capacity ≡ capacity }
+    requires ready { IsReady T.WORDS capacity seat.old }
     requires places { 0 < capacity }
     requires at { FindAt (coding_by T.Words) owner (seen seat.old) (seen seat.old)
         (first_find capacity) (fresh_cell, []) }
     requires visits { TakesVisits F.pre (λ p x h a q. F.step p x h a q)
         (IsNamed capacity owner id) visit.old }
-    ensures same { IsSame seat.old seat.new }
-    ensures board { IsBoard T.WORDS seat.new }
+    ensures stays { StaysAtBoard T.WORDS seat.old seat.new }
     ensures searched { IsSearched (coding_by T.Words) (λ p x h a q. F.step p x h a q) capacity owner
         id result visit.old (seen seat.old) (seen seat.new) visit.new }
 {

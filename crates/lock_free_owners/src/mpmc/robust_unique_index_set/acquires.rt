@@ -2,8 +2,8 @@
 ghost use Rattle.std.specs.Prelude.{◌≡◌, ℕ};
 ghost use Rattle.steps.specs.Indices.Robust.Acquire.{first_acquire, acquire_after};
 ghost use Rattle.steps.specs.declared.indices.robust.acquire.AcquireStage.TheVariants as stages;
-ghost use Rattle.threaded.specs.Seats.{seen, IsSame};
-ghost use Rattle.lock_free_owners.specs.Robust.Turns.{IsBoard, AcquireAt, AcquireEnds, AcquireStands, AcquireGoes};
+ghost use Rattle.threaded.specs.Seats.{seen};
+ghost use Rattle.lock_free_owners.specs.Robust.Turns.{IsBoard, StaysAtBoard, AcquireAt, AcquireEnds, AcquireStands, AcquireGoes};
 
 use super::OwnerId;
 use super::drives::Takes;
@@ -21,8 +21,7 @@ type Acquired = Result<u32, UniqueIndexSetAcquireFailure>;
 fn step_acquire(seat: &mut Seat, call: Acquire, owner: OwnerId) -> After<Acquire, Acquired>
     requires board { IsBoard seat.old }
     requires at { AcquireStands owner (seen seat.old) call }
-    ensures same { IsSame seat.old seat.new }
-    ensures board { IsBoard seat.new }
+    ensures stays { StaysAtBoard seat.old seat.new }
     ensures after { (k : ℕ) × (result ≡ acquire_after call k) }
     ensures goes { AcquireGoes owner (seen seat.old) call result (seen seat.new) }
 {
@@ -42,8 +41,7 @@ fn fill_cells(
     requires board { IsBoard seat.old }
     requires at { AcquireStands owner (seen seat.old)
         (record { capacity = capacity; stage = stages.FillsCell counter first }) }
-    ensures same { IsSame seat.old seat.new }
-    ensures board { IsBoard seat.new }
+    ensures stays { StaysAtBoard seat.old seat.new }
     ensures goes { AcquireGoes owner (seen seat.old)
         (record { capacity = capacity; stage = stages.FillsCell counter first }) result (seen seat.new) }
 {
@@ -74,8 +72,7 @@ fn fill_cells(
 fn acquire_next(seat: &mut Seat, call: Acquire, owner: OwnerId) -> After<Acquire, Acquired>
     requires board { IsBoard seat.old }
     requires at { AcquireStands owner (seen seat.old) call }
-    ensures same { IsSame seat.old seat.new }
-    ensures board { IsBoard seat.new }
+    ensures stays { StaysAtBoard seat.old seat.new }
     ensures goes { AcquireGoes owner (seen seat.old) call result (seen seat.new) }
 {
     let stage = call.stage;
@@ -97,8 +94,7 @@ pub(crate) fn acquire_all(
 ) -> Acquired
     requires board { IsBoard seat.old }
     requires at { AcquireAt owner (seen seat.old) (seen seat.old) (first_acquire capacity) tt }
-    ensures same { IsSame seat.old seat.new }
-    ensures board { IsBoard seat.new }
+    ensures stays { StaysAtBoard seat.old seat.new }
     ensures ends { AcquireEnds owner (seen seat.old) result tt (seen seat.new) }
 {
     // The first turns stand by themselves, so that a compiler sees at each of them the call's stage.

@@ -14,7 +14,7 @@ ghost use Rattle.history.specs.declared.view.View.{View};
 ghost use Rattle.threaded.specs.Driver.{OwesAsk};
 ghost use Rattle.threaded.specs.Seats.{seen, table_of, key_of, IsSame};
 ghost use Rattle.lock_free_owners.specs.Robust.Recovering.{MayAsk, LeadsOn};
-ghost use Rattle.lock_free_owners.specs.Robust.Turns.{IsBoard, RecoverStands, RecoverGoes};
+ghost use Rattle.lock_free_owners.specs.Robust.Turns.{IsBoard, StaysAtBoard, RecoverStands, RecoverGoes};
 
 use super::OwnerId;
 use super::rule::Seat;
@@ -53,8 +53,7 @@ fn load_cell(seat: &mut Seat, capacity: u32, cell: usize, mode: ReleaseMode) -> 
     requires board { IsBoard seat.old }
     requires within { cell < capacity }
     requires at { RecoverStands mode (seen seat.old) (record { capacity = capacity; stage = stages.LoadsCell cell }) }
-    ensures same { IsSame seat.old seat.new }
-    ensures board { IsBoard seat.new }
+    ensures stays { StaysAtBoard seat.old seat.new }
     ensures goes { RecoverGoes mode (seen seat.old) (record { capacity = capacity; stage = stages.LoadsCell cell })
         (λ visits. visits) (recover_after (record { capacity = capacity; stage = stages.LoadsCell cell }) mode result)
         (seen seat.new) }
@@ -76,8 +75,7 @@ fn ask_over<F: FnMut(OwnerId, usize) -> bool, S: FnMut(OwnerId, usize)>(
     requires board { IsBoard seat.old }
     requires asks { MayAsk (λ p o i b q. F.step p o i b q) (λ s o i t. S.step s o i tt t) F.pre mode (seen seat.old)
         (record { capacity = capacity; stage = stages.LoadsCell first }) predicate.old }
-    ensures same { IsSame seat.old seat.new }
-    ensures board { IsBoard seat.new }
+    ensures stays { StaysAtBoard seat.old seat.new }
     ensures goes { LeadsOn (λ p o i b q. F.step p o i b q) (λ s o i t. S.step s o i tt t) mode (seen seat.old)
         (record { capacity = capacity; stage = stages.LoadsCell first }) predicate.old result (seen seat.new) predicate.new }
 {
@@ -107,8 +105,7 @@ pub(crate) fn ask_first<F: FnMut(OwnerId, usize) -> bool, S: FnMut(OwnerId, usiz
     requires board { IsBoard seat.old }
     requires asks { MayAsk (λ p o i b q. F.step p o i b q) (λ s o i t. S.step s o i tt t) F.pre mode (seen seat.old)
         call predicate.old }
-    ensures same { IsSame seat.old seat.new }
-    ensures board { IsBoard seat.new }
+    ensures stays { StaysAtBoard seat.old seat.new }
     ensures goes { LeadsOn (λ p o i b q. F.step p o i b q) (λ s o i t. S.step s o i tt t) mode (seen seat.old)
         call predicate.old result (seen seat.new) predicate.new }
 {

@@ -2,8 +2,8 @@
 ghost use Rattle.std.specs.Prelude.{◌≡◌, ℕ};
 ghost use Rattle.steps.specs.Indices.Robust.Looks.{first_borrowed, borrowed_after};
 ghost use Rattle.steps.specs.declared.indices.robust.parts.Count.TheVariants as stages;
-ghost use Rattle.threaded.specs.Seats.{seen, IsSame};
-ghost use Rattle.lock_free_owners.specs.Robust.Turns.{IsBoard, CountAt, CountEnds, BorrowedStands, BorrowedGoes};
+ghost use Rattle.threaded.specs.Seats.{seen};
+ghost use Rattle.lock_free_owners.specs.Robust.Turns.{IsBoard, StaysAtBoard, CountAt, CountEnds, BorrowedStands, BorrowedGoes};
 
 use super::drives::CountsOwned;
 use super::rule::Seat;
@@ -18,8 +18,7 @@ use steps::routine::Routine;
 fn step_count(seat: &mut Seat, call: BorrowedIndices) -> After<BorrowedIndices, usize>
     requires board { IsBoard seat.old }
     requires at { BorrowedStands (seen seat.old) call }
-    ensures same { IsSame seat.old seat.new }
-    ensures board { IsBoard seat.new }
+    ensures stays { StaysAtBoard seat.old seat.new }
     ensures after { (k : ℕ) × (result ≡ borrowed_after call k) }
     ensures goes { BorrowedGoes (seen seat.old) call result (seen seat.new) }
 {
@@ -38,8 +37,7 @@ fn count_cells(
     requires board { IsBoard seat.old }
     requires at { BorrowedStands (seen seat.old)
         (record { capacity = capacity; count = stages.LoadsCell counter first filled }) }
-    ensures same { IsSame seat.old seat.new }
-    ensures board { IsBoard seat.new }
+    ensures stays { StaysAtBoard seat.old seat.new }
     ensures goes { BorrowedGoes (seen seat.old)
         (record { capacity = capacity; count = stages.LoadsCell counter first filled }) result (seen seat.new) }
 {
@@ -75,8 +73,7 @@ fn count_cells(
 fn count_next(seat: &mut Seat, call: BorrowedIndices) -> After<BorrowedIndices, usize>
     requires board { IsBoard seat.old }
     requires at { BorrowedStands (seen seat.old) call }
-    ensures same { IsSame seat.old seat.new }
-    ensures board { IsBoard seat.new }
+    ensures stays { StaysAtBoard seat.old seat.new }
     ensures goes { BorrowedGoes (seen seat.old) call result (seen seat.new) }
 {
     let count = call.count;
@@ -95,8 +92,7 @@ fn count_next(seat: &mut Seat, call: BorrowedIndices) -> After<BorrowedIndices, 
 pub(crate) fn count_all(seat: &mut Seat, rt: &impl Wait, capacity: u32) -> usize
     requires board { IsBoard seat.old }
     requires at { CountAt (seen seat.old) (seen seat.old) (first_borrowed capacity) tt }
-    ensures same { IsSame seat.old seat.new }
-    ensures board { IsBoard seat.new }
+    ensures stays { StaysAtBoard seat.old seat.new }
     ensures ends { CountEnds (seen seat.old) result tt (seen seat.new) }
 {
     // The first turns stand by themselves, so that a compiler sees at each of them the call's stage.

@@ -11,15 +11,13 @@ ghost use Rattle.steps.specs.declared.indices.robust.find.FindStage.TheVariants 
 ghost use Rattle.model.specs.Coding.{one_word};
 ghost use Rattle.model.specs.declared.turn.Kind.TheVariants as kinds;
 ghost use Rattle.threaded.specs.Callable.{TakesPlaces};
-ghost use Rattle.threaded.specs.Seats.{seen, IsSame};
-ghost use Rattle.history.specs.declared.view.View.{View};
+ghost use Rattle.threaded.specs.Seats.{seen};
 ghost use Rattle.history.specs.Steps.{TakesAtMost};
-ghost use Rattle.history.specs.Views.{Looks, LooksAt};
-ghost use Rattle.lock_free_owners.specs.Robust.Callable.{HasFound};
-ghost use Rattle.lock_free_owners.specs.Robust.Finding.{FindAsks, GoesDown, Searching, Onward};
+ghost use Rattle.history.specs.Views.{LooksAt};
+ghost use Rattle.lock_free_owners.specs.Robust.Finding.{MayTurn, GoesDown, KeepsSearching, HasEnded};
 ghost use Rattle.lock_free_owners.specs.Robust.Stages.{says};
 ghost use Rattle.lock_free_owners.specs.Robust.Contracts.{HasSearched};
-ghost use Rattle.lock_free_owners.specs.Robust.Turns.{IsBoard};
+ghost use Rattle.lock_free_owners.specs.Robust.Turns.{IsReady, StaysAtBoard};
 ghost use Rattle.lock_free_owners.specs.RobustUniqueIndexSet.{view, capacity_of, IsPassOf, LeavesPass};
 
 use super::rule::Seat;
@@ -34,12 +32,9 @@ use steps::routine::Routine;
 /// of a loop has to widen it.
 #[inline(always)]
 fn look_at(seat: &mut Seat, _capacity: u32, cell: usize) -> u64
-    requires board { IsBoard seat.old }
-    requires some { 0 < (seen seat.old).share.part }
-    requires known { (seen seat.old).capacity ≡ _capacity }
+    requires ready { IsReady _capacity seat.old }
     requires within { cell < _capacity }
-    ensures same { IsSame seat.old seat.new }
-    ensures board { IsBoard seat.new }
+    ensures stays { StaysAtBoard seat.old seat.new }
     ensures looks { LooksAt one_word kinds.Robust _capacity (cell_word cell) (seen seat.old) result (seen seat.new) }
     ensures counted { (seen seat.new).asked ≡ (seen seat.old).asked + 1 }
 {
@@ -56,17 +51,12 @@ fn pass_over<F: FnMut(usize) -> CallbackProgression>(
     so_many: usize,
     owner: OwnerId,
 ) -> After<Find, usize>
-    requires board { IsBoard seat.old }
-    requires some { 0 < (seen seat.old).share.part }
-    requires known { (seen seat.old).capacity ≡ capacity }
+    requires ready { IsReady capacity seat.old }
     requires within { first < capacity }
-    ensures same { IsSame seat.old seat.new }
-    ensures board { IsBoard seat.new }
+    ensures stays { StaysAtBoard seat.old seat.new }
     ensures less { GoesDown capacity (find_left capacity (stages.LoadsCell first so_many)) result }
-    ensures goes { (base : View ℕ) (f p : F)
-        → Searching (λ q x a r. F.step q x a r) capacity owner base f (seen seat.old)
-        (record { capacity = capacity; stage = stages.LoadsCell first so_many }) p
-        → Onward (λ q x a r. F.step q x a r) capacity owner base f result (seen seat.new) p }
+    ensures goes { (p : F) → KeepsSearching (λ q x a r. F.step q x a r) capacity owner (seen seat.old)
+        (record { capacity = capacity; stage = stages.LoadsCell first so_many }) p result (seen seat.new) p }
 {
     let mut cell = first as usize;
     'cells: loop {
@@ -130,17 +120,12 @@ fn find_next<F: FnMut(usize) -> CallbackProgression>(
     owner: OwnerId,
     visit: &mut F,
 ) -> After<Find, usize>
-    requires board { IsBoard seat.old }
-    requires some { 0 < (seen seat.old).share.part }
-    requires known { (seen seat.old).capacity ≡ capacity }
-    requires call { call.capacity ≡ capacity }
-    requires asks { FindAsks F.pre capacity call.stage visit.old }
-    ensures same { IsSame seat.old seat.new }
-    ensures board { IsBoard seat.new }
+    requires ready { IsReady capacity seat.old }
+    requires may_turn { MayTurn F.pre capacity call visit.old }
+    ensures stays { StaysAtBoard seat.old seat.new }
     ensures less { GoesDown capacity (find_left capacity call.stage) result }
-    ensures goes { (base : View ℕ) (f : F)
-        → Searching (λ q x a r. F.step q x a r) capacity owner base f (seen seat.old) call visit.old
-        → Onward (λ q x a r. F.step q x a r) capacity owner base f result (seen seat.new) visit.new }
+    ensures goes { KeepsSearching (λ q x a r. F.step q x a r) capacity owner
+        (seen seat.old) call visit.old result (seen seat.new) visit.new }
 {
     match call.stage {
         FindStage::LoadsCell { index, found } => {
@@ -160,17 +145,12 @@ fn find_all<F: FnMut(usize) -> CallbackProgression>(
     owner: OwnerId,
     visit: &mut F,
 ) -> usize
-    requires board { IsBoard seat.old }
-    requires known { (seen seat.old).capacity ≡ capacity }
-    requires some { 0 < (seen seat.old).share.part }
-    requires any { 0 < capacity }
+    requires ready { IsReady capacity seat.old }
+    requires places { 0 < capacity }
     requires asks { TakesPlaces F.pre (λ p x q. F.step p x Continue q) capacity visit.old }
-    ensures same { IsSame seat.old seat.new }
-    ensures board { IsBoard seat.new }
-    ensures looked { Looks one_word kinds.Robust capacity (seen seat.old) (seen seat.new) }
-    ensures steps { TakesAtMost capacity (seen seat.old) (seen seat.new) }
-    ensures found { HasFound (λ p x a q. F.step p x a q) capacity owner visit.old result visit.new
-        (seen seat.old).seen (seen seat.new).seen }
+    ensures stays { StaysAtBoard seat.old seat.new }
+    ensures ends { HasEnded (λ p x a q. F.step p x a q) capacity owner
+        (seen seat.old) visit.old result (seen seat.new) visit.new }
 {
     let mut call = Find::new(capacity);
     loop {

@@ -2,16 +2,16 @@
 //! nothing of a set that is locked at the beginning. If it meets the lock right after it has freed an index, and told
 //! of it, it comes to no further index. In mode `LockIfLastIndex` it locks the set if no index has an owner after one
 //! was freed. Its questions, answers and frees stand in the history.
-ghost use Rattle.std.specs.Prelude.{◌≡◌, ℕ, false, None, List, [], IsTrue, IsFalse};
-ghost use Rattle.steps.specs.Indices.Robust.Recover.{first_recover, recover_after};
+ghost use Rattle.std.specs.Prelude.{◌≡◌, ℕ, false, List, IsTrue, IsFalse};
+ghost use Rattle.steps.specs.Indices.Robust.Recover.{recover_after};
 ghost use Rattle.model.specs.Families.Indices.Reading.{is_locked};
 ghost use Rattle.history.specs.Robust.{Visit};
-ghost use Rattle.threaded.specs.Seats.{seen, IsSame};
+ghost use Rattle.threaded.specs.Seats.{seen};
 ghost use Rattle.lock_free_owners.specs.Robust.Callable.{TakesQuestions, TakesFreed, HasVisited};
 ghost use Rattle.lock_free_owners.specs.Robust.Stages.{LooksAgain, RecoverAsks, RecoverMoves, has_freed};
 ghost use Rattle.lock_free_owners.specs.Robust.Steps.{RecoverTakes};
 ghost use Rattle.lock_free_owners.specs.Robust.Calls.{RecoverDone};
-ghost use Rattle.lock_free_owners.specs.Robust.Turns.{IsBoard, RecoverAt, RecoverEnds, RecoverStands, RecoverGoes, RecoverSteps};
+ghost use Rattle.lock_free_owners.specs.Robust.Turns.{IsBoard, StaysAtBoard, BeginsRecover, RecoverEnds, RecoverStands, RecoverGoes, RecoverSteps};
 ghost use Rattle.lock_free_owners.specs.RobustUniqueIndexSet.{view, history, capacity_of, IsPassOf, SamePass};
 
 use super::asks::ask_first;
@@ -29,8 +29,7 @@ use steps::routine::Routine;
 fn step_recover(seat: &mut Seat, call: Recover, mode: ReleaseMode) -> After<Recover, ReleaseState>
     requires board { IsBoard seat.old }
     requires at { RecoverStands mode (seen seat.old) call }
-    ensures same { IsSame seat.old seat.new }
-    ensures board { IsBoard seat.new }
+    ensures stays { StaysAtBoard seat.old seat.new }
     ensures goes { (k : ℕ) × (result ≡ recover_after call mode k)
         × RecoverSteps mode (seen seat.old) call k result (seen seat.new) }
 {
@@ -42,8 +41,7 @@ fn step_recover(seat: &mut Seat, call: Recover, mode: ReleaseMode) -> After<Reco
 fn look_again(seat: &mut Seat, call: Recover, mode: ReleaseMode) -> After<Recover, ReleaseState>
     requires board { IsBoard seat.old }
     requires at { RecoverStands mode (seen seat.old) call }
-    ensures same { IsSame seat.old seat.new }
-    ensures board { IsBoard seat.new }
+    ensures stays { StaysAtBoard seat.old seat.new }
     ensures looked { LooksAgain call mode call.stage result }
     ensures goes { RecoverGoes mode (seen seat.old) call (λ visits. visits) result (seen seat.new) }
 {
@@ -67,8 +65,7 @@ fn recover_next<F: FnMut(OwnerId, usize) -> bool, S: FnMut(OwnerId, usize)>(
     requires board { IsBoard seat.old }
     requires at { RecoverStands mode (seen seat.old) call }
     requires asks { RecoverAsks F.pre S.pre call.stage predicate.old recovered.old }
-    ensures same { IsSame seat.old seat.new }
-    ensures board { IsBoard seat.new }
+    ensures stays { StaysAtBoard seat.old seat.new }
     ensures goes { (k : ℕ) × RecoverSteps mode (seen seat.old) call k result (seen seat.new)
         × RecoverMoves (λ p o i b q. F.step p o i b q) (λ s o i t. S.step s o i tt t)
         call mode call.stage k predicate.old recovered.old result predicate.new recovered.new }
@@ -101,16 +98,12 @@ fn recover_all<F: FnMut(OwnerId, usize) -> bool, S: FnMut(OwnerId, usize)>(
     predicate: &mut F,
     recovered: &mut S,
 ) -> ReleaseState
-    requires board { IsBoard seat.old }
-    requires known { (seen seat.old).capacity ≡ capacity }
-    requires idle { (seen seat.old).going ≡ None }
-    requires at { RecoverAt mode (seen seat.old) (seen seat.old) (first_recover capacity) [] }
+    requires begins { BeginsRecover capacity mode seat.old }
     requires questions { is_locked (seen seat.old).seen ≡ false → TakesQuestions F.pre
         (λ p o i b q. F.step p o i b q) capacity predicate.old }
     requires freed { is_locked (seen seat.old).seen ≡ false → TakesFreed (λ p o i b q. F.step p o i b q)
         S.pre (λ s o i t. S.step s o i tt t) capacity predicate.old recovered.old }
-    ensures same { IsSame seat.old seat.new }
-    ensures board { IsBoard seat.new }
+    ensures stays { StaysAtBoard seat.old seat.new }
     ensures ends { (visits : List Visit) × RecoverEnds mode (seen seat.old) result visits (seen seat.new)
         × HasVisited (λ p o i b q. F.step p o i b q) (λ s o i t. S.step s o i tt t)
         predicate.old recovered.old visits predicate.new recovered.new }

@@ -18,6 +18,7 @@ set_inside : (p place : ℕ) (answer : Bool) → AllInside (set_wrote {T = ℕ} 
 set_inside p place true = (tt, tt)
 set_inside p place false = tt
 
+-- who had the whole has it after the set
 pub returns-clause-whole : goal.returns-clause-whole
 returns-clause-whole g c =
     let one = c.set-was_clear.ensures.added.added in
@@ -27,6 +28,7 @@ returns-clause-whole g c =
     (set_inside one.by c.args.place c.set-was_clear.result) c.set-was_clear.ensures.same.share
     c.set-was_clear.ensures.same.all
 
+-- with the whole share a set takes two operations at most
 pub returns-clause-steps : goal.returns-clause-steps
 returns-clause-steps g c =
     let one = c.set-was_clear.ensures.added.added in

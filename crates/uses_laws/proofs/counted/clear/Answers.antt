@@ -6,6 +6,7 @@ use Rattle.uses_laws.specs.contracts.counted.fn.clear.reset_all as closure
 use Rattle.uses_laws.proofs.Handed.{clears_more}
 use Rattle.uses_laws.proofs.counted.clear.Goals as goal
 
+-- the closure may be called with each place: the number of those before is below the capacity
 pub reset_all-requires-clause-places : goal.reset_all-requires-clause-places
 reset_all-requires-clause-places c =
     record {
@@ -16,6 +17,7 @@ reset_all-requires-clause-places c =
           search (rules, arith);
     }
 
+-- what the closure counted is how many places the call has cleared
 pub returns : goal.returns
 returns c =
     let all = counted _ (λ f. f.0.ghost_name) (λ f. (closure.captures f).number) (λ p x q k. search rules) _ _ _

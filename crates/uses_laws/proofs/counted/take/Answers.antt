@@ -7,6 +7,7 @@ use Rattle.uses_laws.specs.contracts.counted.fn.take.reset_all as closure
 use Rattle.uses_laws.proofs.Handed.{takes_more, counts_below}
 use Rattle.uses_laws.proofs.counted.take.Goals as goal
 
+-- the closure may be called with each count: the sum of those before and this one fits
 pub reset_all-requires : goal.reset_all-requires
 reset_all-requires c =
     record {
@@ -18,6 +19,7 @@ reset_all-requires c =
           search (rules, arith);
     }
 
+-- what the closure added up is what the call has taken out
 pub returns : goal.returns
 returns c =
     let all = added _ (λ f. f.0.ghost_name) (λ f. (closure.captures f).sum) (λ (s : BitState). s.count) (λ p x q k. search rules) _ _ _

@@ -6,6 +6,7 @@ use Rattle.lock_free.specs.Counts.Calls.{view, history, share, set_of}
 use Rattle.uses_laws.proofs.Drained.{drained}
 use Rattle.uses_laws.proofs.drain.drain.Goals as goal
 
+-- after the reset as much was taken out of each place as was counted there
 pub returns : goal.returns
 returns c place low few =
     let old = c.args.pass.now in

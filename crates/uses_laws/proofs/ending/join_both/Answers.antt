@@ -8,6 +8,7 @@ use Rattle.lock_free.specs.Coding.{one_word}
 use Rattle.lock_free.specs.Queues.Calls.{QueueId, queue_of, view}
 use Rattle.uses_laws.proofs.ending.join_both.Goals as goal
 
+-- all steps that threads took at the queue are bounded by how many of their calls have ended
 pub returns : goal.returns
 returns c n below =
     let new = view c.join.new.self in

@@ -9,6 +9,7 @@ use Rattle.lock_free.specs.History.{Knows}
 use Rattle.lock_free.specs.Queues.Calls.{QueueId, queue_of, view}
 use Rattle.uses_laws.proofs.ending.join_load.Goals as goal
 
+-- all steps that threads took at the queue are bounded by how many of their calls have begun
 pub returns : goal.returns
 returns c n below =
     let new = view c.join.new.self in

@@ -22,6 +22,7 @@ square (suc m) alone =
     ∙ (sym (mul-add (suc m) (m * alone) alone)
     ∙ (ap (λ (x : ℕ). suc m * x) (sym (suc-mul m alone)) ∙ sym (mul_assoc (suc m) (suc m) alone)))
 
+-- what a pass of a unique index set has asked for is within its load and what was aside
 within : (capacity aside : ℕ) (v : View ℕ) → KnownAsksLoad ℕ Indices (λ n capacity size. stretch n 1 (capacity + 4))
     → Knows one_word Indices capacity v → v.aside ≤ aside → AsksAreWithinLoad capacity aside v
 within capacity aside v law knows few n below =
@@ -31,6 +32,8 @@ within capacity aside v law knows few n below =
     subst (λ (b : ℕ). v.asked ≤ v.aside + load b (begun v.seen)) is asks in
     omega (most, arith)
 
+-- where both halves have acquired, what the pass has asked for is within its load and what was
+-- aside
 pub returns : goal.returns
 returns g c =
     let old = view c.args.pass.now in

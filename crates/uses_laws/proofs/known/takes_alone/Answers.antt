@@ -3,6 +3,7 @@ use Rattle.std.proofs.Common.{◌≡◌, ◌≤◌, ℕ, ◌+◌, ◌*◌, Some,
 use Rattle.model.specs.declared.party.Progress.{Progress}
 use Rattle.uses_laws.proofs.known.takes_alone.Goals as goal
 
+-- a call beside which the run counts no change by others takes what it takes alone
 pub returns : goal.returns
 returns c code kind capacity alone retry p start answer wrote old new called mine knows takes progress latest none =
     let in_run = c.steps_are_bounded.ensures code kind capacity alone retry p start answer wrote old new called mine knows takes in

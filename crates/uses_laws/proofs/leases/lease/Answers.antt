@@ -6,6 +6,7 @@ use Rattle.lock_free.specs.Shares.{IsAll}
 use Rattle.uses_laws.proofs.Full.{was_full}
 use Rattle.uses_laws.proofs.leases.lease.Goals as goal
 
+-- where no index was left, each one had an owner at a moment of the call
 pub returns-clause-full : goal.returns-clause-full
 returns-clause-full g c is =
     let still : IsAll (share c.acquire.new.pass) = search rules in

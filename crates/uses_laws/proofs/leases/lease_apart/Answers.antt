@@ -8,6 +8,7 @@ use Rattle.lock_free.specs.Shares.{IsAll}
 use Rattle.uses_laws.proofs.Full.{never_freed}
 use Rattle.uses_laws.proofs.leases.lease_apart.Goals as goal
 
+-- whenever an index was granted that was acquired now and never freed by the pass, nobody held it
 pub returns : goal.returns
 returns g c index is never by other before rest at =
     let old = view c.args.pass.now in

@@ -11,6 +11,7 @@ use Rattle.lock_free.specs.Queues.Contracts.{HasPushed, push_events}
 use Rattle.uses_laws.proofs.Linear.{pushed_in_order}
 use Rattle.uses_laws.proofs.order.push_both.Goals as goal
 
+-- in a linearization of all calls the first push stands before the second, where both were taken
 pub returns : goal.returns
 returns c both =
     let first = c.args.first in

@@ -34,6 +34,7 @@ call_told p value before during =
     flat_map-append (told by_role) before (Begun p (Queues (PushIndex value)) ∷ (during ++ end))
     ∙ ap (λ es. all_told by_role before ++ machine.Invoked 0 (page.Push value) ∷ es) (flat_map-append (told by_role) during end)
 
+-- a push of the pass, told in the page's words, ends the history of the page's run
 ends : (capacity value : ℕ) (old new : View ℕ) → HasPushed (Index value) true old new → Knows one_word IndexQueue capacity new
     → RunsThePage (index_page capacity) new → EndsWithPush value (history_of capacity (turns_of (index_page capacity) new))
 ends capacity value old new push knows runs =
@@ -46,6 +47,8 @@ ends capacity value old new push knows runs =
           (subst (AllByRecursion IsQuiet) (sym push.called.during_own) (tt, (tt, tt)));
     }
 
+-- where both pushes were taken, what was seen is a run of the page's machine, which had come to
+-- the end of the first push and goes on to the end of the second
 pub returns : goal.returns
 returns c both =
     let start = c.args.producer.now in
@@ -82,6 +85,7 @@ both =
     machine.Invoked 0 (page.Push 5) ∷ machine.Responded 0 (page.Pushed true)
     ∷ machine.Invoked 0 (page.Push 6) ∷ machine.Responded 0 (page.Pushed true) ∷ []
 
+-- the history of both pushes ends with the second
 with_the_second : EndsWithPush 6 both
 with_the_second =
     record {
@@ -91,6 +95,8 @@ with_the_second =
       alone = tt;
     }
 
+-- the history of both pushes does not end with the response to the push of 5 after which the
+-- producer does nothing else
 not_first : (before during : List (machine.Event page.Call page.Answer))
     → both ≡ before ++ machine.Invoked 0 (page.Push 5) ∷ (during ++ machine.Responded 0 (page.Pushed true) ∷ []) → IsSilent 0 during → ⊥
 not_first [] [] is alone = absurd (cc)

@@ -11,6 +11,7 @@ use Rattle.lock_free.specs.History.{Continues, Knows}
 use Rattle.uses_laws.proofs.Running.{Laws, LawsOf, ends_within, ends_within_of}
 use Rattle.uses_laws.proofs.runs.add_within.Goals as goal
 
+-- the run of the container goes on, and its steps are within the bounds of containers
 pub returns : goal.returns
 returns g c =
     let old = view c.args.pass.now in

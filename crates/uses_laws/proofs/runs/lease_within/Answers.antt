@@ -9,6 +9,7 @@ use Rattle.lock_free.specs.RobustUniqueIndexSet.{capacity_of, view}
 use Rattle.uses_laws.proofs.Running.{Laws, LawsOf, ends_within, ends_within_of}
 use Rattle.uses_laws.proofs.runs.lease_within.Goals as goal
 
+-- the run of the set goes on, and its steps are within the bounds of robust sets
 pub returns : goal.returns
 returns g c =
     let old = view c.args.pass.now in

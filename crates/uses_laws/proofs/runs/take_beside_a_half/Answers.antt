@@ -11,6 +11,8 @@ use Rattle.uses_laws.proofs.runs.take_beside_a_half.Goals as goal
 same_size : {one other : SetId} → one ≡ other → one.capacity ≡ other.capacity
 same_size e = ap (λ (z : SetId). z.capacity) e
 
+-- where a half was split off, the run goes on over the split, the acquire and the join, and its
+-- steps are within the bound of unique index sets
 pub returns : goal.returns
 returns g c =
     let old = view c.args.pass.now in

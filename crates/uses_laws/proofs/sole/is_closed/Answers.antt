@@ -6,6 +6,7 @@ use Rattle.lock_free.specs.IndexReading.{is_locked}
 use Rattle.lock_free.specs.UniqueIndexSet.{history, set_of}
 use Rattle.uses_laws.proofs.sole.is_closed.Goals as goal
 
+-- where the lock was seen nobody holds an index
 pub returns-clause-held : goal.returns-clause-held
 returns-clause-held c locked index =
     let after = c.is_locked-locked.new.pass in

@@ -9,6 +9,7 @@ use Rattle.lock_free.specs.UniqueIndexSet.{SetId, capacity_of, history, set_of, 
 use Rattle.uses_laws.proofs.Firsts.{holds_first}
 use Rattle.uses_laws.proofs.sole.take_first.Goals as goal
 
+-- an index that was acquired is held by the pass's own party
 pub returns-clause-sole : goal.returns-clause-sole
 returns-clause-sole g c index is =
     let old = view c.args.pass.now in
@@ -23,6 +24,8 @@ returns-clause-sole g c index is =
           (holds_first by index old new got.taken.called c.requires.fresh),
     )
 
+-- whenever an index was claimed, it lay below the capacity, had no holder, and the set was not
+-- locked
 pub returns-clause-claimed : goal.returns-clause-claimed
 returns-clause-claimed g c by index before after is =
     let new = c.acquire_raw_index-taken.new.pass in

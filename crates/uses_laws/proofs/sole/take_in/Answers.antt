@@ -7,6 +7,7 @@ use Rattle.lock_free.specs.UniqueIndexSet.{SetId, capacity_of, history, made, sh
 use Rattle.uses_laws.proofs.Shared.{few_held, none_else}
 use Rattle.uses_laws.proofs.sole.take_in.Goals as goal
 
+-- both passes together held at most as many indices as there are
 pub returns-clause-few : goal.returns-clause-few
 returns-clause-few c is js one two =
     let new = c.join.new.self in
@@ -20,6 +21,7 @@ returns-clause-few c is js one two =
     (c.indices_are_conserved.ensures.conserved one_word (set_of new).capacity (history new) c.history.ensures.history)
     (c.indices_are_conserved.ensures.within one_word (set_of new).capacity (history new) c.history.ensures.history) is js one two)
 
+-- where the one pass held all indices, the other held nothing
 pub returns-clause-sole : goal.returns-clause-sole
 returns-clause-sole c is one long =
     let new = c.join.new.self in

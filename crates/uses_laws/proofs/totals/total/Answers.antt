@@ -6,6 +6,7 @@ use Rattle.lock_free.specs.Counts.Calls.{view, history, share, set_of}
 use Rattle.uses_laws.proofs.Added.{all_counted}
 use Rattle.uses_laws.proofs.totals.total.Goals as goal
 
+-- what was taken out and what still stands are together less than 2^64
 pub overflow_add-result : goal.overflow_add-result
 overflow_add-result c =
     let old = c.args.pass.now in
@@ -20,6 +21,7 @@ overflow_add-result c =
     let few = c.requires.few in
     omega arith
 
+-- what was taken out and what still stands are together what was counted
 pub returns : goal.returns
 returns c =
     let old = c.args.pass.now in

@@ -6,6 +6,7 @@ use Rattle.lock_free.specs.Bits.Contracts.{HasSet}
 use Rattle.uses_laws.proofs.Again.{cleared_since}
 use Rattle.uses_laws.proofs.twice.set_twice.Goals as goal
 
+-- where both sets answer true, the place was cleared once more in between
 pub returns : goal.returns
 returns g c both =
     let place = c.args.place in

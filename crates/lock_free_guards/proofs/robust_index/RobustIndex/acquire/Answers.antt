@@ -1,3 +1,4 @@
+-- `RobustIndex::acquire` (src/robust_index/calls.rt): its return meets the clause `acquired`.
 use Rattle.lock_free_owners.specs.RobustUniqueIndexSet.{view}
 use Rattle.lock_free_guards.proofs.Grants.{acquired}
 use Rattle.lock_free_guards.proofs.robust_index.RobustIndex.acquire.Goals as goal

@@ -1,3 +1,6 @@
+-- `RobustIndex::acquire_waiting` (src/robust_index/waits.rt): the invariant of its loop holds at
+-- the start and after each iteration, and its returns meet the clauses `acquired`, `locked` and
+-- `lock`.
 use Rattle.std.proofs.Common.{refl, subst, ◌∙◌, ◌+◌}
 use Rattle.model.specs.declared.event.Start.TheVariants.{Robust}
 use Rattle.model.specs.declared.families.indices.robust.RobustStart.TheVariants.{Acquire}
@@ -12,6 +15,7 @@ use Rattle.lock_free_guards.proofs.robust_index.RobustIndex.acquire_waiting.Goal
 pub loop-init : goal.loop-init
 loop-init g c = (refl, (0, none_tried (Robust (Acquire c.args.owner)) (view c.args.pass)))
 
+-- a try that took none is one more of the tries that took none
 pub loop-preserved : goal.loop-preserved
 loop-preserved g c =
     let was = c.loop.invariant in
@@ -21,6 +25,7 @@ loop-preserved g c =
       (was.1.0 + 1, one_next c.args.owner was.1.0 (view c.args.pass) (view c.loop.pass) (view c.in-Err.back) was.1.1 same.goes none.taken),
     )
 
+-- the try that took an index ends the tries
 pub returns-in-Ok-clause-acquired : goal.returns-in-Ok-clause-acquired
 returns-in-Ok-clause-acquired g c =
     let was = c.loop.invariant in
@@ -30,6 +35,7 @@ returns-in-Ok-clause-acquired g c =
           c.in-Ok.ensures.acquired,
     )
 
+-- the try that saw the lock ends the tries
 pub returns-in-IsLocked-clause-locked : goal.returns-in-IsLocked-clause-locked
 returns-in-IsLocked-clause-locked g c =
     let was = c.loop.invariant in

@@ -1,3 +1,6 @@
+-- `RobustIndex::acquire_within` (src/robust_index/waits.rt): the invariant of its loop holds at
+-- the start and after each iteration, and its returns meet the clauses `acquired`, `locked`,
+-- `lock` and `unlocked`.
 use Rattle.std.proofs.Common.{◌≡◌, ◌≤◌, ◌-◌, refl, subst, ◌∙◌, arith}
 use Rattle.model.specs.declared.event.Start.TheVariants.{Robust}
 use Rattle.model.specs.declared.families.indices.robust.RobustStart.TheVariants.{Acquire}
@@ -13,6 +16,7 @@ use Rattle.lock_free_guards.proofs.robust_index.RobustIndex.acquire_within.Goals
 pub loop-init : goal.loop-init
 loop-init g c = (refl, none_tried (Robust (Acquire c.args.owner)) (view c.args.pass))
 
+-- a try that took none is one more of the tries that took none
 pub loop-preserved : goal.loop-preserved
 loop-preserved g c =
     let was = c.loop.invariant in
@@ -22,6 +26,7 @@ loop-preserved g c =
       tries.one_next c.args.owner c.loop.counter (view c.args.pass) (view c.loop.pass) (view c.in-Err.back) was.1 same.goes none.taken,
     )
 
+-- the try that took an index ends the tries within their limit
 pub returns-in-Ok-clause-acquired : goal.returns-in-Ok-clause-acquired
 returns-in-Ok-clause-acquired g c =
     let i = c.in-Ok.index in
@@ -32,6 +37,7 @@ returns-in-Ok-clause-acquired g c =
           (value_of i) c.in-Ok.ensures.acquired,
     )
 
+-- the try that saw the lock ends the tries within their limit
 pub returns-in-IsLocked-clause-locked : goal.returns-in-IsLocked-clause-locked
 returns-in-IsLocked-clause-locked g c is =
     let few : c.loop.counter ≤ c.args.tries - 1 = omega arith in

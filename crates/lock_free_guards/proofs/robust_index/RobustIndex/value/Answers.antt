@@ -1,3 +1,4 @@
+-- `RobustIndex::value` (src/robust_index/calls.rt): its return meets the clause `below`.
 use Rattle.std.proofs.Common.{◌<◌, ap, subst, sym}
 use Rattle.threaded.specs.Sets.{SetId}
 use Rattle.lock_free_guards.proofs.robust_index.RobustIndex.value.Goals as goal

@@ -22,6 +22,7 @@ returns-clause-freed c p index before after is =
     let sound = c.index_histories_are_sound.ensures one_word (set_of pass).capacity (history pass) c.history.ensures.history in
     sound.holds before after (Freed p index) is
 
+-- whenever an acquire ends with an index, it has claimed just this one
 pub returns-clause-acquired : goal.returns-clause-acquired
 returns-clause-acquired c p index before after is =
     let pass = c.args.pass.now in

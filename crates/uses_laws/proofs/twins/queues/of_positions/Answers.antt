@@ -18,6 +18,7 @@ returns-clause-taken c p q x y before after earlier later one other same =
     (record { before = before; after = after; is = one; rank = refl })
     (record { before = earlier; after = later; is = other; rank = same })
 
+-- what was taken from a position is what was published there
 pub returns-clause-agree : goal.returns-clause-agree
 returns-clause-agree c p q x y before after earlier later one other same =
     let pass = c.args.pass.now in

@@ -27,6 +27,7 @@ same_number : (answer : Option ℕ) (number : ℕ) → option_map named answer �
 same_number None number e = absurd (cc)
 same_number (Some x) number e = cc
 
+-- where the peek answered a number, the pop answers it too
 pub returns-clause-same : goal.returns-clause-same
 returns-clause-same c number is =
     let start = consumer_view c.args.consumer.now in
@@ -38,6 +39,7 @@ returns-clause-same c number is =
     start was new c.history.ensures.history peek (took was new c.pop-popped.result c.pop-popped.ensures.popped)
     (none was new c.pop-popped.result c.pop-popped.ensures.empty))
 
+-- a number that the pop answers was taken out right after all that was seen to be taken out
 pub returns-clause-taken : goal.returns-clause-taken
 returns-clause-taken c number is =
     let was = consumer_view c.peek-seen.new.self in
@@ -45,6 +47,7 @@ returns-clause-taken c number is =
     let done : PopDone (Index number) was new = subst (λ r. IfSome r (λ x. PopDone (Index x) was new)) is c.pop-popped.ensures.popped in
     done.1.list ∙ ap (λ xs. xs ++ Index number ∷ []) c.peek-seen.ensures.peeked.list
 
+-- a pop that answers a number, with the peek before it, counts one more as taken out by the pass
 pub returns-clause-counted : goal.returns-clause-counted
 returns-clause-counted c number is =
     let start = consumer_view c.args.consumer.now in

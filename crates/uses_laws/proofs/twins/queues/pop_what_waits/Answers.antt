@@ -9,6 +9,7 @@ pub returns-clause-found : goal.returns-clause-found
 returns-clause-found c =
     c.pops_succeed.ensures c.pop.result (consumer_view c.args.consumer.now) (consumer_view c.pop.new.self) c.requires c.pop.ensures.empty
 
+-- the number was taken from the position right after all that were seen to be taken
 pub returns-clause-next : goal.returns-clause-next
 returns-clause-next c number is =
     let old = consumer_view c.args.consumer.now in
@@ -20,6 +21,7 @@ pub returns-clause-below : goal.returns-clause-below
 returns-clause-below c p position item known =
     c.positions_rise.ensures.below (consumer_view c.args.consumer.now) p position item known
 
+-- the pass counts one more as taken out by itself
 pub returns-clause-counted : goal.returns-clause-counted
 returns-clause-counted c number is =
     let old = consumer_view c.args.consumer.now in

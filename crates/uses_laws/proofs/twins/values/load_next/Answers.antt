@@ -5,6 +5,7 @@ use Rattle.lock_free.specs.Value.Contracts.{HasLoaded}
 use Rattle.lock_free.specs.Value.Stored.{stored}
 use Rattle.uses_laws.proofs.twins.values.load_next.Goals as goal
 
+-- the load has a version that is at least each version of a load that was known
 pub returns : goal.returns
 returns g c =
     let old = view c.args.pass.now in

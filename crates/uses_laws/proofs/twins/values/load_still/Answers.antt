@@ -6,6 +6,7 @@ use Rattle.lock_free.specs.Value.Stored.{stored}
 use Rattle.uses_laws.proofs.Unchanged.{beginning_of_both, still_last}
 use Rattle.uses_laws.proofs.twins.values.load_still.Goals as goal
 
+-- where the version is the same before and after the load, the value is still the last one stored
 pub returns-then-first-later : goal.returns-then-first-later
 returns-then-first-later g c =
     let old = view c.args.pass.now in

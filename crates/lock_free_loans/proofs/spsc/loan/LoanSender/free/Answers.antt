@@ -9,6 +9,7 @@ use Rattle.lock_free_loans.proofs.spsc.loan.LoanSender.free.Goals as goal
 pub release_raw_index-requires-clause-held : goal.release_raw_index-requires-clause-held
 release_raw_index-requires-clause-held c = out_held c.args.self.now.book c.args.sent (sent_out _ c.requires)
 
+-- the book has the index that is given back as free
 pub invariant_of-self-clause-book : goal.invariant_of-self-clause-book
 invariant_of-self-clause-book c =
     let mine = c.args.self.now in

@@ -10,6 +10,7 @@ use Rattle.lock_free_loans.proofs.spsc.loan.LoanSender.give_up.Goals as goal
 pub release_raw_index-requires-clause-held : goal.release_raw_index-requires-clause-held
 release_raw_index-requires-clause-held c = out_held c.args.self.now.book c.args.index (ap is_out c.requires)
 
+-- the book has the index that is given back as free
 pub invariant_of-self-clause-book : goal.invariant_of-self-clause-book
 invariant_of-self-clause-book c =
     let mine = c.args.self.now in
@@ -18,6 +19,7 @@ invariant_of-self-clause-book c =
     (now.known ∙ (ap (λ (z : SetId). z.capacity) c.release_raw_index.ensures.same.set ∙ sym mine.pass.known))
     c.release_raw_index.ensures.given.given
 
+-- both queues are as they were, and the view of the pass goes on
 pub returns-clause-same : goal.returns-clause-same
 returns-clause-same c =
     let released = c.release_raw_index in

@@ -8,6 +8,7 @@ use Rattle.lock_free_loans.proofs.Loan.Books.{is_loaned, was_free, is_free, is_r
 use Rattle.lock_free_loans.proofs.Loan.Contracts.{begins_before, set_goes}
 use Rattle.lock_free_loans.proofs.spsc.loan.LoanSender.loan.Goals as goal
 
+-- the book has the index that was acquired as loaned
 pub invariant_of-self-2-clause-book : goal.invariant_of-self-2-clause-book
 invariant_of-self-2-clause-book g c =
     let mine = c.args.self.now in
@@ -17,6 +18,7 @@ invariant_of-self-2-clause-book g c =
     let same = now.known ∙ (ap (λ (z : SetId). z.capacity) c.acquire_raw_index.ensures.same.set ∙ sym mine.pass.known) in
     is_loaned mine.book called.index _ same (subst (λ n. called.index < n) (sym size) called.ensures.acquired.within) called.ensures.acquired.acquired
 
+-- the index was free in the table, is loaned now, and was acquired by the pass
 pub returns-clause-loaned : goal.returns-clause-loaned
 returns-clause-loaned g c =
     record {
@@ -25,6 +27,7 @@ returns-clause-loaned g c =
       acquired = c.in_ok-index.ensures.acquired.acquired;
     }
 
+-- where no index was acquired, the book is as it was
 pub invariant_of-self : goal.invariant_of-self
 invariant_of-self g c =
     let mine = c.args.self.now in
@@ -32,6 +35,7 @@ invariant_of-self g c =
     let same = now.known ∙ (ap (λ (z : SetId). z.capacity) c.acquire_raw_index.ensures.same.set ∙ sym mine.pass.known) in
     record { of = search rules; book = is_refused mine.book _ _ same c.in_err-index.ensures.refused }
 
+-- with an index that was acquired, both queues are as they were, and the view of the pass goes on
 pub returns-clause-same : goal.returns-clause-same
 returns-clause-same g c =
     let acquired = c.acquire_raw_index in
@@ -44,6 +48,7 @@ returns-clause-same g c =
       share = search rules;
     }
 
+-- where no index was acquired, both queues are as they were, and the view of the pass goes on
 pub returns-in_err-index-clause-same : goal.returns-in_err-index-clause-same
 returns-in_err-index-clause-same g c =
     let acquired = c.acquire_raw_index in

@@ -7,6 +7,7 @@ use Rattle.lock_free_loans.specs.Loan.Places.{IsBookOf}
 use Rattle.lock_free_loans.proofs.Loan.Books.{book_opens}
 use Rattle.lock_free_loans.proofs.spsc.loan.LoanSender.new.Goals as goal
 
+-- a book in which all is free is right of a pass that holds nothing
 pub invariant_of-result : goal.invariant_of-result
 invariant_of-result c =
     let all : c.in-Ok.places.items ≡ replicate c.capacity.result Free = search rules in

@@ -1,3 +1,4 @@
+-- All below the next index that were sent are free, counted, and given back to the set in turn.
 use Rattle.lock_free_sets.proofs.Names.{◌≡◌, length, take}
 use Rattle.history.specs.Steps.{TakesAtMost}
 use Rattle.std.proofs.Common.{◌*◌, count_by}

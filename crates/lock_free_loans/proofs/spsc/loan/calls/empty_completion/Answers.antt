@@ -10,6 +10,7 @@ use Rattle.lock_free_loans.proofs.spsc.loan.calls.empty_completion.Goals as goal
 pub loop-init : goal.loop-init
 loop-init g c = record { queue = refl; popping = pops_none (consumer_view c.args.consumer.now) }
 
+-- a pop that found a number adds it to those that were taken out
 pub loop-preserved : goal.loop-preserved
 loop-preserved g c = record {
   queue = search rules;
@@ -24,6 +25,7 @@ returns-then-is_none-clause-goes g c =
     still_goes (consumer_view c.args.consumer.now) (consumer_view c.loop.consumer)
     (consumer_view c.pop.new.self) c.loop.invariant.popping c.pop.ensures.same.goes
 
+-- the pop that found none ends the pops: the queue is emptied
 pub returns-then-is_none-clause-emptied : goal.returns-then-is_none-clause-emptied
 returns-then-is_none-clause-emptied g c =
     is_emptied (consumer_view c.args.consumer.now) (consumer_view c.loop.consumer) (consumer_view c.pop.new.self)

@@ -7,6 +7,7 @@ use Rattle.lock_free_queues.proofs.Queues.Ends.{oldest_popped, has_found_none}
 use Rattle.lock_free_loans.proofs.Loan.Contracts.{pops_none, pops_on, still_goes, is_emptied}
 use Rattle.lock_free_loans.proofs.spsc.loan.calls.empty_submission.Goals as goal
 
+-- as the loop begins nothing was popped
 pub loop-init : goal.loop-init
 loop-init g c = record {
   queue = refl;
@@ -14,6 +15,7 @@ loop-init g c = record {
   none = λ none. refl;
 }
 
+-- a pop that found a number adds it to those that were taken out; without capacity nothing changes
 pub loop-preserved : goal.loop-preserved
 loop-preserved g c =
     let room = ap (λ (q : QueueId). q.capacity) c.loop.invariant.queue in
@@ -26,6 +28,7 @@ loop-preserved g c =
       none = λ none. c.pop.ensures.same.none (room ∙ none) ∙ c.loop.invariant.none none;
     }
 
+-- the guard is of the same queue, and where this has a capacity its view goes on
 pub returns-then-is_none-clause-same : goal.returns-then-is_none-clause-same
 returns-then-is_none-clause-same g c =
     let room = ap (λ (q : QueueId). q.capacity) c.loop.invariant.queue in
@@ -37,6 +40,7 @@ returns-then-is_none-clause-same g c =
       none = λ none. c.pop.ensures.same.none (room ∙ none) ∙ c.loop.invariant.none none;
     }
 
+-- where the queue has a capacity, the pop that found none ends the pops: the queue is emptied
 pub returns-then-is_none-clause-emptied : goal.returns-then-is_none-clause-emptied
 returns-then-is_none-clause-emptied g c wide =
     let room = ap (λ (q : QueueId). q.capacity) c.loop.invariant.queue in

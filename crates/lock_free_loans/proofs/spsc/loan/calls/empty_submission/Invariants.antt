@@ -1,3 +1,4 @@
+-- Each pop so far found a number; without capacity nothing changes.
 use Rattle.lock_free_sets.proofs.Names.{◌≡◌, ◌<◌}
 use Rattle.lock_free_queues.specs.Queues.Overflowing.{consumer_queue, consumer_view}
 use Rattle.lock_free_loans.proofs.Loan.Contracts.{Popping}

@@ -1,6 +1,6 @@
--- `Container::get_state` (src/mpmc/container/looks.rt): its call of `bring_up` meets the requirement `at`, and its return meets the
+-- `Container::get_state` (src/mpmc/container/looks.rt): its call of `bring_up` meets the requirement `begins`, and its return meets the
 -- clauses `got` and `steps`.
-use Rattle.lock_free_owners.proofs.Names.{◌≡◌, ℕ, rules, sym, ap, subst, ◌∙◌, first_look, no_numbers, shows_nothing}
+use Rattle.lock_free_owners.proofs.Names.{◌≡◌, inl, ℕ, rules, refl, sym, ap, subst, ◌∙◌, first_look, no_numbers, shows_nothing}
 use Rattle.lock_free_owners.proofs.Names.{shown_number, Coding, IsCoding, coding_by, Number, GetState, seen, SetId}
 use Rattle.lock_free_owners.proofs.Names.{HasCopied, HasLookedAll}
 use Rattle.model.specs.declared.families.container.ContainerStart.TheVariants as starts
@@ -10,16 +10,25 @@ use Rattle.lock_free_owners.specs.Container.Steps.{LookTakes}
 use Rattle.lock_free_owners.proofs.ContainerSet.Steps.{look_takes}
 use Rattle.lock_free_owners.proofs.mpmc.container.Container.get_state.Goals as goal
 
-pub bring_up-requires-clause-at : goal.bring_up-requires-clause-at
-bring_up-requires-clause-at g c =
+pub bring_up-requires-clause-begins : goal.bring_up-requires-clause-begins
+bring_up-requires-clause-begins g c =
     let met = g.met.T.Words in
     let code : Coding g.row.T.Denot = coding_by g.T.Words in
     let law : IsCoding code = record { some = met.some; few = met.few; sized = met.sized; given_back = met.given_back } in
     let mine = c.args.pass.now.token in
     let v = seen mine.seated in
     let state = c.in_ok-state.state in
-    subst (λ (n : ℕ). LookAt code GetState v state.shown state.seen v (first_look n) state.shown) mine.known
-    (look_begins code law GetState v state.shown state.seen mine.idle mine.alone mine.some.0)
+    let size = mine.known ∙ ap (λ (z : SetId). z.capacity) c.requires in
+    record {
+      places = mine.places;
+      from_is = refl;
+      decided = inl (
+        subst (λ (n : ℕ). state.seen ≡ no_numbers n) (sym size) c.in_ok-state.ensures.seen,
+        subst (λ (n : ℕ). state.shown ≡ shows_nothing g.T.Words.value_of g.T.Words.WORDS n) (sym size) c.in_ok-state.ensures.shown,
+      );
+      at = subst (λ (n : ℕ). LookAt code GetState v state.shown state.seen v (first_look n) state.shown) mine.known
+          (look_begins code law GetState v state.shown state.seen mine.idle mine.alone mine.some.0);
+    }
 
 pub returns-clause-got : goal.returns-clause-got
 returns-clause-got g c =

@@ -1,6 +1,6 @@
--- `Container::update_state` (src/mpmc/container/looks.rt): its call of `bring_up` meets the requirements `decided` and `at`, `pass`
+-- `Container::update_state` (src/mpmc/container/looks.rt): its call of `bring_up` meets the requirement `begins`, `pass`
 -- meets the invariants `known`, `idle`, `alone`, `some` and `knows`, and its return meets the clauses `updated`, `beside` and `steps`.
-use Rattle.lock_free_owners.proofs.Names.{◌<◌, ℕ, rules, sym, ap, subst, ◌∙◌, first_look, Coding, IsCoding, coding_by}
+use Rattle.lock_free_owners.proofs.Names.{◌<◌, ℕ, rules, refl, sym, ap, subst, ◌∙◌, first_look, Coding, IsCoding, coding_by}
 use Rattle.lock_free_owners.proofs.Names.{UpdateState, seen, SetId, looking}
 use Rattle.model.specs.declared.turn.Kind.TheVariants as kinds
 use Rattle.threaded.specs.declared.share.Share.{Share}
@@ -15,24 +15,21 @@ use Rattle.lock_free_owners.specs.Container.Steps.{LookTakes}
 use Rattle.lock_free_owners.proofs.ContainerSet.Steps.{look_takes}
 use Rattle.lock_free_owners.proofs.mpmc.container.Container.update_state.Goals as goal
 
-pub bring_up-requires-clause-decided : goal.bring_up-requires-clause-decided
-bring_up-requires-clause-decided g c =
-    let met = g.met.T.Words in
-    let code : Coding g.row.T.Denot = coding_by g.T.Words in
-    let law : IsCoding code = record { some = met.some; few = met.few; sized = met.sized; given_back = met.given_back } in
-    let v = seen c.args.pass.now.token.seated in
-    decide code law v v.capacity c.args.state.now.seen c.args.state.now.shown
-
-pub bring_up-requires-clause-at : goal.bring_up-requires-clause-at
-bring_up-requires-clause-at g c =
+pub bring_up-requires-clause-begins : goal.bring_up-requires-clause-begins
+bring_up-requires-clause-begins g c =
     let met = g.met.T.Words in
     let code : Coding g.row.T.Denot = coding_by g.T.Words in
     let law : IsCoding code = record { some = met.some; few = met.few; sized = met.sized; given_back = met.given_back } in
     let mine = c.args.pass.now.token in
     let v = seen mine.seated in
     let state = c.args.state.now in
-    subst (λ (n : ℕ). LookAt code UpdateState v state.shown state.seen v (first_look n) state.shown) mine.known
-    (look_begins code law UpdateState v state.shown state.seen mine.idle mine.alone mine.some.0)
+    record {
+      places = mine.places;
+      from_is = refl;
+      decided = decide code law v v.capacity state.seen state.shown;
+      at = subst (λ (n : ℕ). LookAt code UpdateState v state.shown state.seen v (first_look n) state.shown) mine.known
+          (look_begins code law UpdateState v state.shown state.seen mine.idle mine.alone mine.some.0);
+    }
 
 pub invariant_of-pass-clause-known : goal.invariant_of-pass-clause-known
 invariant_of-pass-clause-known g c =

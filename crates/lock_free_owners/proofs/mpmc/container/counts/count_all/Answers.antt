@@ -1,8 +1,9 @@
 -- `count_all` (src/mpmc/container/counts.rt): its call of `step_count` meets the requirement `at`, that of `count_next` the requirement
 -- `at`, the invariant of its loop holds at the start and after each iteration, and its return meets the clause `ends`.
-use Rattle.lock_free_owners.proofs.Names.{◌∙◌, sym, subst, Coding, coding_by, seen}
+use Rattle.lock_free_owners.proofs.Names.{sym, subst, Coding, coding_by, seen}
 use Rattle.lock_free_owners.specs.Container.Turns.{CountAt, CountEnds}
 use Rattle.lock_free_owners.proofs.RobustSet.Turns.{gone_on, has_ended}
+use Rattle.lock_free_owners.proofs.ContainerSet.Stays.{stays_then}
 use Rattle.lock_free_owners.proofs.mpmc.container.counts.count_all.Goals as goal
 
 pub step_count-first-requires-clause-at : goal.step_count-first-requires-clause-at
@@ -51,11 +52,8 @@ loop-init g c =
     let code : Coding g.row.T.Denot = coding_by g.T.Words in
     let at_all = CountAt code g.W.Counting.which in
     let over_all = CountEnds code g.W.Counting.which in
-    let base = seen c.args.seat.now in
-    let first = c.step_count-first.ensures.same in
-    let cells = c.count_next-cells.ensures.same in (
-      (cells.0 ∙ first.0, cells.1 ∙ first.1, cells.2 ∙ first.2),
-      c.count_next-cells.ensures.board,
+    let base = seen c.args.seat.now in (
+      stays_then c.step_count-first.ensures.stays c.count_next-cells.ensures.stays,
       gone_on at_all over_all base (seen c.step_count-first.new.seat)
           (seen c.count_next-cells.new.seat) c.in-GoOn.next c.in-GoOn-cells.next c.count_next-cells.result
           c.count_next-cells.ensures.goes c.in-GoOn-cells.is
@@ -72,11 +70,10 @@ loop-preserved g c =
     let base = seen c.args.seat.now in
     let so_far = c.loop.invariant in
     let called = c.count_next-after in (
-      (called.ensures.same.0 ∙ so_far.0.0, called.ensures.same.1 ∙ so_far.0.1, called.ensures.same.2 ∙ so_far.0.2),
-      called.ensures.board,
+      stays_then so_far.0 called.ensures.stays,
       gone_on at_all over_all base (seen c.loop.seat) (seen called.new.seat) c.loop.call c.in-GoOn-after.next called.result called.ensures.goes
           c.in-GoOn-after.is
-          so_far.2,
+          so_far.1,
     )
 
 pub returns-in-Done-after-clause-ends : goal.returns-in-Done-after-clause-ends
@@ -88,4 +85,4 @@ returns-in-Done-after-clause-ends g c =
     let called = c.count_next-after in
     has_ended at_all over_all base (seen c.loop.seat) (seen called.new.seat) c.loop.call c.in-Done-after.filled called.result called.ensures.goes
     c.in-Done-after.is
-    c.loop.invariant.2
+    c.loop.invariant.1

@@ -1,12 +1,12 @@
-use Rattle.lock_free_owners.proofs.Names.{◌-◌, View, coding_by, seen, IsSame}
+use Rattle.lock_free_owners.proofs.Names.{◌-◌, View, coding_by, seen}
 use Rattle.steps.specs.declared.indices.robust.parts.Count.TheVariants as stages
-use Rattle.lock_free_owners.specs.Container.Turns.{IsBoard, CountAt}
+use Rattle.lock_free_owners.specs.Container.Turns.{StaysAtBoard, CountAt}
 use Rattle.lock_free_owners.proofs.mpmc.container.counts.count_cells.Given as given
 
 -- whatever the view with which the count began
 abbrev pub invariant-cells : given.invariant-cells
 invariant-cells g l =
-    IsSame l.fn.seat l.seat × IsBoard g.T.Words.WORDS l.seat
+    StaysAtBoard g.T.Words.WORDS l.fn.seat l.seat
     × ((base : View g.row.T.Denot)
     → CountAt (coding_by g.T.Words) g.W.Counting.which base (seen l.fn.seat)
     (record { capacity = l.fn.capacity; count = stages.LoadsCell l.fn.counter l.fn.first l.fn.filled }) tt

@@ -3,6 +3,7 @@ use Rattle.lock_free_owners.proofs.Names.{◌≡◌, ◌∙◌, sym, ap, subst, 
 use Rattle.steps.specs.declared.container.look.Look.{Look}
 use Rattle.lock_free_owners.specs.Container.LookTurns.{LookOnAt, at_count}
 use Rattle.lock_free_owners.proofs.ContainerSet.LookElements.{counts_next, gone_on}
+use Rattle.lock_free_owners.proofs.ContainerSet.Stays.{stays_then}
 use Rattle.lock_free_owners.proofs.mpmc.container.elements.pass_over.Goals as goal
 
 pub elements-preserved : goal.elements-preserved
@@ -19,8 +20,7 @@ elements-preserved g c =
     ∙ (sym after.ensures.taken.1 ∙ c.in-GoOn.is) in
     let is = counts_next g.T.Words.WORDS numbers c.args.capacity c.elements.index n c.in-LoadsCount.further next taken c.in-LoadsCount.is in
     record {
-      same = (after.ensures.same.0 ∙ so_far.same.0, after.ensures.same.1 ∙ so_far.same.1, after.ensures.same.2 ∙ so_far.same.2);
-      board = after.ensures.board;
+      stays = stays_then so_far.stays after.ensures.stays;
       at = subst (λ (d : Look g.row.T.Denot). LookOnAt code b.which b.from b.shown numbers (seen after.new.seat) d after.new.room) is.0
           (gone_on code b.which b.from b.shown numbers (seen after.new.seat) after.new.room after.result next c.in-GoOn.is after.ensures.goes);
     }

@@ -1,13 +1,12 @@
-use Rattle.lock_free_owners.proofs.Names.{◌-◌, coding_by, seen, IsSame}
+use Rattle.lock_free_owners.proofs.Names.{◌-◌, coding_by, seen}
 use Rattle.lock_free_owners.specs.Container.LookTurns.{LookOnAt, at_count}
-use Rattle.lock_free_owners.specs.Container.Turns.{IsBoard}
+use Rattle.lock_free_owners.specs.Container.Turns.{StaysAtBoard}
 use Rattle.lock_free_owners.proofs.mpmc.container.elements.pass_over.Given as given
 
 abbrev pub invariant-elements : given.invariant-elements
 invariant-elements g l =
     record {
-      same : IsSame l.fn.seat l.seat;
-      board : IsBoard g.T.Words.WORDS l.seat;
+      stays : StaysAtBoard g.T.Words.WORDS l.fn.seat l.seat;
       at : LookOnAt (coding_by g.T.Words) g.B.Beginning.which g.B.Beginning.from
           g.B.Beginning.shown l.fn.given (seen l.seat) (at_count l.fn.capacity l.index) l.room;
     }

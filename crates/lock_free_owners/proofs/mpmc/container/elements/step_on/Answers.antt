@@ -9,10 +9,10 @@ step-requires-clause-rule g c =
     let met = g.met.T.Words in
     let code : Coding g.row.T.Denot = coding_by g.T.Words in
     let law : IsCoding code = record { some = met.some; few = met.few; sized = met.sized; given_back = met.given_back } in
-    look_on_keeps code law g.B.Beginning.which g.B.Beginning.from g.B.Beginning.shown c.args.given.now c.requires.decided
+    look_on_keeps code law g.B.Beginning.which g.B.Beginning.from g.B.Beginning.shown c.args.given.now c.requires.may_step.decided
 
 pub step-requires-clause-at : goal.step-requires-clause-at
-step-requires-clause-at g c = (g.B.Beginning.from, c.requires.at)
+step-requires-clause-at g c = (g.B.Beginning.from, c.requires.may_step.at)
 
 pub returns-clause-goes : goal.returns-clause-goes
-returns-clause-goes g c = c.step.ensures.told g.B.Beginning.from c.requires.at
+returns-clause-goes g c = c.step.ensures.told g.B.Beginning.from c.requires.may_step.at

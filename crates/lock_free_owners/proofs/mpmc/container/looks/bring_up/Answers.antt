@@ -1,5 +1,5 @@
 -- `bring_up` (src/mpmc/container/looks.rt): its call of `step` meets the requirements `rule` and `at`, that of `look_on` the requirement
--- `at`, and its return meets the clause `over`.
+-- `may_step`, and its return meets the clause `over`.
 use Rattle.lock_free_owners.proofs.Names.{◌≡◌, false, sym, ap, subst, ◌∙◌, look_after, Coding, IsCoding, coding_by}
 use Rattle.lock_free_owners.proofs.Names.{seen}
 use Rattle.lock_free_owners.specs.Container.LookTurns.{LookAt, LookOver}
@@ -11,7 +11,7 @@ step-after-requires-clause-rule g c =
     let met = g.met.T.Words in
     let code : Coding g.row.T.Denot = coding_by g.T.Words in
     let law : IsCoding code = record { some = met.some; few = met.few; sized = met.sized; given_back = met.given_back } in
-    look_keeps code law g.B.Beginning.which g.B.Beginning.from g.B.Beginning.shown c.args.state.now.seen c.requires.decided
+    look_keeps code law g.B.Beginning.which g.B.Beginning.from g.B.Beginning.shown c.args.state.now.seen c.requires.begins.decided
 
 pub step-after-requires-clause-at : goal.step-after-requires-clause-at
 step-after-requires-clause-at g c =
@@ -19,25 +19,29 @@ step-after-requires-clause-at g c =
     let v = seen c.args.seat.now in
     let state = c.args.state.now in
     let b = g.B.Beginning in
-    (v, subst (λ call. LookAt code b.which b.from b.shown state.seen v call state.shown) (sym c.new-first.ensures) c.requires.at)
+    (v, subst (λ call. LookAt code b.which b.from b.shown state.seen v call state.shown) (sym c.new-first.ensures) c.requires.begins.at)
 
-pub look_on-requires-clause-at : goal.look_on-requires-clause-at
-look_on-requires-clause-at g c =
+pub look_on-requires-clause-may_step : goal.look_on-requires-clause-may_step
+look_on-requires-clause-may_step g c =
     let met = g.met.T.Words in
     let code : Coding g.row.T.Denot = coding_by g.T.Words in
     let law : IsCoding code = record { some = met.some; few = met.few; sized = met.sized; given_back = met.given_back } in
     let v = seen c.args.seat.now in
     let state = c.args.state.now in
     let b = g.B.Beginning in
-    let at = subst (λ call. LookAt code b.which b.from b.shown state.seen v call state.shown) (sym c.new-first.ensures) c.requires.at in
+    let at = subst (λ call. LookAt code b.which b.from b.shown state.seen v call state.shown) (sym c.new-first.ensures) c.requires.begins.at in
     let told = c.step-after.ensures.told v at in
     let taken = c.step-after.ensures.taken in
-    let is = taken.1 ∙ ap (λ call. look_after g.T.Words.WORDS call state.seen taken.0) c.new-first.ensures in (
-      goes_from code law b.which b.from b.shown state.seen v (seen c.step-after.new.self) c.step-after.result
-          c.step-after.new.room c.in-GoOn.call c.in-GoOn.is told,
-      past_from code law b.which b.from b.shown state.seen c.step-after.result c.in-GoOn.call c.in-GoOn.is
-          (first_leads code law b.which b.from b.shown state.seen c.args.capacity c.step-after.result taken.0 c.requires.some is),
-    )
+    let is = taken.1 ∙ ap (λ call. look_after g.T.Words.WORDS call state.seen taken.0) c.new-first.ensures in
+    record {
+      decided = c.requires.begins.decided;
+      at = (
+        goes_from code law b.which b.from b.shown state.seen v (seen c.step-after.new.self) c.step-after.result
+            c.step-after.new.room c.in-GoOn.call c.in-GoOn.is told,
+        past_from code law b.which b.from b.shown state.seen c.step-after.result c.in-GoOn.call c.in-GoOn.is
+            (first_leads code law b.which b.from b.shown state.seen c.args.capacity c.step-after.result taken.0 c.requires.begins.places is),
+      );
+    }
 
 pub returns-in-Done-clause-over : goal.returns-in-Done-clause-over
 returns-in-Done-clause-over g c =
@@ -48,14 +52,14 @@ returns-in-Done-clause-over g c =
     let w = seen c.step-after.new.self in
     let state = c.args.state.now in
     let b = g.B.Beginning in
-    let at = subst (λ call. LookAt code b.which b.from b.shown state.seen v call state.shown) (sym c.new-first.ensures) c.requires.at in
+    let at = subst (λ call. LookAt code b.which b.from b.shown state.seen v call state.shown) (sym c.new-first.ensures) c.requires.begins.at in
     let told = c.step-after.ensures.told v at in
     let taken = c.step-after.ensures.taken in
     let is = taken.1 ∙ ap (λ call. look_after g.T.Words.WORDS call state.seen taken.0) c.new-first.ensures in
     let ended = c.in-Done.field-0 in
     let none : ended ≡ false =
     false_from code law b.which b.from b.shown state.seen c.step-after.result ended c.in-Done.is
-    (first_leads code law b.which b.from b.shown state.seen c.args.capacity c.step-after.result taken.0 c.requires.some is)
+    (first_leads code law b.which b.from b.shown state.seen c.args.capacity c.step-after.result taken.0 c.requires.begins.places is)
     in
     subst (λ z. LookOver code b.which b.from b.shown state.seen z c.step-after.new.room w) none
     (ends_from code law b.which b.from b.shown state.seen v w c.step-after.result c.step-after.new.room ended c.in-Done.is told)

@@ -1,16 +1,16 @@
 -- `free_all` (src/mpmc/container/recovery.rt): its call of `pass_others` meets the requirements `within` and `at`, that of
 -- `recover_next` the requirements `at` and `asks`, the invariant of its loop holds at the start and after each iteration, and its return
 -- meets the clause `recovered`.
-use Rattle.lock_free_owners.proofs.Names.{refl, subst, ◌∙◌, Coding, IsCoding, coding_by, fresh_cell, seen}
+use Rattle.lock_free_owners.proofs.Names.{refl, subst, Coding, IsCoding, coding_by, fresh_cell, seen}
 use Rattle.lock_free_owners.proofs.ContainerSet.Recoveries.{Standing, Further, starts, further, may_go, may_pass, passed_on}
+use Rattle.lock_free_owners.proofs.ContainerSet.Stays.{stays_then}
 use Rattle.lock_free_owners.proofs.mpmc.container.recovery.free_all.Goals as goal
 use Rattle.lock_free_owners.proofs.mpmc.container.recovery.free_all.Given as given
 
 pub loop-init : goal.loop-init
 loop-init g c =
     let code : Coding g.row.T.Denot = coding_by g.T.Words in (
-      (refl, refl, refl),
-      c.requires.board,
+      record { same = (refl, refl, refl); board = c.requires.ready.board },
       starts code (λ p x b q. given.F-step g p x b q) c.args.capacity (record { owner = c.args.owner; mode = c.args.mode })
           (seen c.args.seat.now) c.args.predicate.now c.new-call.result fresh_cell
           c.new-call.ensures refl c.requires.at,
@@ -21,10 +21,10 @@ pass_others-passed-requires-clause-within g c =
     let code : Coding g.row.T.Denot = coding_by g.T.Words in
     may_pass code (λ p x b q. given.F-step g p x b q) c.args.capacity (record { owner = c.args.owner; mode = c.args.mode })
     (seen c.args.seat.now) c.args.predicate.now
-    (seen c.loop.seat) c.loop.call c.loop.room c.loop.predicate c.loop.invariant.2
+    (seen c.loop.seat) c.loop.call c.loop.room c.loop.predicate c.loop.invariant.1
 
 pub pass_others-passed-requires-clause-at : goal.pass_others-passed-requires-clause-at
-pass_others-passed-requires-clause-at g c = (seen c.args.seat.now, c.loop.invariant.2.visits, c.loop.invariant.2.at)
+pass_others-passed-requires-clause-at g c = (seen c.args.seat.now, c.loop.invariant.1.visits, c.loop.invariant.1.at)
 
 pub recover_next-after-requires-clause-at : goal.recover_next-after-requires-clause-at
 recover_next-after-requires-clause-at g c =
@@ -35,7 +35,7 @@ recover_next-after-requires-clause-at g c =
     (seen passed.new.seat) passed.result c.loop.room c.loop.predicate =
     passed_on code (λ p x b q. given.F-step g p x b q) c.args.capacity (record { owner = c.args.owner; mode = c.args.mode })
     (seen c.args.seat.now) c.args.predicate.now
-    (seen c.loop.seat) (seen passed.new.seat) c.loop.call passed.result c.loop.room c.loop.predicate c.loop.invariant.2
+    (seen c.loop.seat) (seen passed.new.seat) c.loop.call passed.result c.loop.room c.loop.predicate c.loop.invariant.1
     passed.ensures.goes passed.ensures.passed in
     (seen c.args.seat.now, there.visits, there.at)
 
@@ -50,7 +50,7 @@ recover_next-after-requires-clause-asks g c =
     (seen passed.new.seat) passed.result c.loop.room c.loop.predicate =
     passed_on code (λ p x b q. given.F-step g p x b q) c.args.capacity (record { owner = c.args.owner; mode = c.args.mode })
     (seen c.args.seat.now) c.args.predicate.now
-    (seen c.loop.seat) (seen passed.new.seat) c.loop.call passed.result c.loop.room c.loop.predicate c.loop.invariant.2
+    (seen c.loop.seat) (seen passed.new.seat) c.loop.call passed.result c.loop.room c.loop.predicate c.loop.invariant.1
     passed.ensures.goes passed.ensures.passed in
     may_go code (λ p x b q. given.F-step g p x b q) c.args.capacity (record { owner = c.args.owner; mode = c.args.mode })
     (seen c.args.seat.now) c.args.predicate.now law
@@ -67,16 +67,10 @@ loop-preserved g c =
     (seen passed.new.seat) passed.result c.loop.room c.loop.predicate =
     passed_on code (λ p x b q. given.F-step g p x b q) c.args.capacity (record { owner = c.args.owner; mode = c.args.mode })
     (seen c.args.seat.now) c.args.predicate.now
-    (seen c.loop.seat) (seen passed.new.seat) c.loop.call passed.result c.loop.room c.loop.predicate c.loop.invariant.2
+    (seen c.loop.seat) (seen passed.new.seat) c.loop.call passed.result c.loop.room c.loop.predicate c.loop.invariant.1
     passed.ensures.goes passed.ensures.passed in
-    let so_far = c.loop.invariant in
     let called = c.recover_next-after in (
-      (
-        called.ensures.same.0 ∙ (passed.ensures.same.0 ∙ so_far.0.0),
-        called.ensures.same.1 ∙ (passed.ensures.same.1 ∙ so_far.0.1),
-        called.ensures.same.2 ∙ (passed.ensures.same.2 ∙ so_far.0.2),
-      ),
-      called.ensures.board,
+      stays_then (stays_then c.loop.invariant.0 passed.ensures.stays) called.ensures.stays,
       subst (λ a. Further code (λ p x b q. given.F-step g p x b q) c.args.capacity (record { owner = c.args.owner; mode = c.args.mode })
           (seen c.args.seat.now) c.args.predicate.now
           (seen called.new.seat) a called.new.room called.new.predicate) c.in-GoOn.is
@@ -97,7 +91,7 @@ returns-in-Done-clause-recovered g c =
     (seen passed.new.seat) passed.result c.loop.room c.loop.predicate =
     passed_on code (λ p x b q. given.F-step g p x b q) c.args.capacity (record { owner = c.args.owner; mode = c.args.mode })
     (seen c.args.seat.now) c.args.predicate.now
-    (seen c.loop.seat) (seen passed.new.seat) c.loop.call passed.result c.loop.room c.loop.predicate c.loop.invariant.2
+    (seen c.loop.seat) (seen passed.new.seat) c.loop.call passed.result c.loop.room c.loop.predicate c.loop.invariant.1
     passed.ensures.goes passed.ensures.passed in
     let called = c.recover_next-after in
     subst (λ a. Further code (λ p x b q. given.F-step g p x b q) c.args.capacity (record { owner = c.args.owner; mode = c.args.mode })

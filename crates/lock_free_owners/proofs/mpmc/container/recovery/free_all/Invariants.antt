@@ -1,11 +1,11 @@
-use Rattle.lock_free_owners.proofs.Names.{coding_by, seen, IsSame}
-use Rattle.lock_free_owners.specs.Container.Turns.{IsBoard}
+use Rattle.lock_free_owners.proofs.Names.{coding_by, seen}
+use Rattle.lock_free_owners.specs.Container.Turns.{StaysAtBoard}
 use Rattle.lock_free_owners.proofs.ContainerSet.Recoveries.{Standing}
 use Rattle.lock_free_owners.proofs.mpmc.container.recovery.free_all.Given as given
 
 abbrev pub invariant-loop : given.invariant-loop
 invariant-loop g l =
-    IsSame l.fn.seat l.seat × IsBoard g.T.Words.WORDS l.seat
+    StaysAtBoard g.T.Words.WORDS l.fn.seat l.seat
     × Standing (coding_by g.T.Words) (λ p x b q. given.F-step g p x b q) l.fn.capacity
     (record { owner = l.fn.owner; mode = l.fn.mode }) (seen l.fn.seat)
     l.fn.predicate (seen l.seat) l.call l.room l.predicate

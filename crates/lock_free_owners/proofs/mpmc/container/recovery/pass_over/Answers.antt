@@ -4,6 +4,7 @@ use Rattle.lock_free_owners.proofs.Names.{◌∙◌, sym, subst, arith, Coding, 
 use Rattle.steps.specs.declared.container.recover.Recover.{Recover}
 use Rattle.lock_free_owners.specs.Container.RecoverTurns.{RecoverAt}
 use Rattle.lock_free_owners.proofs.ContainerSet.RecoverCells.{comes_own, comes_next, comes_past}
+use Rattle.lock_free_owners.proofs.ContainerSet.Stays.{stays_then}
 use Rattle.lock_free_owners.proofs.mpmc.container.recovery.pass_over.Goals as goal
 
 pub load_cell-found-requires-clause-at : goal.load_cell-found-requires-clause-at
@@ -43,8 +44,7 @@ cells-preserved g c =
     let inside = c.if-cell-capacity.false in
     let up = so_far.onward in
     record {
-      same = (found.ensures.same.0 ∙ so_far.same.0, found.ensures.same.1 ∙ so_far.same.1, found.ensures.same.2 ∙ so_far.same.2);
-      board = found.ensures.board;
+      stays = stays_then so_far.stays found.ensures.stays;
       within = omega arith;
       onward = omega arith;
       goes = λ base visits began.

@@ -1,13 +1,12 @@
-use Rattle.lock_free_owners.proofs.Names.{◌-◌, ◌<◌, ◌≤◌, coding_by, seen, IsSame}
-use Rattle.lock_free_owners.specs.Container.Turns.{IsBoard}
+use Rattle.lock_free_owners.proofs.Names.{◌-◌, ◌<◌, ◌≤◌, coding_by, seen}
+use Rattle.lock_free_owners.specs.Container.Turns.{StaysAtBoard}
 use Rattle.lock_free_owners.specs.Container.RecoverTurns.{at_cell, RecoverPasses}
 use Rattle.lock_free_owners.proofs.mpmc.container.recovery.pass_over.Given as given
 
 abbrev pub invariant-cells : given.invariant-cells
 invariant-cells g l =
     record {
-      same : IsSame l.fn.seat l.seat;
-      board : IsBoard g.T.Words.WORDS l.seat;
+      stays : StaysAtBoard g.T.Words.WORDS l.fn.seat l.seat;
       within : l.cell < l.fn.capacity;
       onward : l.fn.first ≤ l.cell;
       goes : RecoverPasses (coding_by g.T.Words) l.fn.given

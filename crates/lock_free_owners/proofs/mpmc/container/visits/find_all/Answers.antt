@@ -1,17 +1,17 @@
 -- `find_all` (src/mpmc/container/visits.rt): its call of `pass_others` meets the requirements `within` and `at`, that of `find_next` the
 -- requirements `at` and `asks`, the invariant of its loop holds at the start and after each iteration, each iteration makes the measure
 -- of its loop smaller, and its return meets the clause `searched`.
-use Rattle.lock_free_owners.proofs.Names.{◌<◌, ◌^◌, rules, refl, sym, subst, ◌∙◌, Coding, IsCoding, coding_by}
+use Rattle.lock_free_owners.proofs.Names.{◌<◌, ◌^◌, rules, refl, sym, subst, Coding, IsCoding, coding_by}
 use Rattle.lock_free_owners.proofs.Names.{GoOn, Done, fresh_cell, seen}
 use Rattle.lock_free_owners.proofs.ContainerSet.Finds.{Further, starts, further, may_go, may_pass, passed_on, goes_lower}
+use Rattle.lock_free_owners.proofs.ContainerSet.Stays.{stays_then}
 use Rattle.lock_free_owners.proofs.mpmc.container.visits.find_all.Goals as goal
 use Rattle.lock_free_owners.proofs.mpmc.container.visits.find_all.Given as given
 
 pub loop-next-init : goal.loop-next-init
 loop-next-init g c =
     let code : Coding g.row.T.Denot = coding_by g.T.Words in (
-      (refl, refl, refl),
-      c.requires.board,
+      record { same = (refl, refl, refl); board = c.requires.ready.board },
       starts code (λ p x h a q. given.F-step g p x h a q) c.args.capacity c.args.owner c.args.id
           (seen c.args.seat.now) c.args.visit.now c.new-call.result fresh_cell
           c.new-call.ensures refl c.requires.places c.requires.at,
@@ -24,11 +24,11 @@ pass_others-passed-requires-clause-within g c =
     let law : IsCoding code = record { some = met.some; few = met.few; sized = met.sized; given_back = met.given_back } in
     let small : c.args.capacity < 2 ^ 32 = search rules in
     may_pass code (λ p x h a q. given.F-step g p x h a q) c.args.capacity c.args.owner c.args.id
-    (seen c.args.seat.now) c.args.visit.now law small (sym c.requires.known)
-    (seen c.loop-next.seat) c.loop-next.call c.loop-next.room c.loop-next.visit c.loop-next.invariant.2
+    (seen c.args.seat.now) c.args.visit.now law small (sym c.requires.ready.known)
+    (seen c.loop-next.seat) c.loop-next.call c.loop-next.room c.loop-next.visit c.loop-next.invariant.1
 
 pub pass_others-passed-requires-clause-at : goal.pass_others-passed-requires-clause-at
-pass_others-passed-requires-clause-at g c = (seen c.args.seat.now, c.loop-next.invariant.2.copies, c.loop-next.invariant.2.at)
+pass_others-passed-requires-clause-at g c = (seen c.args.seat.now, c.loop-next.invariant.1.copies, c.loop-next.invariant.1.at)
 
 pub find_next-after-requires-clause-at : goal.find_next-after-requires-clause-at
 find_next-after-requires-clause-at g c =
@@ -39,8 +39,8 @@ find_next-after-requires-clause-at g c =
     let passed = c.pass_others-passed in
     let there =
     passed_on code (λ p x h a q. given.F-step g p x h a q) c.args.capacity c.args.owner c.args.id
-    (seen c.args.seat.now) c.args.visit.now law small (sym c.requires.known)
-    (seen c.loop-next.seat) c.loop-next.call c.loop-next.room c.loop-next.visit c.loop-next.invariant.2
+    (seen c.args.seat.now) c.args.visit.now law small (sym c.requires.ready.known)
+    (seen c.loop-next.seat) c.loop-next.call c.loop-next.room c.loop-next.visit c.loop-next.invariant.1
     (seen passed.new.seat) passed.result passed.ensures.goes (GoOn c.in-GoOn.next) c.in-GoOn.is passed.ensures.passed in
     (seen c.args.seat.now, there.copies, there.at)
 
@@ -53,11 +53,11 @@ find_next-after-requires-clause-asks g c =
     let passed = c.pass_others-passed in
     let there =
     passed_on code (λ p x h a q. given.F-step g p x h a q) c.args.capacity c.args.owner c.args.id
-    (seen c.args.seat.now) c.args.visit.now law small (sym c.requires.known)
-    (seen c.loop-next.seat) c.loop-next.call c.loop-next.room c.loop-next.visit c.loop-next.invariant.2
+    (seen c.args.seat.now) c.args.visit.now law small (sym c.requires.ready.known)
+    (seen c.loop-next.seat) c.loop-next.call c.loop-next.room c.loop-next.visit c.loop-next.invariant.1
     (seen passed.new.seat) passed.result passed.ensures.goes (GoOn c.in-GoOn.next) c.in-GoOn.is passed.ensures.passed in
     may_go code (λ p x h a q. given.F-step g p x h a q) c.args.capacity c.args.owner c.args.id
-    (seen c.args.seat.now) c.args.visit.now law small (sym c.requires.known)
+    (seen c.args.seat.now) c.args.visit.now law small (sym c.requires.ready.known)
     (seen passed.new.seat) c.in-GoOn.next c.loop-next.room c.loop-next.visit there c.requires.visits
 
 pub loop-next-smaller : goal.loop-next-smaller
@@ -79,21 +79,15 @@ loop-next-preserved g c =
     let passed = c.pass_others-passed in
     let there =
     passed_on code (λ p x h a q. given.F-step g p x h a q) c.args.capacity c.args.owner c.args.id
-    (seen c.args.seat.now) c.args.visit.now law small (sym c.requires.known)
-    (seen c.loop-next.seat) c.loop-next.call c.loop-next.room c.loop-next.visit c.loop-next.invariant.2
+    (seen c.args.seat.now) c.args.visit.now law small (sym c.requires.ready.known)
+    (seen c.loop-next.seat) c.loop-next.call c.loop-next.room c.loop-next.visit c.loop-next.invariant.1
     (seen passed.new.seat) passed.result passed.ensures.goes (GoOn c.in-GoOn.next) c.in-GoOn.is passed.ensures.passed in
-    let so_far = c.loop-next.invariant in
     let called = c.find_next-after in (
-      (
-        called.ensures.same.0 ∙ (passed.ensures.same.0 ∙ so_far.0.0),
-        called.ensures.same.1 ∙ (passed.ensures.same.1 ∙ so_far.0.1),
-        called.ensures.same.2 ∙ (passed.ensures.same.2 ∙ so_far.0.2),
-      ),
-      called.ensures.board,
+      stays_then (stays_then c.loop-next.invariant.0 passed.ensures.stays) called.ensures.stays,
       subst (λ a. Further code (λ p x h a q. given.F-step g p x h a q) c.args.capacity c.args.owner c.args.id (seen c.args.seat.now) c.args.visit.now
           (seen called.new.seat) a called.new.room called.new.visit) c.in-GoOn-after.is
           (further code (λ p x h a q. given.F-step g p x h a q) c.args.capacity c.args.owner c.args.id
-          (seen c.args.seat.now) c.args.visit.now law small (sym c.requires.known)
+          (seen c.args.seat.now) c.args.visit.now law small (sym c.requires.ready.known)
           (seen passed.new.seat) c.in-GoOn.next c.loop-next.room c.loop-next.visit there
           (seen called.new.seat) called.result called.new.room called.new.visit called.ensures.turns called.ensures.moves),
     )
@@ -107,14 +101,14 @@ returns-in-Done-after-clause-searched g c =
     let passed = c.pass_others-passed in
     let there =
     passed_on code (λ p x h a q. given.F-step g p x h a q) c.args.capacity c.args.owner c.args.id
-    (seen c.args.seat.now) c.args.visit.now law small (sym c.requires.known)
-    (seen c.loop-next.seat) c.loop-next.call c.loop-next.room c.loop-next.visit c.loop-next.invariant.2
+    (seen c.args.seat.now) c.args.visit.now law small (sym c.requires.ready.known)
+    (seen c.loop-next.seat) c.loop-next.call c.loop-next.room c.loop-next.visit c.loop-next.invariant.1
     (seen passed.new.seat) passed.result passed.ensures.goes (GoOn c.in-GoOn.next) c.in-GoOn.is passed.ensures.passed in
     let called = c.find_next-after in
     subst (λ a. Further code (λ p x h a q. given.F-step g p x h a q) c.args.capacity c.args.owner c.args.id (seen c.args.seat.now) c.args.visit.now
     (seen called.new.seat) a called.new.room called.new.visit) c.in-Done-after.is
     (further code (λ p x h a q. given.F-step g p x h a q) c.args.capacity c.args.owner c.args.id
-    (seen c.args.seat.now) c.args.visit.now law small (sym c.requires.known)
+    (seen c.args.seat.now) c.args.visit.now law small (sym c.requires.ready.known)
     (seen passed.new.seat) c.in-GoOn.next c.loop-next.room c.loop-next.visit there
     (seen called.new.seat) called.result called.new.room called.new.visit called.ensures.turns called.ensures.moves)
 
@@ -126,6 +120,6 @@ returns-in-Done-clause-searched g c =
     let small : c.args.capacity < 2 ^ 32 = search rules in
     let passed = c.pass_others-passed in
     passed_on code (λ p x h a q. given.F-step g p x h a q) c.args.capacity c.args.owner c.args.id
-    (seen c.args.seat.now) c.args.visit.now law small (sym c.requires.known)
-    (seen c.loop-next.seat) c.loop-next.call c.loop-next.room c.loop-next.visit c.loop-next.invariant.2
+    (seen c.args.seat.now) c.args.visit.now law small (sym c.requires.ready.known)
+    (seen c.loop-next.seat) c.loop-next.call c.loop-next.room c.loop-next.visit c.loop-next.invariant.1
     (seen passed.new.seat) passed.result passed.ensures.goes (Done c.in-Done.found) c.in-Done.is passed.ensures.passed

@@ -1,12 +1,12 @@
-use Rattle.lock_free_owners.proofs.Names.{coding_by, seen, IsSame}
+use Rattle.lock_free_owners.proofs.Names.{coding_by, seen}
 use Rattle.steps.specs.Container.Find.{find_left}
-use Rattle.lock_free_owners.specs.Container.Turns.{IsBoard}
+use Rattle.lock_free_owners.specs.Container.Turns.{StaysAtBoard}
 use Rattle.lock_free_owners.proofs.ContainerSet.Finds.{Searching}
 use Rattle.lock_free_owners.proofs.mpmc.container.visits.find_all.Given as given
 
 abbrev pub invariant-loop-next : given.invariant-loop-next
 invariant-loop-next g l =
-    IsSame l.fn.seat l.seat × IsBoard g.T.Words.WORDS l.seat
+    StaysAtBoard g.T.Words.WORDS l.fn.seat l.seat
     × Searching (coding_by g.T.Words)
     (λ p x h a q. given.F-step g p x h a q) l.fn.capacity l.fn.owner l.fn.id (seen l.fn.seat)
     l.fn.visit (seen l.seat) l.call l.room l.visit

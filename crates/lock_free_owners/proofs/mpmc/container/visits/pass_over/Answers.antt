@@ -4,6 +4,7 @@ use Rattle.lock_free_owners.proofs.Names.{◌∙◌, refl, sym, subst, arith, Co
 use Rattle.steps.specs.declared.container.find.Find.{Find}
 use Rattle.lock_free_owners.specs.Container.FindTurns.{FindAt, HasPassed}
 use Rattle.lock_free_owners.proofs.ContainerSet.FindCells.{comes_own, comes_next, comes_past}
+use Rattle.lock_free_owners.proofs.ContainerSet.Stays.{stays_then}
 use Rattle.lock_free_owners.proofs.mpmc.container.visits.pass_over.Goals as goal
 
 pub load_cell-stands-requires-clause-at : goal.load_cell-stands-requires-clause-at
@@ -60,8 +61,7 @@ cells-preserved g c =
     let before = so_far.steps in
     let one = stands.ensures.steps in
     record {
-      same = (stands.ensures.same.0 ∙ so_far.same.0, stands.ensures.same.1 ∙ so_far.same.1, stands.ensures.same.2 ∙ so_far.same.2);
-      board = stands.ensures.board;
+      stays = stays_then so_far.stays stands.ensures.stays;
       within = omega arith;
       onward = omega arith;
       goes = λ base copies began.

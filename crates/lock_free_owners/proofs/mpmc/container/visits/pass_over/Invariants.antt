@@ -1,14 +1,13 @@
-use Rattle.lock_free_owners.proofs.Names.{◌-◌, ◌<◌, ◌≤◌, coding_by, GoOn, seen, IsSame}
+use Rattle.lock_free_owners.proofs.Names.{◌-◌, ◌<◌, ◌≤◌, coding_by, GoOn, seen}
 use Rattle.history.specs.Steps.{TakesAtMost}
 use Rattle.lock_free_owners.specs.Container.FindTurns.{at_cell, FindPasses}
-use Rattle.lock_free_owners.specs.Container.Turns.{IsBoard}
+use Rattle.lock_free_owners.specs.Container.Turns.{StaysAtBoard}
 use Rattle.lock_free_owners.proofs.mpmc.container.visits.pass_over.Given as given
 
 abbrev pub invariant-cells : given.invariant-cells
 invariant-cells g l =
     record {
-      same : IsSame l.fn.seat l.seat;
-      board : IsBoard g.T.Words.WORDS l.seat;
+      stays : StaysAtBoard g.T.Words.WORDS l.fn.seat l.seat;
       within : l.cell < l.fn.capacity;
       onward : l.fn.first ≤ l.cell;
       goes : FindPasses (coding_by g.T.Words) l.fn.owner

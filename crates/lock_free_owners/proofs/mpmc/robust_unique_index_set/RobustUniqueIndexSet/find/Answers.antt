@@ -18,13 +18,13 @@ returns-clause-same g c =
     let on = c.is_locked.ensures.same in
     let same = ap (λ (z : SetId). z.capacity) (on.set ∙ c.requires.pass) in
     let once = on.aside in
-    let looks = c.find_all.ensures.looked.aside in
-    let few = subst (λ n. TakesAtMost n (seen c.is_locked.new.pass.seated) (seen c.find_all.new.seat)) same c.find_all.ensures.steps in
+    let looks = c.find_all.ensures.ends.looked.aside in
+    let few = subst (λ n. TakesAtMost n (seen c.is_locked.new.pass.seated) (seen c.find_all.new.seat)) same c.find_all.ensures.ends.steps in
     record {
       set = search rules;
       goes = looks_after c.args.pass.now.capacity (seen c.args.pass.now.seated) (seen c.is_locked.new.pass.seated) (seen c.find_all.new.seat) on.goes
           (subst (λ n. Looks one_word kinds.Robust n (seen c.is_locked.new.pass.seated) (seen c.find_all.new.seat))
-          (ap (λ (z : SetId). z.capacity) on.set) c.find_all.ensures.looked);
+          (ap (λ (z : SetId). z.capacity) on.set) c.find_all.ensures.ends.looked);
       aside = omega arith;
     }
 
@@ -37,14 +37,14 @@ returns-clause-found g c =
       begins = c.is_locked.ensures.looked.looked;
       looks = only_looked c.args.pass.now.capacity (seen c.is_locked.new.pass.seated) (seen c.find_all.new.seat)
           (subst (λ n. Looks one_word kinds.Robust n (seen c.is_locked.new.pass.seated) (seen c.find_all.new.seat))
-          (ap (λ (z : SetId). z.capacity) c.is_locked.ensures.same.set) c.find_all.ensures.looked);
+          (ap (λ (z : SetId). z.capacity) c.is_locked.ensures.same.set) c.find_all.ensures.ends.looked);
       found = subst (λ n. HasFound (λ p x a q. given.F-step g p x a q) n c.args.owner c.args.visit.now c.find_all.result c.find_all.new.visit
-          (seen c.is_locked.new.pass.seated).seen (seen c.find_all.new.seat).seen) same c.find_all.ensures.found;
+          (seen c.is_locked.new.pass.seated).seen (seen c.find_all.new.seat).seen) same c.find_all.ensures.ends.found;
     }
 
 pub returns-clause-steps : goal.returns-clause-steps
 returns-clause-steps g c =
     let same = ap (λ (z : SetId). z.capacity) (c.is_locked.ensures.same.set ∙ c.requires.pass) in
     let first = c.is_locked.ensures.steps in
-    let rest = subst (λ n. TakesAtMost n (seen c.is_locked.new.pass.seated) (seen c.find_all.new.seat)) same c.find_all.ensures.steps in
+    let rest = subst (λ n. TakesAtMost n (seen c.is_locked.new.pass.seated) (seen c.find_all.new.seat)) same c.find_all.ensures.ends.steps in
     omega arith

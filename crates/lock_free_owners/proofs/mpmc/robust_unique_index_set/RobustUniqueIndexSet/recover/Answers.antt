@@ -1,5 +1,5 @@
--- `RobustUniqueIndexSet::recover` (src/mpmc/robust_unique_index_set/recovers.rt): its call of `recover_all` meets the requirements `at`,
--- `questions` and `freed`, and its return meets the clauses `same`, `recovered` and `steps`.
+-- `RobustUniqueIndexSet::recover` (src/mpmc/robust_unique_index_set/recovers.rt): its call of `recover_all` meets the requirements
+-- `begins`, `questions` and `freed`, and its return meets the clauses `same`, `recovered` and `steps`.
 use Rattle.lock_free_owners.proofs.Names.{[], rules, sym, ap, subst, one_word, seen, SetId}
 use Rattle.lock_free_owners.proofs.Names.{◌∙◌}
 use Rattle.lock_free_owners.proofs.Names.{recover_first}
@@ -11,11 +11,16 @@ use Rattle.lock_free_owners.proofs.Rules.Robust.Recovering.{questions_at, freed_
 use Rattle.lock_free_owners.proofs.mpmc.robust_unique_index_set.RobustUniqueIndexSet.recover.Goals as goal
 use Rattle.lock_free_owners.proofs.mpmc.robust_unique_index_set.RobustUniqueIndexSet.recover.Given as given
 
-pub recover_all-requires-clause-at : goal.recover_all-requires-clause-at
-recover_all-requires-clause-at g c =
+pub recover_all-requires-clause-begins : goal.recover_all-requires-clause-begins
+recover_all-requires-clause-begins g c =
     let mine = c.args.pass.now in
     let v = seen mine.seated in
-    subst (λ n. RecoverAt c.args.mode v v (first_recover n) []) mine.known (recover_first one_word c.args.mode v mine.idle mine.alone mine.some.0)
+    record {
+      board = search rules;
+      known = mine.known;
+      idle = mine.idle;
+      at = subst (λ n. RecoverAt c.args.mode v v (first_recover n) []) mine.known (recover_first one_word c.args.mode v mine.idle mine.alone mine.some.0);
+    }
 
 pub recover_all-requires-clause-questions : goal.recover_all-requires-clause-questions
 recover_all-requires-clause-questions g c free = questions_at (ap (λ (z : SetId). z.capacity) (sym c.requires.pass)) (c.requires.questions free)

@@ -1,8 +1,8 @@
 -- `acquire_all` (src/mpmc/robust_unique_index_set/acquires.rt): its call of `acquire_next` meets the requirement `at`, the invariant of
 -- its loop holds at the start and after each iteration, and its return meets the clause `ends`.
-use Rattle.lock_free_owners.proofs.Names.{◌∙◌, sym, subst, seen}
+use Rattle.lock_free_owners.proofs.Names.{sym, subst, seen}
 use Rattle.lock_free_owners.specs.Robust.Turns.{AcquireAt, AcquireEnds}
-use Rattle.lock_free_owners.proofs.RobustSet.Turns.{gone_on, has_ended}
+use Rattle.lock_free_owners.proofs.RobustSet.Turns.{stays_then, gone_on, has_ended}
 use Rattle.lock_free_owners.proofs.mpmc.robust_unique_index_set.acquires.acquire_all.Goals as goal
 
 pub returns-in-Done-clause-ends : goal.returns-in-Done-clause-ends
@@ -33,11 +33,8 @@ returns-in-Done-cells-clause-ends g c =
 
 pub loop-init : goal.loop-init
 loop-init g c =
-    let base = seen c.args.seat.now in
-    let first = c.step_acquire-first.ensures.same in
-    let cells = c.acquire_next-cells.ensures.same in (
-      (cells.0 ∙ first.0, cells.1 ∙ first.1, cells.2 ∙ first.2),
-      c.acquire_next-cells.ensures.board,
+    let base = seen c.args.seat.now in (
+      stays_then c.step_acquire-first.ensures.stays c.acquire_next-cells.ensures.stays,
       gone_on (AcquireAt c.args.owner) (AcquireEnds c.args.owner) base (seen c.step_acquire-first.new.seat)
           (seen c.acquire_next-cells.new.seat) c.in-GoOn.next c.in-GoOn-cells.next c.acquire_next-cells.result
           c.acquire_next-cells.ensures.goes c.in-GoOn-cells.is
@@ -51,11 +48,10 @@ loop-preserved g c =
     let base = seen c.args.seat.now in
     let so_far = c.loop.invariant in
     let called = c.acquire_next-after in (
-      (called.ensures.same.0 ∙ so_far.0.0, called.ensures.same.1 ∙ so_far.0.1, called.ensures.same.2 ∙ so_far.0.2),
-      called.ensures.board,
+      stays_then so_far.0 called.ensures.stays,
       gone_on (AcquireAt c.args.owner) (AcquireEnds c.args.owner) base (seen c.loop.seat)
           (seen called.new.seat) c.loop.call c.in-GoOn-after.next called.result called.ensures.goes c.in-GoOn-after.is
-          so_far.2,
+          so_far.1,
     )
 
 pub returns-in-Done-after-clause-ends : goal.returns-in-Done-after-clause-ends
@@ -64,4 +60,4 @@ returns-in-Done-after-clause-ends g c =
     let called = c.acquire_next-after in
     has_ended (AcquireAt c.args.owner) (AcquireEnds c.args.owner) base (seen c.loop.seat)
     (seen called.new.seat) c.loop.call c.in-Done-after.end called.result called.ensures.goes c.in-Done-after.is
-    c.loop.invariant.2
+    c.loop.invariant.1

@@ -1,12 +1,12 @@
-use Rattle.lock_free_owners.proofs.Names.{ℕ, ◌-◌, View, seen, IsSame}
+use Rattle.lock_free_owners.proofs.Names.{ℕ, ◌-◌, View, seen}
 use Rattle.steps.specs.declared.indices.robust.acquire.AcquireStage.TheVariants as stages
-use Rattle.lock_free_owners.specs.Robust.Turns.{IsBoard, AcquireAt}
+use Rattle.lock_free_owners.specs.Robust.Turns.{StaysAtBoard, AcquireAt}
 use Rattle.lock_free_owners.proofs.mpmc.robust_unique_index_set.acquires.fill_cells.Given as given
 
 -- whatever the view with which the acquire began
 abbrev pub invariant-cells : given.invariant-cells
 invariant-cells l =
-    IsSame l.fn.seat l.seat × IsBoard l.seat
+    StaysAtBoard l.fn.seat l.seat
     × ((base : View ℕ) → AcquireAt l.fn.owner base (seen l.fn.seat) (record { capacity = l.fn.capacity; stage = stages.FillsCell l.fn.counter l.fn.first }) tt
     → AcquireAt l.fn.owner base (seen l.seat) (record { capacity = l.fn.capacity; stage = stages.FillsCell l.fn.counter l.cell }) tt)
 

@@ -6,7 +6,7 @@ use Rattle.steps.specs.Indices.Robust.Recover.{recover_comes_to}
 use Rattle.steps.specs.declared.indices.robust.recover.Recover.{Recover}
 use Rattle.lock_free_owners.specs.Robust.Recovering.{LedTo}
 use Rattle.lock_free_owners.proofs.RobustSet.Recoveries.{Heard, asks_at, finds_owner, may_ask_about, yes_leads, no_leads}
-use Rattle.lock_free_owners.proofs.RobustSet.Turns.{passes}
+use Rattle.lock_free_owners.proofs.RobustSet.Turns.{passes, stays_then}
 use Rattle.lock_free_owners.proofs.mpmc.robust_unique_index_set.asks.ask_over.Goals as goal
 use Rattle.lock_free_owners.proofs.mpmc.robust_unique_index_set.asks.ask_over.Given as given
 
@@ -88,8 +88,7 @@ cells-preserved g c =
     let inside = c.if-cell-capacity.false in
     let after = c.passed_next-cell.ensures.after (omega arith) in
     record {
-      same = (found.ensures.same.0 ∙ so_far.same.0, found.ensures.same.1 ∙ so_far.same.1, found.ensures.same.2 ∙ so_far.same.2);
-      board = found.ensures.board;
+      stays = stays_then so_far.stays found.ensures.stays;
       within = omega arith;
       goes = λ base f s q idle began. let so = so_far.goes base f s q idle began in
           let no =

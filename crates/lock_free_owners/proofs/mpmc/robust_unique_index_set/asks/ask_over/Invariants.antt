@@ -1,6 +1,6 @@
-use Rattle.lock_free_owners.proofs.Names.{◌≡◌, ◌-◌, ℕ, ◌<◌, None, View, seen, IsSame}
+use Rattle.lock_free_owners.proofs.Names.{◌≡◌, ◌-◌, ℕ, ◌<◌, None, View, seen}
 use Rattle.lock_free_owners.specs.Robust.Recovering.{StandsSo}
-use Rattle.lock_free_owners.specs.Robust.Turns.{IsBoard}
+use Rattle.lock_free_owners.specs.Robust.Turns.{StaysAtBoard}
 use Rattle.lock_free_owners.proofs.RobustSet.Turns.{passes}
 use Rattle.lock_free_owners.proofs.mpmc.robust_unique_index_set.asks.ask_over.Given as given
 
@@ -8,8 +8,7 @@ use Rattle.lock_free_owners.proofs.mpmc.robust_unique_index_set.asks.ask_over.Gi
 abbrev pub invariant-cells : given.invariant-cells
 invariant-cells g l =
     record {
-      same : IsSame l.fn.seat l.seat;
-      board : IsBoard l.seat;
+      stays : StaysAtBoard l.fn.seat l.seat;
       within : l.cell < l.fn.capacity;
       goes : (base : View ℕ) (f : g.row.F.Denot) (s q : g.row.S.Denot) → base.going ≡ None
           → StandsSo (λ p o i b r. given.F-step g p o i b r) (λ x o i t. given.S-step g x o i tt t) base.capacity l.fn.mode base f s

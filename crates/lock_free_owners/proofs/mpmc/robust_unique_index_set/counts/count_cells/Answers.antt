@@ -3,11 +3,11 @@
 use Rattle.lock_free_owners.proofs.Names.{◌∙◌, sym, subst, seen}
 use Rattle.steps.specs.declared.indices.robust.looks.BorrowedIndices.{BorrowedIndices}
 use Rattle.lock_free_owners.specs.Robust.Turns.{CountAt, CountEnds}
-use Rattle.lock_free_owners.proofs.RobustSet.Turns.{gone_on, has_ended, loads_next, loads}
+use Rattle.lock_free_owners.proofs.RobustSet.Turns.{stays_then, gone_on, has_ended, loads_next, loads}
 use Rattle.lock_free_owners.proofs.mpmc.robust_unique_index_set.counts.count_cells.Goals as goal
 
 pub step_count-requires : goal.step_count-requires
-step_count-requires c = record { board = c.cells.invariant.1; at = (c.requires.at.0, c.cells.invariant.2 c.requires.at.0 c.requires.at.1) }
+step_count-requires c = record { board = c.cells.invariant.0.board; at = (c.requires.at.0, c.cells.invariant.1 c.requires.at.0 c.requires.at.1) }
 
 pub cells-preserved : goal.cells-preserved
 cells-preserved c =
@@ -17,11 +17,10 @@ cells-preserved c =
     let next = loads_next c.args.capacity c.args.counter c.cells.cell c.cells.found called.ensures.after.0 _ c.in-LoadsCell.index c.in-LoadsCell.filled
     c.in-GoOn.next
     (sym called.ensures.after.1 ∙ c.in-GoOn.is) c.in-LoadsCell.is in (
-      (called.ensures.same.0 ∙ so_far.0.0, called.ensures.same.1 ∙ so_far.0.1, called.ensures.same.2 ∙ so_far.0.2),
-      called.ensures.board,
+      stays_then so_far.0 called.ensures.stays,
       λ base at. subst (λ (d : BorrowedIndices). CountAt base (seen called.new.seat) d tt) next.0
           (gone_on CountAt CountEnds base (seen c.cells.seat) (seen called.new.seat) here c.in-GoOn.next called.result called.ensures.goes
-          c.in-GoOn.is (so_far.2 base at)),
+          c.in-GoOn.is (so_far.1 base at)),
     )
 
 pub returns-in_default-clause-goes : goal.returns-in_default-clause-goes
@@ -29,11 +28,11 @@ returns-in_default-clause-goes c base at =
     let called = c.step_count in
     gone_on CountAt CountEnds base (seen c.cells.seat) (seen called.new.seat)
     (loads c.args.capacity c.args.counter c.cells.cell c.cells.found c.cells.cell c.cells.found) c.in-GoOn.next called.result called.ensures.goes
-    c.in-GoOn.is (c.cells.invariant.2 base at)
+    c.in-GoOn.is (c.cells.invariant.1 base at)
 
 pub returns-in-Done-clause-goes : goal.returns-in-Done-clause-goes
 returns-in-Done-clause-goes c base at =
     let called = c.step_count in
     has_ended CountAt CountEnds base (seen c.cells.seat) (seen called.new.seat)
     (loads c.args.capacity c.args.counter c.cells.cell c.cells.found c.cells.cell c.cells.found) c.in-Done.end called.result called.ensures.goes
-    c.in-Done.is (c.cells.invariant.2 base at)
+    c.in-Done.is (c.cells.invariant.1 base at)

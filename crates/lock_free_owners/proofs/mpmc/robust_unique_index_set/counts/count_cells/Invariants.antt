@@ -1,12 +1,12 @@
-use Rattle.lock_free_owners.proofs.Names.{ℕ, ◌-◌, View, seen, IsSame}
+use Rattle.lock_free_owners.proofs.Names.{ℕ, ◌-◌, View, seen}
 use Rattle.steps.specs.declared.indices.robust.parts.Count.TheVariants as stages
-use Rattle.lock_free_owners.specs.Robust.Turns.{IsBoard, CountAt}
+use Rattle.lock_free_owners.specs.Robust.Turns.{StaysAtBoard, CountAt}
 use Rattle.lock_free_owners.proofs.mpmc.robust_unique_index_set.counts.count_cells.Given as given
 
 -- whatever the view with which the count began
 abbrev pub invariant-cells : given.invariant-cells
 invariant-cells l =
-    IsSame l.fn.seat l.seat × IsBoard l.seat
+    StaysAtBoard l.fn.seat l.seat
     × ((base : View ℕ) → CountAt base (seen l.fn.seat) (record { capacity = l.fn.capacity; count = stages.LoadsCell l.fn.counter l.fn.first l.fn.filled }) tt
     → CountAt base (seen l.seat) (record { capacity = l.fn.capacity; count = stages.LoadsCell l.fn.counter l.cell l.found }) tt)
 

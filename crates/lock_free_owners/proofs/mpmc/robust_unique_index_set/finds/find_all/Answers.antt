@@ -1,24 +1,27 @@
--- `find_all` (src/mpmc/robust_unique_index_set/finds.rt): its call of `find_next` meets the requirement `asks`, the invariant of its
--- loop holds at the start and after each iteration, each iteration makes the measure of its loop smaller, and its return meets the
--- clauses `looked`, `found` and `steps`.
-use Rattle.lock_free_owners.proofs.Names.{refl, ◌∙◌, subst, seen}
+-- `find_all` (src/mpmc/robust_unique_index_set/finds.rt): its call of `find_next` meets the requirement `may_turn`, the invariant of
+-- its loop holds at the start and after each iteration, each iteration makes the measure of its loop smaller, and its return meets the
+-- clause `ends`.
+use Rattle.lock_free_owners.proofs.Names.{refl, subst, seen}
 use Rattle.lock_free_owners.specs.Robust.Finding.{GoesDown, Onward}
 use Rattle.lock_free_owners.proofs.RobustSet.Finding.{starts, may_go}
+use Rattle.lock_free_owners.proofs.RobustSet.Turns.{stays_then}
 use Rattle.lock_free_owners.proofs.mpmc.robust_unique_index_set.finds.find_all.Goals as goal
 use Rattle.lock_free_owners.proofs.mpmc.robust_unique_index_set.finds.find_all.Given as given
 
 pub loop-next-init : goal.loop-next-init
 loop-next-init g c = (
-  (refl, refl, refl),
-  c.requires.board,
+  record { same = (refl, refl, refl); board = c.requires.ready.board },
   starts (λ p x a q. given.F-step g p x a q) c.args.capacity c.args.owner (seen c.args.seat.now) c.args.visit.now c.new-call.result c.new-call.ensures
-      c.requires.known c.requires.some c.requires.any,
+      c.requires.ready.known c.requires.ready.may_step c.requires.places,
 )
 
-pub find_next-requires-clause-asks : goal.find_next-requires-clause-asks
-find_next-requires-clause-asks g c =
-    may_go (λ p x a q. given.F-step g p x a q) c.args.capacity c.args.owner (seen c.args.seat.now) c.args.visit.now (seen c.loop-next.seat) c.loop-next.call
-    c.loop-next.visit c.requires.asks c.loop-next.invariant.2
+pub find_next-requires-clause-may_turn : goal.find_next-requires-clause-may_turn
+find_next-requires-clause-may_turn g c =
+    record {
+      standing = c.loop-next.invariant.1.standing;
+      asks = may_go (λ p x a q. given.F-step g p x a q) c.args.capacity c.args.owner (seen c.args.seat.now) c.args.visit.now (seen c.loop-next.seat)
+          c.loop-next.call c.loop-next.visit c.requires.asks c.loop-next.invariant.1;
+    }
 
 pub loop-next-smaller : goal.loop-next-smaller
 loop-next-smaller g c = subst (GoesDown c.args.capacity _) c.in-GoOn.is c.find_next.ensures.less
@@ -27,26 +30,13 @@ pub loop-next-preserved : goal.loop-next-preserved
 loop-next-preserved g c =
     let so_far = c.loop-next.invariant in
     let called = c.find_next in (
-      (called.ensures.same.0 ∙ so_far.0.0, called.ensures.same.1 ∙ so_far.0.1, called.ensures.same.2 ∙ so_far.0.2),
-      called.ensures.board,
+      stays_then so_far.0 called.ensures.stays,
       subst (λ a. Onward (λ p x a q. given.F-step g p x a q) c.args.capacity c.args.owner (seen c.args.seat.now) c.args.visit.now a (seen called.new.seat)
-          called.new.visit) c.in-GoOn.is (called.ensures.goes (seen c.args.seat.now) c.args.visit.now so_far.2),
+          called.new.visit) c.in-GoOn.is (called.ensures.goes (seen c.args.seat.now) c.args.visit.now so_far.1),
     )
 
-pub returns-in-Done-clause-looked : goal.returns-in-Done-clause-looked
-returns-in-Done-clause-looked g c =
+pub returns-in-Done-clause-ends : goal.returns-in-Done-clause-ends
+returns-in-Done-clause-ends g c =
     let called = c.find_next in
-    (subst (λ a. Onward (λ p x a q. given.F-step g p x a q) c.args.capacity c.args.owner (seen c.args.seat.now) c.args.visit.now a (seen called.new.seat)
-    called.new.visit) c.in-Done.is (called.ensures.goes (seen c.args.seat.now) c.args.visit.now c.loop-next.invariant.2)).0
-
-pub returns-in-Done-clause-found : goal.returns-in-Done-clause-found
-returns-in-Done-clause-found g c =
-    let called = c.find_next in
-    (subst (λ a. Onward (λ p x a q. given.F-step g p x a q) c.args.capacity c.args.owner (seen c.args.seat.now) c.args.visit.now a (seen called.new.seat)
-    called.new.visit) c.in-Done.is (called.ensures.goes (seen c.args.seat.now) c.args.visit.now c.loop-next.invariant.2)).1
-
-pub returns-in-Done-clause-steps : goal.returns-in-Done-clause-steps
-returns-in-Done-clause-steps g c =
-    let called = c.find_next in
-    (subst (λ a. Onward (λ p x a q. given.F-step g p x a q) c.args.capacity c.args.owner (seen c.args.seat.now) c.args.visit.now a (seen called.new.seat)
-    called.new.visit) c.in-Done.is (called.ensures.goes (seen c.args.seat.now) c.args.visit.now c.loop-next.invariant.2)).2
+    subst (λ a. Onward (λ p x a q. given.F-step g p x a q) c.args.capacity c.args.owner (seen c.args.seat.now) c.args.visit.now a (seen called.new.seat)
+    called.new.visit) c.in-Done.is (called.ensures.goes (seen c.args.seat.now) c.args.visit.now c.loop-next.invariant.1)

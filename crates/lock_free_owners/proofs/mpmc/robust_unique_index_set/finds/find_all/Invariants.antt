@@ -1,12 +1,12 @@
-use Rattle.lock_free_owners.proofs.Names.{seen, IsSame}
+use Rattle.lock_free_owners.proofs.Names.{seen}
 use Rattle.steps.specs.Indices.Robust.Find.{find_left}
 use Rattle.lock_free_owners.specs.Robust.Finding.{Searching}
-use Rattle.lock_free_owners.specs.Robust.Turns.{IsBoard}
+use Rattle.lock_free_owners.specs.Robust.Turns.{StaysAtBoard}
 use Rattle.lock_free_owners.proofs.mpmc.robust_unique_index_set.finds.find_all.Given as given
 
 abbrev pub invariant-loop-next : given.invariant-loop-next
 invariant-loop-next g l =
-    IsSame l.fn.seat l.seat × IsBoard l.seat
+    StaysAtBoard l.fn.seat l.seat
     × Searching (λ p x a q. given.F-step g p x a q) l.fn.capacity l.fn.owner (seen l.fn.seat) l.fn.visit (seen l.seat) l.call l.visit
 
 abbrev pub decreases-loop-next : given.decreases-loop-next

@@ -12,8 +12,9 @@ use Rattle.lock_free_owners.proofs.mpmc.robust_unique_index_set.finds.find_next.
 
 pub returns-in-LoadsCell-clause-goes : goal.returns-in-LoadsCell-clause-goes
 returns-in-LoadsCell-clause-goes g c base f began =
-    let is : c.args.call ≡ record { capacity = c.args.capacity; stage = _ } = λ i. record { capacity = c.requires.call i; stage = c.in-LoadsCell.is i } in
-    c.pass_over.ensures.goes base f c.args.visit.now
+    let stands = c.requires.may_turn.standing in
+    let is : c.args.call ≡ record { capacity = c.args.capacity; stage = _ } = λ i. record { capacity = stands i; stage = c.in-LoadsCell.is i } in
+    c.pass_over.ensures.goes c.args.visit.now base f
     (subst (λ (d : Find). Searching (λ q x a r. given.F-step g q x a r) c.args.capacity c.args.owner base f (seen c.args.seat.now) d c.args.visit.now) is began)
 
 pub returns-in-Asks-clause-goes : goal.returns-in-Asks-clause-goes

@@ -21,7 +21,7 @@ look-requires-clause-owes c =
     let slots = (table_of s).slots in
     let id = s.seat.id in
     let below : word < words =
-    (let wide = c.requires.board.0 in let cell = c.requires.within in let known = c.requires.known in omega arith) in
-    let owed : Owed v.capacity words slots id word v [] = owes_word v.capacity words slots id word v below c.requires.some in
+    (let wide = c.requires.ready.board.0 in let cell = c.requires.within in let known = c.requires.ready.known in omega arith) in
+    let owed : Owed v.capacity words slots id word v [] = owes_word v.capacity words slots id word v below c.requires.ready.may_step in
     subst (λ (xs : List (ℕ × Unit {0})). Owed (key_of s) words slots id word v xs) (sym s.bare)
-    (subst (λ k. Owed k words slots id word v []) (sym c.requires.board.1) owed)
+    (subst (λ k. Owed k words slots id word v []) (sym c.requires.ready.board.1) owed)

@@ -7,6 +7,7 @@ use Rattle.steps.specs.declared.indices.robust.find.Find.{Find}
 use Rattle.steps.specs.declared.indices.robust.find.FindStage.TheVariants as stages
 use Rattle.lock_free_owners.specs.Robust.Finding.{GoesDown, Onward}
 use Rattle.lock_free_owners.proofs.RobustSet.Finding.{at_cell, load_down, loaded}
+use Rattle.lock_free_owners.proofs.RobustSet.Turns.{stays_then}
 use Rattle.lock_free_owners.proofs.mpmc.robust_unique_index_set.finds.pass_over.Goals as goal
 use Rattle.lock_free_owners.proofs.mpmc.robust_unique_index_set.finds.pass_over.Given as given
 
@@ -19,13 +20,13 @@ returns-then-stands-value-clause-less g c =
     (load_down here c.args.capacity refl c.args.first c.args.so_many c.cells.cell c.args.so_many c.args.owner c.look_at-stands.result so_far.past so_far.inside)
 
 pub returns-then-stands-value-clause-goes : goal.returns-then-stands-value-clause-goes
-returns-then-stands-value-clause-goes g c base f p began =
+returns-then-stands-value-clause-goes g c p base f began =
     let small : c.args.capacity < 2 ^ 32 = search rules in
     let fits : c.args.owner < empty = search rules in
     let here = at_cell c.args.capacity c.args.so_many c.cells.cell in
     let look = c.look_at-stands in
     let so_far = c.cells.invariant in
-    let searching = so_far.searching base f p began in
+    let searching = so_far.searching p base f began in
     let taken = c.take.ensures.goes ∙ ap (λ (d : Find). find_after d c.args.owner look.result) c.at_cell-here.ensures in
     subst (λ (a : After Find ℕ). Onward (λ q x a r. given.F-step g q x a r) c.args.capacity c.args.owner base f a (seen look.new.seat) p) (sym taken)
     (loaded (λ q x a r. given.F-step g q x a r) c.args.capacity c.args.owner base f small fits (seen c.cells.seat) (seen look.new.seat) here p searching
@@ -46,7 +47,7 @@ returns-then-cell-capacity-clause-less g c =
     (load_down here c.args.capacity refl c.args.first c.args.so_many c.cells.cell c.args.so_many c.args.owner look.result so_far.past so_far.inside)
 
 pub returns-then-cell-capacity-clause-goes : goal.returns-then-cell-capacity-clause-goes
-returns-then-cell-capacity-clause-goes g c base f p began =
+returns-then-cell-capacity-clause-goes g c p base f began =
     let small : c.args.capacity < 2 ^ 32 = search rules in
     let fits : c.args.owner < empty = search rules in
     let look = c.look_at-stands in
@@ -56,7 +57,7 @@ returns-then-cell-capacity-clause-goes g c base f p began =
     let past = c.if-cell-capacity.true in
     let last : c.args.capacity - 1 ≡ c.cells.cell = omega arith in
     let here = at_cell c.args.capacity c.args.so_many c.cells.cell in
-    let searching = so_far.searching base f p began in
+    let searching = so_far.searching p base f began in
     let taken = c.take-then-cell-capacity.ensures.goes
     ∙ ap (λ (d : Find). find_after d c.args.owner look.result) (c.at_cell-last.ensures ∙ ap (at_cell c.args.capacity c.args.so_many) last) in
     subst (λ (a : After Find ℕ). Onward (λ q x a r. given.F-step g q x a r) c.args.capacity c.args.owner base f a (seen look.new.seat) p) (sym taken)
@@ -78,14 +79,16 @@ cells-preserved g c =
     c.next_cell-cell.ensures.after (omega arith) c.args.so_many c.args.owner look.result
     (λ e. c.if-stands-value.false (e ∙ sym c.value.ensures.number)) in
     record {
-      same = (look.ensures.same.0 ∙ so_far.same.0, look.ensures.same.1 ∙ so_far.same.1, look.ensures.same.2 ∙ so_far.same.2);
-      board = look.ensures.board;
-      searching = λ base f p began. let searching = so_far.searching base f p began in
+      stays = stays_then so_far.stays look.ensures.stays;
+      ready = record {
+        board = look.ensures.stays.board;
+        known = look.ensures.looks.looks.capacity ∙ so_far.ready.known;
+        may_step = subst (λ s. 0 < s.part) (sym look.ensures.looks.looks.share) so_far.ready.may_step;
+      };
+      searching = λ p base f began. let searching = so_far.searching p base f began in
           subst (λ (a : After Find ℕ). Onward (λ q x a r. given.F-step g q x a r) c.args.capacity c.args.owner base f a (seen look.new.seat) p) after
           (loaded (λ q x a r. given.F-step g q x a r) c.args.capacity c.args.owner base f small fits (seen c.cells.seat) (seen look.new.seat) here p searching
           c.cells.cell c.args.so_many look.result searching.so_far look.ensures.looks searching.steps look.ensures.counted);
-      some = subst (λ s. 0 < s.part) (sym look.ensures.looks.looks.share) so_far.some;
-      capacity = look.ensures.looks.looks.capacity ∙ so_far.capacity;
       past = omega arith;
       inside = omega arith;
     }

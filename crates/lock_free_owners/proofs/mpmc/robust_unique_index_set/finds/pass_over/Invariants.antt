@@ -1,22 +1,18 @@
-use Rattle.lock_free_owners.proofs.Names.{◌≡◌, ◌-◌, ℕ, ◌≤◌, ◌<◌, View, seen, IsSame}
+use Rattle.lock_free_owners.proofs.Names.{◌-◌, ◌≤◌, ◌<◌, GoOn, seen}
 use Rattle.steps.specs.declared.indices.robust.find.FindStage.TheVariants as stages
-use Rattle.lock_free_owners.specs.Robust.Finding.{Searching}
-use Rattle.lock_free_owners.specs.Robust.Turns.{IsBoard}
+use Rattle.lock_free_owners.specs.Robust.Finding.{KeepsSearching}
+use Rattle.lock_free_owners.specs.Robust.Turns.{IsReady, StaysAtBoard}
 use Rattle.lock_free_owners.proofs.mpmc.robust_unique_index_set.finds.pass_over.Given as given
 
 -- whatever the view with which the find began, and what its closure has come to
 abbrev pub invariant-cells : given.invariant-cells
 invariant-cells g l =
     record {
-      same : IsSame l.fn.seat l.seat;
-      board : IsBoard l.seat;
-      searching : (base : View ℕ) (f p : g.row.F.Denot)
-          → Searching (λ q x a r. given.F-step g q x a r) l.fn.capacity l.fn.owner base f (seen l.fn.seat)
+      stays : StaysAtBoard l.fn.seat l.seat;
+      ready : IsReady l.fn.capacity l.seat;
+      searching : (p : g.row.F.Denot) → KeepsSearching (λ q x a r. given.F-step g q x a r) l.fn.capacity l.fn.owner (seen l.fn.seat)
           (record { capacity = l.fn.capacity; stage = stages.LoadsCell l.fn.first l.fn.so_many }) p
-          → Searching (λ q x a r. given.F-step g q x a r) l.fn.capacity l.fn.owner base f (seen l.seat)
-          (record { capacity = l.fn.capacity; stage = stages.LoadsCell l.cell l.fn.so_many }) p;
-      some : 0 < (seen l.seat).share.part;
-      capacity : (seen l.seat).capacity ≡ l.fn.capacity;
+          (GoOn (record { capacity = l.fn.capacity; stage = stages.LoadsCell l.cell l.fn.so_many })) (seen l.seat) p;
       past : l.fn.first ≤ l.cell;
       inside : l.cell < l.fn.capacity;
     }

@@ -7,6 +7,7 @@ use Rattle.lock_free_queues.specs.Queues.Roles.{LacksRole}
 use Rattle.lock_free_queues.proofs.Queues.Kinds.{opens_bare}
 use Rattle.lock_free_queues.proofs.spsc.ring.Ring.of_words.Goals as goal
 
+-- the words, with the view of the first pass, are the machine of the queue
 pub open-requires : goal.open-requires
 open-requires g c =
     let code : Coding g.row.T.Denot = coding_by g.T.Words in
@@ -14,6 +15,7 @@ open-requires g c =
     subst (λ ws. IsMachine code (machine_kind kind) c.args.capacity (opening ws [] (opened_by code kind c.args.capacity c.args.position)))
     (sym c.as_slice.ensures.value) c.requires.opens
 
+-- the first pass has neither role
 pub invariant_of-result : goal.invariant_of-result
 invariant_of-result g c =
     let code : Coding g.row.T.Denot = coding_by g.T.Words in

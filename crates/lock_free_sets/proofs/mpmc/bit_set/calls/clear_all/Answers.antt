@@ -14,6 +14,7 @@ step-after-requires-clause-rule g c = keeps Flags
 pub step-after-requires-clause-at : goal.step-after-requires-clause-at
 step-after-requires-clause-at g c = (seen c.args.seated.now, c.loop-next.invariant.2.call.at)
 
+-- the closure may be called with each of the 64 places whose flag was found
 pub visit_word-requires-clause-visits : goal.visit_word-requires-clause-visits
 visit_word-requires-clause-visits g c n now few stood visited =
     may_visit (λ p x q. given.F-step g p x tt q) c.args.capacity c.args.visit.now (seen c.args.seated.now)
@@ -22,6 +23,7 @@ visit_word-requires-clause-visits g c n now few stood visited =
     c.step-after.ensures.taken.2 c.step-after.result (sym c.step-after.ensures.taken.1)
     c.step-after.ensures.told c.requires.visits n now few stood visited
 
+-- as the loop begins nothing is cleared, and the closure was not called
 pub loop-next-init : goal.loop-next-init
 loop-next-init g c =
     let start = first_so_far (λ p x q. given.F-step g p x tt q) c.args.capacity c.args.visit.now (seen c.args.seated.now) c.requires.idle c.requires.places in (
@@ -32,6 +34,7 @@ loop-next-init g c =
           (sym c.bits-call.ensures) start,
     )
 
+-- after each step that goes on, the closure was called with what the call has cleared
 pub loop-next-preserved : goal.loop-next-preserved
 loop-next-preserved g c = (
   (
@@ -47,6 +50,7 @@ loop-next-preserved g c = (
       c.visit_word.new.visit c.visit_word.ensures c.in-GoOn.next c.in-GoOn.is,
 )
 
+-- the pass is as each whole call on a set leaves it
 pub returns-in-Done-clause-done : goal.returns-in-Done-clause-done
 returns-in-Done-clause-done g c =
     (cleared_all (λ p x q. given.F-step g p x tt q) c.args.capacity c.args.visit.now (seen c.args.seated.now)
@@ -55,6 +59,7 @@ returns-in-Done-clause-done g c =
     c.step-after.ensures.taken.2 c.step-after.result (sym c.step-after.ensures.taken.1) c.step-after.ensures.told
     c.visit_word.new.visit c.visit_word.ensures c.in-Done.is).1
 
+-- the call cleared just the places that the closure was called with
 pub returns-in-Done-clause-cleared : goal.returns-in-Done-clause-cleared
 returns-in-Done-clause-cleared g c =
     (cleared_all (λ p x q. given.F-step g p x tt q) c.args.capacity c.args.visit.now (seen c.args.seated.now)
@@ -63,6 +68,7 @@ returns-in-Done-clause-cleared g c =
     c.step-after.ensures.taken.2 c.step-after.result (sym c.step-after.ensures.taken.1) c.step-after.ensures.told
     c.visit_word.new.visit c.visit_word.ensures c.in-Done.is).0
 
+-- the call takes one step for each word of flags at most
 pub returns-in-Done-clause-steps : goal.returns-in-Done-clause-steps
 returns-in-Done-clause-steps g c =
     cleared_steps (λ p x q. given.F-step g p x tt q) c.args.capacity c.args.visit.now (seen c.args.seated.now)

@@ -12,6 +12,8 @@ pub call_where-requires : goal.call_where-requires
 call_where-requires g c stood =
     c.requires.visits c.loop-bit.bit c.loop-bit.visit c.loop-bit-test.true (sym c.has_flag.ensures ∙ stood) c.loop-bit.invariant.0
 
+-- after one place more the closure was called with those up to it whose flag was found, and the
+-- flags that are left are those of the places behind
 pub loop-bit-preserved : goal.loop-bit-preserved
 loop-bit-preserved g c = (
   visited_more (λ p x q. given.F-step g p x tt q) c.args.found c.args.first c.loop-bit.bit c.args.visit.now
@@ -28,6 +30,7 @@ returns g c =
     let end : c.loop-bit.bit ≡ 64 = search rules in
     subst (λ n. Visited (λ p x q. given.F-step g p x tt q) c.args.found c.args.first c.args.visit.now n c.loop-bit.visit) end c.loop-bit.invariant.0
 
+-- where no flag is left, the closure was called with all of the 64 places whose flag was found
 pub returns-then-left-eq0 : goal.returns-then-left-eq0
 returns-then-left-eq0 g c =
     let few = c.loop-bit-test.true in

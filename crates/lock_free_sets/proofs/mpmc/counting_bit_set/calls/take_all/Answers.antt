@@ -14,6 +14,8 @@ step-after-requires-clause-rule g c = keeps Counts
 pub step-after-requires-clause-at : goal.step-after-requires-clause-at
 step-after-requires-clause-at g c = (seen c.args.seated.now, c.loop-next.invariant.2.call.at)
 
+-- the closure may be called with the place and the count that the step took out, if this is above
+-- 0
 pub call_where-requires : goal.call_where-requires
 call_where-requires g c some small =
     let h = c.loop-next.invariant.2 in
@@ -25,6 +27,7 @@ call_where-requires g c some small =
     c.step-after.result (sym c.step-after.ensures.taken.1) c.step-after.ensures.told)
     some small
 
+-- after each step that goes on, the closure was called with what the call has taken out
 pub loop-next-preserved : goal.loop-next-preserved
 loop-next-preserved g c = (
   (
@@ -40,6 +43,7 @@ loop-next-preserved g c = (
       c.call_where.ensures.small c.call_where.new.visit c.call_where.ensures.called c.call_where.ensures.passed c.in-GoOn.next c.in-GoOn.is,
 )
 
+-- as the loop begins nothing is taken out, and the closure was not called
 pub loop-next-init : goal.loop-next-init
 loop-next-init g c =
     let start = first_so_far (λ p x q. given.F-step g p x tt q) c.args.capacity c.args.visit.now (seen c.args.seated.now) c.requires.idle c.requires.places in (
@@ -50,6 +54,7 @@ loop-next-init g c =
           (sym c.counts-call.ensures) start,
     )
 
+-- the pass is as each whole call on a set leaves it
 pub returns-in-Done-clause-done : goal.returns-in-Done-clause-done
 returns-in-Done-clause-done g c =
     (taken_all (λ p x q. given.F-step g p x tt q) c.args.capacity c.args.visit.now (seen c.args.seated.now)
@@ -58,6 +63,7 @@ returns-in-Done-clause-done g c =
     c.step-after.result (sym c.step-after.ensures.taken.1) c.step-after.ensures.told
     c.call_where.ensures.small c.call_where.new.visit c.call_where.ensures.called c.call_where.ensures.passed c.in-Done.is).1
 
+-- the call took out just the counts that the closure was called with
 pub returns-in-Done-clause-taken : goal.returns-in-Done-clause-taken
 returns-in-Done-clause-taken g c =
     (taken_all (λ p x q. given.F-step g p x tt q) c.args.capacity c.args.visit.now (seen c.args.seated.now)
@@ -66,6 +72,7 @@ returns-in-Done-clause-taken g c =
     c.step-after.result (sym c.step-after.ensures.taken.1) c.step-after.ensures.told
     c.call_where.ensures.small c.call_where.new.visit c.call_where.ensures.called c.call_where.ensures.passed c.in-Done.is).0
 
+-- the call takes one step for each place at most
 pub returns-in-Done-clause-steps : goal.returns-in-Done-clause-steps
 returns-in-Done-clause-steps g c =
     taken_steps (λ p x q. given.F-step g p x tt q) c.args.capacity c.args.visit.now (seen c.args.seated.now)

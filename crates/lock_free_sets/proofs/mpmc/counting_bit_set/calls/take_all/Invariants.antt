@@ -1,3 +1,4 @@
+-- The closure was called with what the call has taken out so far.
 use Rattle.lock_free_sets.proofs.Names.{◌≡◌, ◌-◌, seen}
 use Rattle.threaded.specs.Seats.{IsSame}
 use Rattle.lock_free_sets.proofs.Counts.Taken.{SoFar}

@@ -17,6 +17,7 @@ Owed kind key words slots id me =
     OwesAsk (λ (z : View ℕ). z.asked) (IsMachine one_word (machine_kind kind) key) words slots id
     (λ u n w. Ends one_word (machine_kind kind) (empties_none kind) u tt (record { 0 = 0 }) w) 0 Load me
 
+-- the call that empties a set of no place is one load, which keeps the rule of the table
 pub look-requires-clause-owes : goal.look-requires-clause-owes
 look-requires-clause-owes g c =
     let kind = g.E.Kind.KIND in

@@ -18,6 +18,7 @@ join-requires-clause-joins c =
     joins one_word kinds.Indices _ mine.seated.seat.id c.args.other.seated.seat.id mine.seated.seat.me.0
     c.args.other.seated.seat.me.0 mine.some.0 c.args.other.some.0 c.args.other.idle mine.alone c.args.other.alone
 
+-- the load after both are joined keeps the rule of the table, and tells what a look tells
 pub look-requires-clause-owes : goal.look-requires-clause-owes
 look-requires-clause-owes c =
     let mine = c.args.self.now in
@@ -35,6 +36,7 @@ look-requires-clause-owes c =
 pub invariant_of-self-clause-sound : goal.invariant_of-self-clause-sound
 invariant_of-self-clause-sound c = sound _ c.look.new.self.seat.me.0 c.look.ensures.told.0.capacity c.look.ensures.told.0.history c.look.ensures.told.0.parties
 
+-- no index was held by both passes
 pub returns-clause-apart : goal.returns-clause-apart
 returns-clause-apart c i mine theirs =
     let v = c.args.self.now.seated.seat.me.0 in
@@ -45,6 +47,7 @@ returns-clause-apart c i mine theirs =
     subst (λ (z : View ℕ). Looks one_word kinds.Indices z.capacity z w) is c.look.ensures.told.0 in
     apart v other w i looks mine theirs
 
+-- the pass has what both had: what they saw, what they made, their shares and their runs
 pub returns-clause-same : goal.returns-clause-same
 returns-clause-same c =
     let mine = c.args.self.now in
@@ -71,6 +74,7 @@ returns-clause-same c =
       all = λ whole. looks.all (subst IsAll looks.share whole);
     }
 
+-- each call that was begun with either pass has ended
 pub invariant_of-self-clause-done : goal.invariant_of-self-clause-done
 invariant_of-self-clause-done c =
     let v = c.args.self.now.seated.seat.me.0 in
@@ -79,6 +83,7 @@ invariant_of-self-clause-done c =
     let made : c.look.new.self.seat.me.0.made ≡ v.made ++ other.made = c.look.ensures.told.0.made ∙ ap (λ (z : View ℕ). z.made) is in
     subst IsDone (sym made) (joined_done v.made other.made c.args.self.now.done c.args.other.done)
 
+-- the pass knows the run that both knew, as far as it goes now
 pub invariant_of-self-clause-knows : goal.invariant_of-self-clause-knows
 invariant_of-self-clause-knows c =
     let mine = c.args.self.now in

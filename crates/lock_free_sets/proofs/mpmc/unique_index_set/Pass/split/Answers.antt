@@ -17,6 +17,7 @@ by_result : {A : Type 0} {P : A → Type 0} {Q R : Type 0} (o : Option A) → If
 by_result (Some x) some none f g = f x some
 by_result None some none f g = g none
 
+-- the pass is still sound, whether another was split off or not
 pub invariant_of-self-clause-sound : goal.invariant_of-self-clause-sound
 invariant_of-self-clause-sound c =
     let v = c.args.self.now.seated.seat.me.0 in
@@ -30,6 +31,7 @@ invariant_of-self-clause-done c =
     (λ t h. subst (λ (z : View ℕ). IsDone z.made) (sym h.2) c.args.self.now.done)
     (λ same. subst (λ (z : View ℕ). IsDone z.made) (sym same) c.args.self.now.done)
 
+-- the pass still knows the run of its set, whether another was split off or not
 pub invariant_of-self-clause-knows : goal.invariant_of-self-clause-knows
 invariant_of-self-clause-knows c =
     let size = c.args.self.now.capacity in

@@ -4,6 +4,7 @@ use Rattle.lock_free_sets.specs.UniqueIndexSet.{SetId}
 use Rattle.lock_free_sets.proofs.Unique.Holding.{holds_joined}
 use Rattle.lock_free_sets.proofs.mpmc.unique_index_set.UniqueIndex.join.Goals as goal
 
+-- the pass that took the other one in still holds the index
 pub invariant_of-self : goal.invariant_of-self
 invariant_of-self c =
     let mine = c.args.self.now in

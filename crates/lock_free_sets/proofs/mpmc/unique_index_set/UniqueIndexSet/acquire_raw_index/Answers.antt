@@ -13,6 +13,7 @@ use Rattle.lock_free_sets.proofs.mpmc.unique_index_set.UniqueIndexSet.acquire_ra
 pub drive_on-requires-clause-rule : goal.drive_on-requires-clause-rule
 drive_on-requires-clause-rule g c = acquire_keeps one_word
 
+-- the acquire is about to begin, as a call that its set does not refuse
 pub drive_on-requires-clause-at : goal.drive_on-requires-clause-at
 drive_on-requires-clause-at g c =
     let mine = c.args.pass.now in

@@ -17,6 +17,7 @@ longer (suc n) a =
     let e : a + 1 + n ≡ a + suc n = omega arith in
     ap (λ l. a ∷ l) (longer n (a + 1) ∙ ap (λ x. range_with_len (a + 1) n ++ x ∷ []) e)
 
+-- with each word more, behind the head stand the numbers from 1 on
 pub loop-index-preserved : goal.loop-index-preserved
 loop-index-preserved c =
     let len = c.loop-index.invariant.1 in
@@ -31,6 +32,7 @@ loop-index-preserved c =
     ap (range_with_len 1) (sym suc_is) ∙ longer c.loop-index.index 1 in
     (here ∙ ap (λ ws. 0 ∷ ws) (sym grown), omega arith, omega arith)
 
+-- the words open as the machine of a set of this capacity, with the view of the first pass
 pub open-requires : goal.open-requires
 open-requires c =
     let end : c.loop-index.index ≡ c.args.capacity = omega arith in

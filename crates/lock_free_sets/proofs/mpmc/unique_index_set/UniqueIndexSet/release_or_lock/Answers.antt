@@ -11,6 +11,7 @@ use Rattle.lock_free_sets.proofs.mpmc.unique_index_set.UniqueIndexSet.release_or
 pub drive_on-requires-clause-rule : goal.drive_on-requires-clause-rule
 drive_on-requires-clause-rule g c = lock_keeps one_word c.args.index
 
+-- the release is about to begin, as a call that its set does not refuse to who holds the index
 pub drive_on-requires-clause-at : goal.drive_on-requires-clause-at
 drive_on-requires-clause-at g c =
     let mine = c.args.pass.now in

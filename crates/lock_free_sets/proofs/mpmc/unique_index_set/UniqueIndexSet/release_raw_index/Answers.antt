@@ -11,6 +11,7 @@ use Rattle.lock_free_sets.proofs.mpmc.unique_index_set.UniqueIndexSet.release_ra
 pub drive-requires-clause-rule : goal.drive-requires-clause-rule
 drive-requires-clause-rule c = release_keeps one_word c.args.index
 
+-- the release is about to begin, as a call that its set does not refuse to who holds the index
 pub drive-requires-clause-at : goal.drive-requires-clause-at
 drive-requires-clause-at c =
     let mine = c.args.pass.now in

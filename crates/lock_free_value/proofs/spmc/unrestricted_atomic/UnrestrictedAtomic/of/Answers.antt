@@ -11,6 +11,8 @@ use Rattle.lock_free_value.specs.Roles.{LacksProducer}
 use Rattle.lock_free_value.proofs.Opens.{filling, first_is, begins, turns, ends, opened_some, opened_lacks}
 use Rattle.lock_free_value.proofs.spmc.unrestricted_atomic.UnrestrictedAtomic.of.Goals as goal
 
+-- before the first word is written the words have the first version, a free role, and zeros in
+-- both cells
 pub loop-at-init : goal.loop-at-init
 loop-at-init g c =
     let met = g.met.T.Words in
@@ -29,6 +31,7 @@ loop-at-init g c =
           ∙ (ap (λ n. slice_set (slice_set (replicate (code.size * 2 + 2 + 1) 0) 0 n) 1 1) first ∙ begins code law c.args.value v);
     }
 
+-- after each word of the value one word more of both cells is filled in
 pub loop-at-preserved : goal.loop-at-preserved
 loop-at-preserved g c =
     let met = g.met.T.Words in
@@ -47,6 +50,7 @@ loop-at-preserved g c =
           c.first_word.result c.loop-at.words.items below inv.words (omega arith) c.word-word.ensures c.first_word.ensures;
     }
 
+-- the words open as the machine of the value, with the view of the first pass
 pub open-requires : goal.open-requires
 open-requires g c =
     let met = g.met.T.Words in
@@ -67,6 +71,7 @@ invariant_of-token-clause-begun g c =
     let me : c.in_ok-home.seated.seat.me.0 ≡ opened_view c.args.value g.T.Words.WORDS c.args.version = search rules in
     subst (λ (w : View g.row.T.Denot). 0 < length (stored w.seen)) (sym me) (opened_some c.args.value g.T.Words.WORDS c.args.version)
 
+-- the first pass knows the run that leads there
 pub invariant_of-token-clause-knows : goal.invariant_of-token-clause-knows
 invariant_of-token-clause-knows g c =
     let met = g.met.T.Words in

@@ -1,3 +1,4 @@
+-- So many words of both cells are filled in.
 use Rattle.std.proofs.Common.{◌≡◌, ◌+◌}
 use Rattle.lock_free_value.proofs.Names.{coding_by}
 use Rattle.lock_free_value.proofs.Opens.{filling}

@@ -11,6 +11,7 @@ use Rattle.lock_free_value.proofs.spmc.unrestricted_atomic.loads.copy_words.Goal
 pub step_load-requires : goal.step_load-requires
 step_load-requires g c = record { board = c.words.invariant.1; at = (c.requires.at.0, c.words.invariant.2 c.requires.at.0 c.requires.at.1) }
 
+-- after each step that loads a word of the cell the load stands at the next word
 pub words-preserved : goal.words-preserved
 words-preserved g c =
     let so_far = c.words.invariant in
@@ -25,6 +26,8 @@ words-preserved g c =
           (called.ensures.goes base (so_far.2 base at))),
     )
 
+-- where the load has left the words of the cell, it has gone on from where it stood as the call
+-- began
 pub returns-in_default-clause-goes : goal.returns-in_default-clause-goes
 returns-in_default-clause-goes g c base at =
     let called = c.step_load in

@@ -1,3 +1,4 @@
+-- The load stands at a word of the cell.
 use Rattle.std.proofs.Common.{◌-◌}
 use Rattle.lock_free_value.proofs.Names.{at_load, first_load, coding_by, View}
 use Rattle.steps.specs.declared.atomic.LoadStage.TheVariants as stages

@@ -3,6 +3,7 @@ use Rattle.lock_free_value.proofs.Names.{Coding, IsCoding, coding_by}
 use Rattle.history.proofs.ValueCalls.{load_keeps_rule}
 use Rattle.lock_free_value.proofs.spmc.unrestricted_atomic.loads.step_load.Goals as goal
 
+-- each step of the load keeps the rule of the table, and tells what is known after it
 pub step-requires-clause-rule : goal.step-requires-clause-rule
 step-requires-clause-rule g c base v call m key =
     let met = g.met.T.Words in

@@ -14,6 +14,7 @@ use Rattle.lock_free_queues.proofs.spsc.index_queue.calls.Held+Numbers+u64+RingR
 pub drive-end-requires-clause-rule : goal.drive-end-requires-clause-rule
 drive-end-requires-clause-rule c base v call m key = peek_keep_all one_word base v call m key.capacity
 
+-- the peek is about to begin, as a call that its queue does not refuse to the consumer
 pub drive-end-requires-clause-at : goal.drive-end-requires-clause-at
 drive-end-requires-clause-at c =
     let mine = c.args.self.now in
@@ -22,6 +23,8 @@ drive-end-requires-clause-at c =
     (ap first_peek mine.known ∙ sym c.new-call.ensures)
     (peek_first one_word v mine.idle mine.alone mine.some.0 (subst (λ n. n < 2 ^ 32) (sym mine.known) mine.small) c.requires)
 
+-- the peek answers the oldest number that waits as it ends, and since all that was seen none was
+-- taken out
 pub returns-clause-peeked : goal.returns-clause-peeked
 returns-clause-peeked c =
     let mine = c.args.self.now in

@@ -13,6 +13,7 @@ use Rattle.lock_free_queues.proofs.spsc.index_queue.calls.Held+Numbers+u64+RingR
 pub drive-end-requires-clause-rule : goal.drive-end-requires-clause-rule
 drive-end-requires-clause-rule c base v call m key = pop_keep_all one_word base v call m key.capacity
 
+-- the pop is about to begin, as a call that its queue does not refuse to the consumer
 pub drive-end-requires-clause-at : goal.drive-end-requires-clause-at
 drive-end-requires-clause-at c =
     let mine = c.args.self.now in
@@ -21,6 +22,7 @@ drive-end-requires-clause-at c =
     (ap first_pop mine.known ∙ sym c.new-call.ensures)
     (pop_first one_word v mine.idle mine.alone mine.some.0 (subst (λ n. n < 2 ^ 32) (sym mine.known) mine.small) c.requires)
 
+-- the pop is a call of the history, which took out the number that it answers
 pub returns-clause-popped : goal.returns-clause-popped
 returns-clause-popped c =
     let mine = c.args.self.now in
@@ -30,6 +32,7 @@ returns-clause-popped c =
     (has_popped one_word IndexQueue x w mine.idle index_of in_room pops_index index_pop c.drive-end.result
     c.drive-end.new.room c.drive-end.ensures.end)
 
+-- a pop that answers None found nothing waiting
 pub returns-clause-empty : goal.returns-clause-empty
 returns-clause-empty c =
     let mine = c.args.self.now in
@@ -41,6 +44,7 @@ returns-clause-empty c =
     (empty_if one_word of_indices index_of x.capacity x w ends.history o
     (has_popped one_word IndexQueue x w mine.idle index_of in_room pops_index index_pop c.drive-end.result c.drive-end.new.room ends))
 
+-- a pop that answers a number took it out right after all that was seen to be taken out
 pub returns-clause-taken : goal.returns-clause-taken
 returns-clause-taken c =
     let mine = c.args.self.now in

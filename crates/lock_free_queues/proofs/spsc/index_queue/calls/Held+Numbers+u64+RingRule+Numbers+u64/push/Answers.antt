@@ -14,6 +14,7 @@ use Rattle.lock_free_queues.proofs.spsc.index_queue.calls.Held+Numbers+u64+RingR
 pub drive-end-requires-clause-rule : goal.drive-end-requires-clause-rule
 drive-end-requires-clause-rule c base v call m key = push_keeps one_word c.args.value base v call m key.capacity
 
+-- the push is about to begin, as a call that its queue does not refuse to the producer
 pub drive-end-requires-clause-at : goal.drive-end-requires-clause-at
 drive-end-requires-clause-at c =
     let mine = c.args.self.now in
@@ -23,6 +24,8 @@ drive-end-requires-clause-at c =
     (push_first one_word c.args.value v tt mine.idle mine.alone mine.some.0
     (subst (λ n. n < 2 ^ 32) (sym mine.known) mine.small) c.requires)
 
+-- a push that answers false found the capacity waiting, or was a look at a queue whose last
+-- position is reached
 pub returns-clause-full : goal.returns-clause-full
 returns-clause-full c is =
     let mine = c.args.self.now in
@@ -33,6 +36,7 @@ returns-clause-full c is =
     (full one_word of_indices x w mine.idle (Index v) (pushes_index v) (index_push v) mine.alone mine.some.0
     c.requires c.drive-end.result tt c.drive-end.ensures.end (sym c.answer.ensures ∙ is))
 
+-- a push that answers true published its number right after all that was seen to be published
 pub returns-clause-published : goal.returns-clause-published
 returns-clause-published c is =
     let mine = c.args.self.now in
@@ -41,6 +45,8 @@ returns-clause-published c is =
     (pushes_index v) (index_push v) mine.alone mine.some.0 c.requires c.drive-end.result tt c.drive-end.ensures.end
     (sym c.answer.ensures ∙ is)
 
+-- the push is a call of the history with its answer, or it answers false and was a look at a queue
+-- whose last position is reached
 pub returns-clause-pushed : goal.returns-clause-pushed
 returns-clause-pushed c =
     let mine = c.args.self.now in
@@ -51,6 +57,7 @@ returns-clause-pushed c =
     (pushed one_word of_indices x w mine.idle (Index v) (pushes_index v) (index_push v) mine.alone mine.some.0
     c.requires c.drive-end.result tt c.drive-end.ensures.end)
 
+-- the seat is of the same queue, its view goes on, and at most one operation was no step of a call
 pub returns-clause-same : goal.returns-clause-same
 returns-clause-same c =
     let mine = c.args.self.now in

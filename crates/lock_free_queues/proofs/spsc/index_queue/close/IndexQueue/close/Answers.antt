@@ -10,6 +10,8 @@ use Rattle.lock_free_queues.proofs.spsc.index_queue.close.IndexQueue.close.Goals
 pub of_words-requires : goal.of_words-requires
 of_words-requires c = fits one_word is_coding IndexQueue c.args.self.capacity (view c.args.pass) c.in_ok-words.words.items c.in_ok-words.ensures.words.last refl
 
+-- each number that was seen to be published waits in the list at its place or lies before it, and
+-- with the whole share the list has just what waits
 pub returns-clause-list : goal.returns-clause-list
 returns-clause-list c =
     let v = view c.args.pass in
@@ -17,6 +19,7 @@ returns-clause-list c =
     subst (Closes Index size v) (sym c.of_words.ensures)
     (closes one_word is_coding IndexQueue size v c.in_ok-words.words.items c.in_ok-words.ensures.words.last)
 
+-- the list is what waited at one moment of the call
 pub returns-clause-waits : goal.returns-clause-waits
 returns-clause-waits c =
     let read = c.in_ok-words.ensures.words in

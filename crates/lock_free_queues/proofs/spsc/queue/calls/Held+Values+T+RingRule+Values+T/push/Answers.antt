@@ -13,6 +13,7 @@ use Rattle.lock_free_queues.proofs.Queues.Values.{value_push}
 use Rattle.lock_free_queues.proofs.Queues.Paid.{value_push_takes}
 use Rattle.lock_free_queues.proofs.spsc.queue.calls.Held+Values+T+RingRule+Values+T.push.Goals as goal
 
+-- each step of the push keeps the rule of the table, and tells what is known after it
 pub drive-end-requires-clause-rule : goal.drive-end-requires-clause-rule
 drive-end-requires-clause-rule g c base v call m key =
     let met = g.met.T.Words in
@@ -20,6 +21,7 @@ drive-end-requires-clause-rule g c base v call m key =
     let law : IsCoding code = record { some = met.some; few = met.few; sized = met.sized; given_back = met.given_back } in
     value_push_keeps code law c.args.value.now base v call m key.capacity
 
+-- the push is about to begin, as a call that its queue does not refuse to the producer
 pub drive-end-requires-clause-at : goal.drive-end-requires-clause-at
 drive-end-requires-clause-at g c =
     let mine = c.args.self.now in
@@ -32,6 +34,8 @@ drive-end-requires-clause-at g c =
     (ap first_push mine.known ∙ sym c.new-call.ensures)
     (value_push_first code law x v tt mine.idle mine.alone mine.some.0 (subst (λ n. n < 2 ^ 32) (sym mine.known) mine.small) c.requires)
 
+-- a push that answers false found the capacity waiting, or was a look at a queue whose last
+-- position is reached
 pub returns-clause-full : goal.returns-clause-full
 returns-clause-full g c is =
     let mine = c.args.self.now in
@@ -43,6 +47,7 @@ returns-clause-full g c is =
     (full code of_values x w mine.idle (Value v) (pushes_value code v) (value_push code v) mine.alone mine.some.0
     c.requires c.drive-end.result tt c.drive-end.ensures.end (sym c.answer.ensures ∙ is))
 
+-- a push that answers true published its value right after all that was seen to be published
 pub returns-clause-published : goal.returns-clause-published
 returns-clause-published g c is =
     let mine = c.args.self.now in
@@ -52,6 +57,8 @@ returns-clause-published g c is =
     (pushes_value code v) (value_push code v) mine.alone mine.some.0 c.requires c.drive-end.result tt
     c.drive-end.ensures.end (sym c.answer.ensures ∙ is)
 
+-- the push is a call of the history with its answer, or it answers false and was a look at a queue
+-- whose last position is reached
 pub returns-clause-pushed : goal.returns-clause-pushed
 returns-clause-pushed g c =
     let mine = c.args.self.now in
@@ -63,6 +70,7 @@ returns-clause-pushed g c =
     (pushed code of_values x w mine.idle (Value v) (pushes_value code v) (value_push code v) mine.alone mine.some.0
     c.requires c.drive-end.result tt c.drive-end.ensures.end)
 
+-- the seat is of the same queue, its view goes on, and at most one operation was no step of a call
 pub returns-clause-same : goal.returns-clause-same
 returns-clause-same g c =
     let mine = c.args.self.now in

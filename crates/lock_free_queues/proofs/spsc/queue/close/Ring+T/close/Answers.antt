@@ -6,6 +6,7 @@ use Rattle.lock_free_queues.specs.Queues.Closes.{Closes, IsWhatWaits}
 use Rattle.lock_free_queues.proofs.Queues.Closes.{fits, closes, what_waits, as_stood}
 use Rattle.lock_free_queues.proofs.spsc.queue.close.Ring+T.close.Goals as goal
 
+-- the words that were read are those of a queue of one caller with this capacity
 pub of_words-requires : goal.of_words-requires
 of_words-requires g c =
     let met = g.met.T.Words in
@@ -13,6 +14,8 @@ of_words-requires g c =
     let law : IsCoding code = record { some = met.some; few = met.few; sized = met.sized; given_back = met.given_back } in
     fits code law Queue c.args.self.capacity (view c.args.pass) c.in_ok-words.words.items c.in_ok-words.ensures.words.last refl
 
+-- each value that was seen to be published waits in the list at its place or lies before it, and
+-- with the whole share the list has just what waits
 pub returns-clause-list : goal.returns-clause-list
 returns-clause-list g c =
     let met = g.met.T.Words in
@@ -22,6 +25,7 @@ returns-clause-list g c =
     let size = c.args.self.capacity in
     subst (Closes Value size v) (sym c.of_words.ensures) (closes code law Queue size v c.in_ok-words.words.items c.in_ok-words.ensures.words.last)
 
+-- the list is what waited at one moment of the call
 pub returns-clause-waits : goal.returns-clause-waits
 returns-clause-waits g c =
     let met = g.met.T.Words in

@@ -8,6 +8,7 @@ use Rattle.lock_free_queues.proofs.Queues.Filled.{filled, fills_more}
 use Rattle.lock_free_queues.proofs.Queues.Opened.{queue_opens, queue_knows}
 use Rattle.lock_free_queues.proofs.spsc.queue.make.Ring+T.of.Goals as goal
 
+-- before the first word is written the cells have zeros
 pub loop-at-init : goal.loop-at-init
 loop-at-init g c =
     let size = g.T.Words.WORDS in
@@ -27,6 +28,7 @@ loop-at-init g c =
           same);
     }
 
+-- with each word more that is written the cells have the words of so many pushes of the value
 pub loop-at-preserved : goal.loop-at-preserved
 loop-at-preserved g c =
     let inv = c.loop-at.invariant in
@@ -50,6 +52,8 @@ loop-at-preserved g c =
           ∙ fills_more (g.T.Words.words_of value) size capacity start start 1 1 at c.word-word.result (omega arith) word;
     }
 
+-- with the words of what was pushed in the cells that were used, the words open as the queue's
+-- machine at this position
 pub of_words-requires-clause-opens : goal.of_words-requires-clause-opens
 of_words-requires-clause-opens g c =
     let met = g.met.T.Words in
@@ -67,6 +71,7 @@ of_words-requires-clause-opens g c =
     (inv.words ∙ (ap (λ x. start ∷ start ∷ 1 ∷ 1 ∷ (filled (code.words_of x) code.size capacity c.loop-at.at ++ 0 ∷ [])) inv.value
     ∙ ap (λ n. start ∷ start ∷ 1 ∷ 1 ∷ (filled (code.words_of value) code.size capacity n ++ 0 ∷ [])) done))
 
+-- the first pass knows the run that leads there
 pub of_words-requires-clause-knows : goal.of_words-requires-clause-knows
 of_words-requires-clause-knows g c =
     let met = g.met.T.Words in

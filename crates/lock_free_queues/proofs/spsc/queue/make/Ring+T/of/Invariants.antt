@@ -1,3 +1,4 @@
+-- The words up to the next one are those of the queue's machine at this position.
 use Rattle.lock_free_queues.proofs.Names.{◌≡◌, ◌≤◌, ◌*◌, ◌∷◌, ◌++◌, [], min, replicate}
 use Rattle.lock_free_queues.specs.Queues.Opened.{position_at}
 use Rattle.lock_free_queues.proofs.Queues.Filled.{filled}

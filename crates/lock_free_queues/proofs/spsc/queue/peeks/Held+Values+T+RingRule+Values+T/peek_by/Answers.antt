@@ -15,6 +15,7 @@ use Rattle.lock_free_queues.proofs.Queues.Values.{value_of, value_peek}
 use Rattle.lock_free_queues.proofs.Queues.Paid.{value_peek_takes}
 use Rattle.lock_free_queues.proofs.spsc.queue.peeks.Held+Values+T+RingRule+Values+T.peek_by.Goals as goal
 
+-- each step of the peek keeps the rule of the table, and tells what is known after it
 pub drive-end-requires-clause-rule : goal.drive-end-requires-clause-rule
 drive-end-requires-clause-rule g c base v call m key =
     let met = g.met.T.Words in
@@ -22,6 +23,8 @@ drive-end-requires-clause-rule g c base v call m key =
     let law : IsCoding code = record { some = met.some; few = met.few; sized = met.sized; given_back = met.given_back } in
     value_peek_keeps code law g.R.Room.words_in g.R.Room.with_word g.met.R.Room.put_in base v call m key.capacity
 
+-- the peek is about to begin with a room of zeros, as a call that its queue does not refuse to the
+-- consumer
 pub drive-end-requires-clause-at : goal.drive-end-requires-clause-at
 drive-end-requires-clause-at g c =
     let mine = c.args.self.now in
@@ -36,6 +39,8 @@ drive-end-requires-clause-at g c =
     (value_peek_first code law g.R.Room.words_in g.R.Room.with_word g.met.R.Room.put_in v c.args.room zeros mine.idle
     mine.alone mine.some.0 (subst (λ n. n < 2 ^ 32) (sym mine.known) mine.small) c.requires.role)
 
+-- the peek answers the oldest value that waits as it ends, and since all that was seen none was
+-- taken out
 pub returns-clause-peeked : goal.returns-clause-peeked
 returns-clause-peeked g c =
     let mine = c.args.self.now in

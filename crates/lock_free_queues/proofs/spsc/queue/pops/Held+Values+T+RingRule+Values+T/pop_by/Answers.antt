@@ -14,6 +14,7 @@ use Rattle.lock_free_queues.proofs.Queues.Values.{value_of, value_pop}
 use Rattle.lock_free_queues.proofs.Queues.Paid.{value_pop_takes}
 use Rattle.lock_free_queues.proofs.spsc.queue.pops.Held+Values+T+RingRule+Values+T.pop_by.Goals as goal
 
+-- each step of the pop keeps the rule of the table, and tells what is known after it
 pub drive-end-requires-clause-rule : goal.drive-end-requires-clause-rule
 drive-end-requires-clause-rule g c base v call m key =
     let met = g.met.T.Words in
@@ -21,6 +22,8 @@ drive-end-requires-clause-rule g c base v call m key =
     let law : IsCoding code = record { some = met.some; few = met.few; sized = met.sized; given_back = met.given_back } in
     value_pop_keeps code law g.R.Room.words_in g.R.Room.with_word g.met.R.Room.put_in base v call m key.capacity
 
+-- the pop is about to begin with a room of zeros, as a call that its queue does not refuse to the
+-- consumer
 pub drive-end-requires-clause-at : goal.drive-end-requires-clause-at
 drive-end-requires-clause-at g c =
     let mine = c.args.self.now in
@@ -35,6 +38,7 @@ drive-end-requires-clause-at g c =
     (value_pop_first code law g.R.Room.words_in g.R.Room.with_word g.met.R.Room.put_in v c.args.room zeros mine.idle
     mine.alone mine.some.0 (subst (λ n. n < 2 ^ 32) (sym mine.known) mine.small) c.requires.role)
 
+-- the pop is a call of the history, which took out the value that it answers
 pub returns-clause-popped : goal.returns-clause-popped
 returns-clause-popped g c =
     let mine = c.args.self.now in
@@ -46,6 +50,7 @@ returns-clause-popped g c =
     (pops_value code g.R.Room.words_in) (value_pop code g.R.Room.words_in) c.drive-end.result c.drive-end.new.room
     c.drive-end.ensures.end)
 
+-- a pop that answers None found nothing waiting
 pub returns-clause-empty : goal.returns-clause-empty
 returns-clause-empty g c =
     let mine = c.args.self.now in
@@ -60,6 +65,7 @@ returns-clause-empty g c =
     (pops_value code g.R.Room.words_in) (value_pop code g.R.Room.words_in) c.drive-end.result c.drive-end.new.room
     ends))
 
+-- a pop that answers a value took it out right after all that was seen to be taken out
 pub returns-clause-taken : goal.returns-clause-taken
 returns-clause-taken g c =
     let mine = c.args.self.now in

@@ -10,6 +10,8 @@ use Rattle.lock_free_queues.proofs.Queues.Sums.{acquired_moves}
 use Rattle.lock_free_queues.proofs.Queues.Paid.{acquire_takes}
 use Rattle.lock_free_queues.proofs.spsc.ring.calls.Held+E+T+RingRule+E+T.take.Goals as goal
 
+-- each step of the call that takes a role keeps the rule of the table, and tells what is known
+-- after it
 pub drive-requires-clause-rule : goal.drive-requires-clause-rule
 drive-requires-clause-rule g c base v call m key =
     let met = g.met.T.Words in
@@ -17,6 +19,7 @@ drive-requires-clause-rule g c base v call m key =
     let law : IsCoding code = record { some = met.some; few = met.few; sized = met.sized; given_back = met.given_back } in
     acquires_keep code law g.E.Kind.KIND g.R.Side.ROLE base v call m key.capacity
 
+-- the call is about to begin, as one that its queue does not refuse
 pub drive-requires-clause-at : goal.drive-requires-clause-at
 drive-requires-clause-at g c =
     let mine = c.args.self.now in

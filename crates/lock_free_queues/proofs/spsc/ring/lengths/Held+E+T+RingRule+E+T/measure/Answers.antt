@@ -1,9 +1,8 @@
--- `Held::measure` (src/spsc/ring/lengths.rt): its call of `drive_on` meets the requirements `rule` and `at`, and its return meets the
+-- `Held::measure` (src/spsc/ring/lengths.rt): its call of `count_all` meets the requirement `at`, and its return meets the
 -- clauses `measured`, `few` and `steps`.
-use Rattle.lock_free_queues.proofs.Names.{◌≤◌, refl, sym, ap, subst, ◌∙◌, first_len, Coding, IsCoding, coding_by}
+use Rattle.lock_free_queues.proofs.Names.{◌≤◌, refl, sym, ap, subst, ◌∙◌, first_len, Coding, coding_by}
 use Rattle.lock_free_queues.proofs.Names.{length_answer, At, counts_waiting, len_first_on}
 use Rattle.lock_free_queues.specs.Queues.Bounded.{machine_kind}
-use Rattle.lock_free_queues.proofs.Queues.Kinds.{lengths_keep}
 use Rattle.lock_free_queues.specs.Queues.Rings.{token_view}
 use Rattle.lock_free_queues.specs.Queues.Kinds.{most_waiting}
 use Rattle.lock_free_queues.specs.Queues.Contracts.{HasMeasured}
@@ -11,20 +10,11 @@ use Rattle.lock_free_queues.proofs.Queues.Facts.{measured, few}
 use Rattle.lock_free_queues.proofs.Queues.Paid.{length_takes}
 use Rattle.lock_free_queues.proofs.spsc.ring.lengths.Held+E+T+RingRule+E+T.measure.Goals as goal
 
-pub drive_on-requires-clause-rule : goal.drive_on-requires-clause-rule
-drive_on-requires-clause-rule g c base v call m key =
-    let met = g.met.T.Words in
-    let code : Coding g.row.T.Denot = coding_by g.T.Words in
-    let law : IsCoding code = record { some = met.some; few = met.few; sized = met.sized; given_back = met.given_back } in
-    lengths_keep code law g.E.Kind.KIND g.W.Measure.WHICH base v call m key.capacity
-
-pub drive_on-requires-clause-at : goal.drive_on-requires-clause-at
-drive_on-requires-clause-at g c =
+pub count_all-requires-clause-at : goal.count_all-requires-clause-at
+count_all-requires-clause-at g c =
     let mine = c.args.self.now in
     let v = token_view mine in
-    let met = g.met.T.Words in
     let code : Coding g.row.T.Denot = coding_by g.T.Words in
-    let law : IsCoding code = record { some = met.some; few = met.few; sized = met.sized; given_back = met.given_back } in
     subst (λ call. At code (machine_kind g.E.Kind.KIND) (counts_waiting g.W.Measure.WHICH v.capacity) v v call tt)
     (ap first_len mine.known ∙ sym c.new-call.ensures)
     (len_first_on code g.E.Kind.KIND v tt mine.idle mine.alone mine.some.0 g.W.Measure.WHICH v.capacity refl)
@@ -33,23 +23,23 @@ pub returns-clause-measured : goal.returns-clause-measured
 returns-clause-measured g c =
     let mine = c.args.self.now in
     let v = token_view mine in
-    let w = c.drive_on.new.self.seat.me.0 in
-    subst (λ n. HasMeasured g.W.Measure.WHICH n (length_answer g.W.Measure.WHICH n c.drive_on.result) v w)
+    let w = c.count_all.new.seat.seat.me.0 in
+    subst (λ n. HasMeasured g.W.Measure.WHICH n (length_answer g.W.Measure.WHICH n c.count_all.result) v w)
     mine.known
     (measured (coding_by g.T.Words) g.E.Kind.KIND v w mine.idle
-    g.W.Measure.WHICH c.drive_on.result tt c.drive_on.ensures.end)
+    g.W.Measure.WHICH c.count_all.result tt c.count_all.ensures.ends)
 
 pub returns-clause-few : goal.returns-clause-few
 returns-clause-few g c is =
     let mine = c.args.self.now in
-    subst (λ n. c.drive_on.result ≤ most_waiting g.E.Kind.KIND n) mine.known
+    subst (λ n. c.count_all.result ≤ most_waiting g.E.Kind.KIND n) mine.known
     (few (coding_by g.T.Words) g.E.Kind.KIND (token_view mine)
-    c.drive_on.new.self.seat.me.0 mine.idle g.W.Measure.WHICH is c.drive_on.result tt c.drive_on.ensures.end)
+    c.count_all.new.seat.seat.me.0 mine.idle g.W.Measure.WHICH is c.count_all.result tt c.count_all.ensures.ends)
 
 pub returns-clause-steps : goal.returns-clause-steps
 returns-clause-steps g c =
     let mine = c.args.self.now in
     let code : Coding g.row.T.Denot = coding_by g.T.Words in
     let v = token_view mine in
-    let w = c.drive_on.new.self.seat.me.0 in
-    length_takes code v w mine.idle g.E.Kind.KIND g.W.Measure.WHICH c.drive_on.result tt c.drive_on.ensures.end
+    let w = c.count_all.new.seat.seat.me.0 in
+    length_takes code v w mine.idle g.E.Kind.KIND g.W.Measure.WHICH c.count_all.result tt c.count_all.ensures.ends

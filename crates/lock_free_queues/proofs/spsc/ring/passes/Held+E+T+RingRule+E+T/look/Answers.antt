@@ -5,6 +5,7 @@ use Rattle.threaded.specs.Seats.{seen, table_of, key_of}
 use Rattle.lock_free_queues.proofs.Queues.Reads.{owes_look, has_looked}
 use Rattle.lock_free_queues.proofs.spsc.ring.passes.Held+E+T+RingRule+E+T.look.Goals as goal
 
+-- the load of the write position keeps the rule of the table, and tells what a look tells
 pub look-requires-clause-owes : goal.look-requires-clause-owes
 look-requires-clause-owes g c =
     let mine = c.args.self.now in
@@ -13,6 +14,7 @@ look-requires-clause-owes g c =
     owes_look (coding_by g.T.Words) g.E.Kind.KIND (key_of s).capacity (table_of s).words
     (table_of s).slots s.seat.id 0 (seen s) s.seat.me.1 below s.bare (mine.known ∙ sym mine.keyed) mine.idle mine.some.0
 
+-- the look has made nothing, and with the whole share it sees nothing more
 pub returns-clause-looked : goal.returns-clause-looked
 returns-clause-looked g c =
     let mine = c.args.self.now in

@@ -9,6 +9,8 @@ use Rattle.lock_free_queues.specs.Queues.Reads.{WasRead, CellsRead, HasRead}
 use Rattle.lock_free_queues.proofs.Queues.Reads.{then_read, read_until, last_words, writes_rise}
 use Rattle.lock_free_queues.proofs.spsc.ring.reads.Held+E+T+RingRule+E+T.last_words.Goals as goal
 
+-- where both loads of the write position found the same, the words are those of one moment, the
+-- load of the read position
 pub returns-then-again-write : goal.returns-then-again-write
 returns-then-again-write g c =
     let inv = c.loop-write.invariant in
@@ -42,6 +44,7 @@ returns-then-again-write g c =
       view = sym last.1;
     }
 
+-- where the write position has changed, it has risen, and so it lies nearer to the last one
 pub loop-write-smaller : goal.loop-write-smaller
 loop-write-smaller g c =
     let inv = c.loop-write.invariant in

@@ -5,6 +5,7 @@ use Rattle.threaded.specs.Seats.{seen, table_of, key_of}
 use Rattle.lock_free_queues.proofs.Queues.Reads.{owes_look, was_read, was_read_last, has_read}
 use Rattle.lock_free_queues.proofs.spsc.ring.reads.Held+E+T+RingRule+E+T.read.Goals as goal
 
+-- the load of the word keeps the rule of the table, and tells what a look at this word tells
 pub look-requires-clause-owes : goal.look-requires-clause-owes
 look-requires-clause-owes g c =
     let mine = c.args.self.now in
@@ -13,6 +14,8 @@ look-requires-clause-owes g c =
     owes_look (coding_by g.T.Words) g.E.Kind.KIND (key_of s).capacity (table_of s).words
     (table_of s).slots s.seat.id c.args.word (seen s) s.seat.me.1 below s.bare (mine.known ∙ sym mine.keyed) mine.idle mine.some.0
 
+-- the load leaves the share and what the pass has made, and with the whole share it sees nothing
+-- more
 pub returns-clause-read : goal.returns-clause-read
 returns-clause-read g c =
     let mine = c.args.self.now in

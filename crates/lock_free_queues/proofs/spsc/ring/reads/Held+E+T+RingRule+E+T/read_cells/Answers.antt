@@ -10,6 +10,7 @@ use Rattle.lock_free_queues.specs.Queues.Reads.{WasRead}
 use Rattle.lock_free_queues.proofs.Queues.Reads.{not_read, none_read, then_read, one_read}
 use Rattle.lock_free_queues.proofs.spsc.ring.reads.Held+E+T+RingRule+E+T.read_cells.Goals as goal
 
+-- before the first load no word of the cells was read, and nothing else has changed
 pub loop-at-init : goal.loop-at-init
 loop-at-init g c =
     let code : Coding g.row.T.Denot = coding_by g.T.Words in
@@ -25,6 +26,7 @@ loop-at-init g c =
       within = omega arith;
     }
 
+-- each word that is loaded is one of the table
 pub read-word-requires : goal.read-word-requires
 read-word-requires g c =
     let inv = c.loop-at.invariant in
@@ -33,6 +35,7 @@ read-word-requires g c =
     let long = c.requires.long in
     subst (λ n. c.loop-at.at < 4 + words_in_cells g.T.Words.WORDS g.E.Kind.KIND n) (sym same) (omega arith)
 
+-- after each load one word more was read, with the words before it
 pub loop-at-preserved : goal.loop-at-preserved
 loop-at-preserved g c =
     let inv = c.loop-at.invariant in

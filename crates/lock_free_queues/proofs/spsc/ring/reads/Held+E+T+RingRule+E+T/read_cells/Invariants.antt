@@ -1,3 +1,4 @@
+-- The words of the cells up to the next one were read, and nothing else has changed.
 use Rattle.lock_free_queues.proofs.Names.{◌≡◌, ◌≤◌, length, coding_by}
 use Rattle.lock_free_queues.specs.Queues.Bounded.{machine_kind}
 use Rattle.lock_free_queues.specs.Queues.Rings.{token_queue, token_view}

@@ -14,6 +14,7 @@ use Rattle.lock_free_queues.proofs.spsc.safely_overflowing_index_queue.calls.Hel
 pub drive_on-end-requires-clause-rule : goal.drive_on-end-requires-clause-rule
 drive_on-end-requires-clause-rule g c base v call m key = over_pop_keeps one_word base v call m key.capacity
 
+-- the pop is about to begin, as a call that its queue does not refuse to the consumer
 pub drive_on-end-requires-clause-at : goal.drive_on-end-requires-clause-at
 drive_on-end-requires-clause-at g c =
     let mine = c.args.self.now in
@@ -23,6 +24,7 @@ drive_on-end-requires-clause-at g c =
     (subst (λ n. 0 < n) (sym mine.known) c.requires.some) (subst (λ n. n < 2 ^ 32) (sym mine.known) mine.small)
     c.requires.role)
 
+-- a pop that answers a number took it out as the oldest that waited
 pub returns-clause-popped : goal.returns-clause-popped
 returns-clause-popped g c =
     let mine = c.args.self.now in
@@ -33,6 +35,7 @@ returns-clause-popped g c =
     subst (λ z. IfSome z (λ k. PopOldest (Index k) x w)) (sym c.answer.ensures)
     (over_taken_if one_word x w ends.history o (over_popped one_word x w mine.idle c.drive_on-end.result c.drive_on-end.new.room ends))
 
+-- a pop that answers None found nothing waiting
 pub returns-clause-empty : goal.returns-clause-empty
 returns-clause-empty g c =
     let mine = c.args.self.now in
@@ -43,6 +46,8 @@ returns-clause-empty g c =
     subst (λ z. IfNone z (PopFoundNone x w)) (sym c.answer.ensures)
     (over_empty_if one_word x w ends.history o (over_popped one_word x w mine.idle c.drive_on-end.result c.drive_on-end.new.room ends))
 
+-- the pop takes at most four operations, and two more for each change of a word that others make
+-- meanwhile
 pub returns-clause-steps : goal.returns-clause-steps
 returns-clause-steps g c =
     let mine = c.args.self.now in

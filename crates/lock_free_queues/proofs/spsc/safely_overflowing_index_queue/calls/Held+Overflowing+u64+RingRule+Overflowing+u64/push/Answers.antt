@@ -17,6 +17,7 @@ use Rattle.lock_free_queues.proofs.spsc.safely_overflowing_index_queue.calls.Hel
 pub drive-end-requires-clause-rule : goal.drive-end-requires-clause-rule
 drive-end-requires-clause-rule c base v call m key = over_push_keeps one_word c.args.value base v call m key.capacity
 
+-- the push is about to begin, as a call that its queue does not refuse to the producer
 pub drive-end-requires-clause-at : goal.drive-end-requires-clause-at
 drive-end-requires-clause-at c =
     let mine = c.args.self.now in
@@ -26,6 +27,7 @@ drive-end-requires-clause-at c =
     (subst (λ n. 0 < n) (sym mine.known) c.requires.some) (subst (λ n. n < 2 ^ 32) (sym mine.known) mine.small)
     c.requires.role)
 
+-- the seat is of the same queue, its view goes on, and at most one operation was no step of a call
 pub returns-clause-same : goal.returns-clause-same
 returns-clause-same c =
     let mine = c.args.self.now in
@@ -41,6 +43,8 @@ returns-clause-same c =
           c.drive-end.ensures.end;
     }
 
+-- a push that hands nothing back published its number right after all that was seen to be
+-- published
 pub returns-clause-added : goal.returns-clause-added
 returns-clause-added c =
     let mine = c.args.self.now in
@@ -54,6 +58,8 @@ returns-clause-added c =
     (over_pushed one_word x w mine.idle v mine.alone mine.some.0 c.requires.role c.drive-end.result
     c.drive-end.new.room c.drive-end.ensures.end))
 
+-- a push that hands a number back took it out as the oldest, or handed back its own and was a look
+-- at a queue whose last position is reached
 pub returns-clause-handed_back : goal.returns-clause-handed_back
 returns-clause-handed_back c =
     let mine = c.args.self.now in
@@ -73,6 +79,7 @@ returns-clause-steps c =
     over_push_takes one_word (token_view mine) c.drive-end.new.self.seat.me.0 mine.idle c.args.value c.drive-end.result
     c.drive-end.new.room c.drive-end.ensures.end
 
+-- the push takes no role, and gives none back
 pub returns-clause-roles : goal.returns-clause-roles
 returns-clause-roles c role =
     let mine = c.args.self.now in

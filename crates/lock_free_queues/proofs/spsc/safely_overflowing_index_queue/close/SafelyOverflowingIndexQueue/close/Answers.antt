@@ -8,6 +8,8 @@ use Rattle.lock_free_queues.proofs.Queues.Closes.{as_stood}
 use Rattle.lock_free_queues.proofs.Queues.OverCloses.{over_fits, over_closes, newest}
 use Rattle.lock_free_queues.proofs.spsc.safely_overflowing_index_queue.close.SafelyOverflowingIndexQueue.close.Goals as goal
 
+-- with the read position that leaves at most the capacity, the words are those of a queue of one
+-- caller
 pub of_words-requires : goal.of_words-requires
 of_words-requires c =
     let size = c.args.self.capacity in
@@ -17,6 +19,8 @@ of_words-requires c =
     subst (λ n. Represents size (set words 1 n)) (sym (later ∙ ap (λ n. max (slice_index words 1) n) oldest))
     (over_fits size (view c.args.pass) words c.in_ok-words.ensures.words.last c.args.pass.none.0)
 
+-- each number that was seen to be published waits in the list at its place or lies before it, and
+-- with the whole share the list has just what waits
 pub returns-clause-list : goal.returns-clause-list
 returns-clause-list c =
     let v = view c.args.pass in
@@ -29,6 +33,7 @@ returns-clause-list c =
     (sym (later ∙ ap (λ n. max (slice_index words 1) n) oldest))
     (over_closes size v words c.in_ok-words.ensures.words.last c.args.pass.none.0))
 
+-- the list is the newest of what waited at one moment of the call, at most the capacity
 pub returns-clause-waits : goal.returns-clause-waits
 returns-clause-waits c =
     let v = view c.args.pass in

@@ -12,6 +12,7 @@ use Rattle.lock_free_sets.proofs.mpmc.bit_set.calls.BitSet.reset_next.Goals as g
 pub drive_on-end-requires-clause-rule : goal.drive_on-end-requires-clause-rule
 drive_on-end-requires-clause-rule g c = next_keeps
 
+-- the reset is about to begin, as a call that its set does not refuse
 pub drive_on-end-requires-clause-at : goal.drive_on-end-requires-clause-at
 drive_on-end-requires-clause-at g c =
     let mine = c.args.pass.now in
@@ -19,6 +20,8 @@ drive_on-end-requires-clause-at g c =
     subst (λ call. At one_word kinds.Bits resets_next v v call _) (ap first_reset mine.known ∙ sym c.new-call.ensures)
     (next_first v _ (record { known = refl; idle = mine.idle; alone = mine.alone; some = mine.some.0 }))
 
+-- a reset that answers a place has cleared it, it lies below the capacity, and the call came to it
+-- from the reset position
 pub returns-in-Some-clause-cleared : goal.returns-in-Some-clause-cleared
 returns-in-Some-clause-cleared g c =
     let mine = c.args.pass.now in
@@ -26,6 +29,7 @@ returns-in-Some-clause-cleared g c =
     found_place (seen mine.seated) (seen end.new.self) end.result end.new.room mine.idle end.ensures.end _
     (same_size c.args.self.now mine c.requires) c.in-Some.place (sym c.answer.ensures ∙ c.in-Some.is)
 
+-- where a reset answers None, each place was clear at some moment of the call
 pub returns-in-None-clause-clear : goal.returns-in-None-clause-clear
 returns-in-None-clause-clear g c =
     let mine = c.args.pass.now in

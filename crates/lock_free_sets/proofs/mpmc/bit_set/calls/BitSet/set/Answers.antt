@@ -13,6 +13,7 @@ use Rattle.lock_free_sets.proofs.mpmc.bit_set.calls.BitSet.set.Goals as goal
 pub drive_on-end-requires-clause-rule : goal.drive_on-end-requires-clause-rule
 drive_on-end-requires-clause-rule g c = set_keeps c.args.id
 
+-- the set is about to begin, as a call that its set does not refuse
 pub drive_on-end-requires-clause-at : goal.drive_on-end-requires-clause-at
 drive_on-end-requires-clause-at g c =
     let mine = c.args.pass.now in
@@ -27,6 +28,8 @@ returns-clause-same g c =
     same_pass (search rules)
     (done kinds.Bits (sets_place c.args.id) (λ o p h. h) (seen c.args.pass.now.seated) (seen end.new.self) end.result end.new.room end.ensures.end)
 
+-- the call set the place where it answered true, and where it answered false the place stood at a
+-- moment of it
 pub returns-clause-added : goal.returns-clause-added
 returns-clause-added g c =
     let base = seen c.args.pass.now.seated in

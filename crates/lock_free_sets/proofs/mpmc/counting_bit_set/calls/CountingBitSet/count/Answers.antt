@@ -12,6 +12,7 @@ use Rattle.lock_free_sets.proofs.mpmc.counting_bit_set.calls.CountingBitSet.coun
 pub drive-end-requires-clause-rule : goal.drive-end-requires-clause-rule
 drive-end-requires-clause-rule c = look_keeps c.args.id
 
+-- the look is about to begin, as a call that its set does not refuse
 pub drive-end-requires-clause-at : goal.drive-end-requires-clause-at
 drive-end-requires-clause-at c =
     let mine = c.args.pass.now in
@@ -25,6 +26,7 @@ returns-clause-same c =
     same_pass (search rules)
     (done kinds.Counts (looks_at c.args.id) (λ o p h. h) (seen c.args.pass.now.seated) (seen end.new.self) end.result end.new.room end.ensures.end)
 
+-- the call changed nothing, and answered the count of the place as it ended
 pub returns-clause-answer : goal.returns-clause-answer
 returns-clause-answer c =
     let base = seen c.args.pass.now.seated in

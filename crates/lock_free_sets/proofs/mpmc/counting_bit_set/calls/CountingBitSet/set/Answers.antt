@@ -13,6 +13,7 @@ use Rattle.lock_free_sets.proofs.mpmc.counting_bit_set.calls.CountingBitSet.set.
 pub drive-old-requires-clause-rule : goal.drive-old-requires-clause-rule
 drive-old-requires-clause-rule c = count_keeps c.args.id
 
+-- the call is about to begin, as one that its set does not refuse
 pub drive-old-requires-clause-at : goal.drive-old-requires-clause-at
 drive-old-requires-clause-at c =
     let mine = c.args.pass.now in
@@ -26,6 +27,7 @@ returns-clause-same c =
     same_pass (search rules)
     (done kinds.Counts (counts_place c.args.id) (λ o p h. h) (seen c.args.pass.now.seated) (seen old.new.self) old.result old.new.room old.ensures.end)
 
+-- the call counted the place, and answered the count just before, modulo 2^64
 pub returns-clause-counted : goal.returns-clause-counted
 returns-clause-counted c =
     let base = seen c.args.pass.now.seated in

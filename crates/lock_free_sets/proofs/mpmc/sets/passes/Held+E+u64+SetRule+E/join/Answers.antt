@@ -12,6 +12,7 @@ join-requires-clause-joins g c =
     joins one_word (machine_kind g.E.Kind.KIND) _ mine.seated.seat.id c.args.other.seated.seat.id mine.seated.seat.me.0
     c.args.other.seated.seat.me.0 mine.some.0 c.args.other.some.0 c.args.other.idle mine.alone c.args.other.alone
 
+-- the load after both are joined keeps the rule of the table, and tells what a look tells
 pub look-requires-clause-owes : goal.look-requires-clause-owes
 look-requires-clause-owes g c =
     let mine = c.args.self.now in

@@ -9,6 +9,7 @@ use Rattle.lock_free_value.specs.Calls.{seen}
 use Rattle.lock_free_value.proofs.Facts.{leaves, stored_if, at_end_if, store_takes}
 use Rattle.lock_free_value.proofs.spmc.unrestricted_atomic.calls.Held+T+ValueRule+T.store.Goals as goal
 
+-- each step of the store keeps the rule of the table, and tells what is known after it
 pub drive-end-requires-clause-rule : goal.drive-end-requires-clause-rule
 drive-end-requires-clause-rule g c base v call m key =
     let met = g.met.T.Words in
@@ -16,6 +17,7 @@ drive-end-requires-clause-rule g c base v call m key =
     record { some = met.some; few = met.few; sized = met.sized; given_back = met.given_back } in
     store_keeps (coding_by g.T.Words) law c.args.value.now base v call m 1
 
+-- the store is about to begin, as a call that its value does not refuse to the producer
 pub drive-end-requires-clause-at : goal.drive-end-requires-clause-at
 drive-end-requires-clause-at g c =
     let mine = c.args.self.now in
@@ -26,6 +28,7 @@ drive-end-requires-clause-at g c =
     subst (λ call. At code kinds.Atomic (stores_value code x) (seen mine) (seen mine) call tt) (sym c.new.ensures)
     (store_first code law x (seen mine) tt mine.idle mine.alone mine.some.0 c.requires)
 
+-- a store that answers true stored its value right after all that was seen to be stored
 pub returns-clause-stored : goal.returns-clause-stored
 returns-clause-stored g c is =
     let mine = c.args.self.now in
@@ -33,6 +36,7 @@ returns-clause-stored g c is =
     c.drive-end.new.self.seat.me.0 mine.idle mine.known c.args.value.now c.drive-end.result tt
     c.drive-end.ensures.end (sym c.answer.ensures ∙ is)
 
+-- a store that answers false was a look at a value whose version is the last
 pub returns-clause-end : goal.returns-clause-end
 returns-clause-end g c is =
     let mine = c.args.self.now in
@@ -40,6 +44,7 @@ returns-clause-end g c is =
     c.drive-end.new.self.seat.me.0 mine.idle mine.known c.args.value.now mine.alone mine.some.0 c.requires
     c.drive-end.result tt c.drive-end.ensures.end (sym c.answer.ensures ∙ is)
 
+-- the seat is of the same value, its view goes on, and at most one operation was no step of a call
 pub returns-clause-same : goal.returns-clause-same
 returns-clause-same g c =
     let mine = c.args.self.now in

@@ -11,6 +11,7 @@ use Rattle.lock_free_value.specs.ValueContracts.{HasLoaded}
 use Rattle.lock_free_value.proofs.Facts.{has_loaded, takes_here}
 use Rattle.lock_free_value.proofs.spmc.unrestricted_atomic.loads.Held+T+ValueRule+T.load_by.Goals as goal
 
+-- the load is about to begin with a room of zeros, as a call that its value does not refuse
 pub load_all-end-requires-clause-at : goal.load_all-end-requires-clause-at
 load_all-end-requires-clause-at g c =
     let mine = c.args.self.now in
@@ -21,6 +22,7 @@ load_all-end-requires-clause-at g c =
     let zeros = ap (room_of code.size) room.3 ∙ room_fresh code.size room.0 room.1 room.2 in
     load_first code law g.R.Room.words_in g.R.Room.with_word g.met.R.Room.put_in (seen mine) c.args.room zeros mine.idle mine.alone mine.some.0
 
+-- the load answered the value that was the last one stored at one moment of the call
 pub returns-clause-loaded : goal.returns-clause-loaded
 returns-clause-loaded g c =
     let mine = c.args.self.now in
@@ -30,6 +32,8 @@ returns-clause-loaded g c =
     (has_loaded code (seen mine) w mine.idle mine.known g.R.Room.words_in mine.begun c.load_all-end.result
     c.load_all-end.new.room c.load_all-end.ensures.ends)
 
+-- the load takes 2 operations and one for each word of the value, and for each change of a word
+-- that others make meanwhile 1 more and one for each word
 pub returns-clause-steps : goal.returns-clause-steps
 returns-clause-steps g c =
     let mine = c.args.self.now in

@@ -9,6 +9,7 @@ use Rattle.threaded.proofs.Shares.{positive}
 use Rattle.history.proofs.Passes.{joins}
 use Rattle.lock_free_value.proofs.spmc.unrestricted_atomic.passes.Held+T+ValueRule+T.join.Goals as goal
 
+-- that both seats are joined keeps the rule of the table
 pub join-requires-clause-joins : goal.join-requires-clause-joins
 join-requires-clause-joins g c =
     let mine = c.args.self.now in
@@ -16,6 +17,7 @@ join-requires-clause-joins g c =
     c.args.other.seated.seat.id mine.seated.seat.me.0 c.args.other.seated.seat.me.0 mine.some.0
     c.args.other.some.0 c.args.other.idle mine.alone c.args.other.alone
 
+-- the load after that keeps the rule of the table too, and tells what a look tells
 pub look-requires-clause-owes : goal.look-requires-clause-owes
 look-requires-clause-owes g c =
     let mine = c.args.self.now in

@@ -5,6 +5,7 @@ use Rattle.model.specs.declared.turn.Kind.TheVariants as kinds
 use Rattle.threaded.specs.Seats.{seen, table_of}
 use Rattle.lock_free_value.proofs.spmc.unrestricted_atomic.passes.Held+T+ValueRule+T.look.Goals as goal
 
+-- the load of the version keeps the rule of the table, and tells what a look tells
 pub look-requires-clause-owes : goal.look-requires-clause-owes
 look-requires-clause-owes g c =
     let mine = c.args.self.now in

@@ -1,0 +1,74 @@
+-- `count_once` (src/spsc/ring/lengths.rt): its calls of `step_count` meet the requirement `at`, and its return meets the clause `goes`.
+use Rattle.lock_free_queues.proofs.Names.{Coding, coding_by}
+use Rattle.threaded.specs.Seats.{seen}
+use Rattle.lock_free_queues.proofs.Queues.Measuring.{gone_on, has_ended}
+use Rattle.lock_free_queues.proofs.spsc.ring.lengths.count_once.Goals as goal
+
+pub step_count-one-requires-clause-at : goal.step_count-one-requires-clause-at
+step_count-one-requires-clause-at g c = (seen c.args.seat.now, c.requires.at)
+
+pub returns-in-Done-clause-goes : goal.returns-in-Done-clause-goes
+returns-in-Done-clause-goes g c =
+    let base = seen c.args.seat.now in
+    let a = c.step_count-one in
+    let code : Coding g.row.T.Denot = coding_by g.T.Words in
+    has_ended code g.E.Kind.KIND g.W.Measure.WHICH base (seen a.new.seat) a.result (a.ensures.goes base c.requires.at) c.in-Done.number c.in-Done.is
+
+pub step_count-two-requires-clause-at : goal.step_count-two-requires-clause-at
+step_count-two-requires-clause-at g c =
+    let base = seen c.args.seat.now in
+    let a = c.step_count-one in
+    let code : Coding g.row.T.Denot = coding_by g.T.Words in
+    (base, gone_on code g.E.Kind.KIND g.W.Measure.WHICH base (seen a.new.seat) a.result (a.ensures.goes base c.requires.at) c.in-GoOn.next c.in-GoOn.is)
+
+pub returns-in-Done-two-clause-goes : goal.returns-in-Done-two-clause-goes
+returns-in-Done-two-clause-goes g c =
+    let base = seen c.args.seat.now in
+    let a = c.step_count-one in
+    let b = c.step_count-two in
+    let code : Coding g.row.T.Denot = coding_by g.T.Words in
+    let at = gone_on code g.E.Kind.KIND g.W.Measure.WHICH base (seen a.new.seat) a.result (a.ensures.goes base c.requires.at) c.in-GoOn.next c.in-GoOn.is in
+    has_ended code g.E.Kind.KIND g.W.Measure.WHICH base (seen b.new.seat) b.result (b.ensures.goes base at) c.in-Done-two.number c.in-Done-two.is
+
+pub step_count-three-requires-clause-at : goal.step_count-three-requires-clause-at
+step_count-three-requires-clause-at g c =
+    let base = seen c.args.seat.now in
+    let a = c.step_count-one in
+    let b = c.step_count-two in
+    let code : Coding g.row.T.Denot = coding_by g.T.Words in
+    let at = gone_on code g.E.Kind.KIND g.W.Measure.WHICH base (seen a.new.seat) a.result (a.ensures.goes base c.requires.at) c.in-GoOn.next c.in-GoOn.is in
+    (base, gone_on code g.E.Kind.KIND g.W.Measure.WHICH base (seen b.new.seat) b.result (b.ensures.goes base at) c.in-GoOn-two.next c.in-GoOn-two.is)
+
+pub returns-in-Done-three-clause-goes : goal.returns-in-Done-three-clause-goes
+returns-in-Done-three-clause-goes g c =
+    let base = seen c.args.seat.now in
+    let a = c.step_count-one in
+    let b = c.step_count-two in
+    let d = c.step_count-three in
+    let code : Coding g.row.T.Denot = coding_by g.T.Words in
+    let at = gone_on code g.E.Kind.KIND g.W.Measure.WHICH base (seen a.new.seat) a.result (a.ensures.goes base c.requires.at) c.in-GoOn.next c.in-GoOn.is in
+    let then = gone_on code g.E.Kind.KIND g.W.Measure.WHICH base (seen b.new.seat) b.result (b.ensures.goes base at) c.in-GoOn-two.next c.in-GoOn-two.is in
+    has_ended code g.E.Kind.KIND g.W.Measure.WHICH base (seen d.new.seat) d.result (d.ensures.goes base then) c.in-Done-three.number c.in-Done-three.is
+
+pub step_count-requires-clause-at : goal.step_count-requires-clause-at
+step_count-requires-clause-at g c =
+    let base = seen c.args.seat.now in
+    let a = c.step_count-one in
+    let b = c.step_count-two in
+    let d = c.step_count-three in
+    let code : Coding g.row.T.Denot = coding_by g.T.Words in
+    let at = gone_on code g.E.Kind.KIND g.W.Measure.WHICH base (seen a.new.seat) a.result (a.ensures.goes base c.requires.at) c.in-GoOn.next c.in-GoOn.is in
+    let then = gone_on code g.E.Kind.KIND g.W.Measure.WHICH base (seen b.new.seat) b.result (b.ensures.goes base at) c.in-GoOn-two.next c.in-GoOn-two.is in
+    (base, gone_on code g.E.Kind.KIND g.W.Measure.WHICH base (seen d.new.seat) d.result (d.ensures.goes base then) c.in-GoOn-three.next c.in-GoOn-three.is)
+
+pub returns-clause-goes : goal.returns-clause-goes
+returns-clause-goes g c =
+    let base = seen c.args.seat.now in
+    let a = c.step_count-one in
+    let b = c.step_count-two in
+    let d = c.step_count-three in
+    let code : Coding g.row.T.Denot = coding_by g.T.Words in
+    let at = gone_on code g.E.Kind.KIND g.W.Measure.WHICH base (seen a.new.seat) a.result (a.ensures.goes base c.requires.at) c.in-GoOn.next c.in-GoOn.is in
+    let then = gone_on code g.E.Kind.KIND g.W.Measure.WHICH base (seen b.new.seat) b.result (b.ensures.goes base at) c.in-GoOn-two.next c.in-GoOn-two.is in
+    c.step_count.ensures.goes base
+    (gone_on code g.E.Kind.KIND g.W.Measure.WHICH base (seen d.new.seat) d.result (d.ensures.goes base then) c.in-GoOn-three.next c.in-GoOn-three.is)
