@@ -1,6 +1,6 @@
 -- What a wrong body of a call would leave or answer, and the clause that refuses it. A name says what the body does.
 use Rattle.std.proofs.Common.{◌≡◌, ◌≢◌, inl, inr, ◌+◌, ◌-◌, ◌^◌, ◌<◌, ◌≤◌, ℕ, zero, suc, Bool, true, false, Some, None, List, [], ◌∷◌, ◌++◌, length}
-use Rattle.std.proofs.Common.{refl, sym, ap, subst, ◌∙◌, arith, length-append, append-nil, true≢false}
+use Rattle.std.proofs.Common.{refl, sym, ap, subst, ◌∙◌, arith, is_some, length-append, append-nil, true≢false}
 use Rattle.std.proofs.lemmas.List.{append_cancel_left}
 use Rattle.model.specs.declared.event.Event.{Event}
 use Rattle.model.specs.declared.event.Event.TheVariants.{Published, HandedOut}
@@ -252,6 +252,15 @@ module _ {T : Type 0} (item : Item T) (v w : View T) where
   -- `pop_overflowing_within` takes a number out where no try is allowed
   pub pop_overflowing_within_takes_without_a_try : WasTakenWithin 0 item v w → ⊥
   pop_overflowing_within_takes_without_a_try h = (let few = h.few in absurd (omega arith))
+
+  -- it gives a number where the queue has no capacity, or looks there
+  pub pop_overflowing_within_gives_one_without_capacity : (capacity x : ℕ) → capacity ≡ 0 → (capacity ≡ 0 → Some x ≡ None) → ⊥
+  pop_overflowing_within_gives_one_without_capacity capacity x none says = true≢false (ap is_some (says none))
+
+  pub pop_overflowing_within_looks_without_capacity : (capacity : ℕ) → capacity ≡ 0 → w.asked ≡ v.asked + 1 → (capacity ≡ 0 → w ≡ v) → ⊥
+  pop_overflowing_within_looks_without_capacity capacity none looks says =
+      let same = ap (λ (u : View T). u.asked) (says none) in
+      absurd (omega arith)
 
   -- `pop_overflowing_waiting` answers a number, and has taken none out
   pub pop_overflowing_waiting_takes_none : (tries : ℕ) → WasTakenWithin tries item v w → length w.made ≡ length v.made → ⊥

@@ -40,7 +40,7 @@ module _ {T : Type 0} where
   IfValue arrival P = Unit {0}
 
   -- both lists have grown by the same values at their end
-  abbrev pub GainAlike : List T → List T → List T → List T → Type 0
+  abbrev pub GainAlike : (xs more_xs ys more_ys : List T) → Type 0
   GainAlike xs more_xs ys more_ys = (gained : List T) × (more_xs ≡ xs ++ gained) × (more_ys ≡ ys ++ gained)
 
   module _ {words : Ghosts (Element T)} where

@@ -6,23 +6,23 @@ use Rattle.lock_free_queues.specs.Queues.Contracts.{PushDone, PushRefused, PopDo
 
 module _ {A : Type 0} where
   -- so many steps, one after the other
-  abbrev pub Times : ℕ → (A → A → Type 0) → A → A → Type 0
+  abbrev pub Times : ℕ → (A → A → Type 0) → (old new : A) → Type 0
   Times zero Step old new = new ≡ old
   Times (suc n) Step old new = (between : A) × Times n Step old between × Step between new
 
 module _ {A B : Type 0} where
   -- one step for each of the list, in order
-  abbrev pub InTurn : (B → A → A → Type 0) → List B → A → A → Type 0
+  abbrev pub InTurn : (B → A → A → Type 0) → List B → (old new : A) → Type 0
   InTurn Step [] old new = new ≡ old
   InTurn Step (x ∷ xs) old new = (between : A) × Step x old between × InTurn Step xs between new
 
 module _ {T : Type 0} where
   -- so many pushes of the item were refused, one after the other
-  abbrev pub WereRefused : ℕ → ℕ → Item T → View T → View T → Type 0
+  abbrev pub WereRefused : (tries capacity : ℕ) → Item T → (old new : View T) → Type 0
   WereRefused tries capacity item old new = Times tries (PushRefused capacity item) old new
 
   -- so many pops found the queue empty, one after the other
-  abbrev pub WereEmpty : ℕ → View T → View T → Type 0
+  abbrev pub WereEmpty : ℕ → (old new : View T) → Type 0
   WereEmpty tries old new = Times tries PopEmpty old new
 
   -- one of so many pushes took the item, and all before it were refused
@@ -51,17 +51,17 @@ module _ {T : Type 0} where
 
 module _ {T V : Type 0} where
   -- the queue was found empty, if there is room left
-  abbrev pub WasEmptied : List V → View T → View T → Type 0
+  abbrev pub WasEmptied : List V → (old new : View T) → Type 0
   WasEmptied [] old new = new ≡ old
   WasEmptied (value ∷ values) old new = PopEmpty old new
 
 module _ {T V : Type 0} (named : V → Item T) where
   -- the values were pushed, one after the other
-  abbrev pub WerePushed : List V → View T → View T → Type 0
+  abbrev pub WerePushed : List V → (old new : View T) → Type 0
   WerePushed values old new = InTurn (λ value was now. PushDone (named value) was now) values old new
 
   -- the first of these was refused, if there is one
-  abbrev pub WasStopped : ℕ → List V → View T → View T → Type 0
+  abbrev pub WasStopped : ℕ → List V → (old new : View T) → Type 0
   WasStopped capacity [] old new = new ≡ old
   WasStopped capacity (value ∷ values) old new = PushRefused capacity (named value) old new
 
@@ -72,7 +72,7 @@ module _ {T V : Type 0} (named : V → Item T) where
     pub stopped : WasStopped capacity (drop count values) last new
 
   -- the values were popped, one after the other
-  abbrev pub WerePopped : List V → View T → View T → Type 0
+  abbrev pub WerePopped : List V → (old new : View T) → Type 0
   WerePopped values old new = InTurn (λ value was now. PopDone (named value) was now) values old new
 
   -- the values were popped, and then the queue was found empty, if there is room left

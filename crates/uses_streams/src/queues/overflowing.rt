@@ -1,5 +1,5 @@
 //! The calls of an overflowing queue's consumer.
-ghost use Rattle.std.specs.Prelude.{◌≡◌, ◌<◌, ℕ, IfSome, IfNone};
+ghost use Rattle.std.specs.Prelude.{◌≡◌, ◌<◌, ℕ, None, IfSome, IfNone};
 ghost use Rattle.model.specs.declared.event.Item.TheVariants.{Index};
 ghost use Rattle.lock_free_queues.specs.Queues.Contracts.{PopFoundNone};
 ghost use Rattle.lock_free_queues.specs.Queues.Overflowing.{consumer_queue, consumer_view};
@@ -26,7 +26,7 @@ pub fn pop_overflowing_waiting(rt: &impl Wait, consumer: &mut Consumer<'_>) -> u
 }
 
 /// Takes the oldest number, or returns None after so many tries, each of which found none. Between two tries others get a turn. A try
-/// has the steps of one pop (by no clause). This project's own.
+/// has the steps of one pop (by no clause). Where the queue has no capacity it returns None, and nothing changes. This project's own.
 pub fn pop_overflowing_within(
     rt: &impl Wait,
     consumer: &mut Consumer<'_>,
@@ -38,6 +38,8 @@ pub fn pop_overflowing_within(
         (λ x. WasTakenWithin tries (Index x) (consumer_view consumer.old) (consumer_view consumer.new)) }
     ensures empty { 0 < (consumer_queue consumer.old).capacity
         → IfNone result (Times tries PopFoundNone (consumer_view consumer.old) (consumer_view consumer.new)) }
+    ensures none { (consumer_queue consumer.old).capacity ≡ 0 → result ≡ None }
+    ensures still { (consumer_queue consumer.old).capacity ≡ 0 → consumer_view consumer.new ≡ consumer_view consumer.old }
 {
     for _empty in 0..tries {
         match consumer.pop(rt) {

@@ -1,5 +1,5 @@
 -- The pops before found none. The last one took the oldest number, so the queue has a capacity.
-use Rattle.std.proofs.Common.{◌<◌, refl, sym, ◌∙◌, subst, arith}
+use Rattle.std.proofs.Common.{◌<◌, refl, sym, ap, ◌∙◌, subst, arith}
 use Rattle.model.specs.declared.event.Item.TheVariants.{Index}
 use Rattle.lock_free_queues.specs.Queues.Overflowing.{consumer_queue, consumer_view}
 use Rattle.lock_free_queues.specs.Queues.Rings.{QueueId}
@@ -7,7 +7,7 @@ use Rattle.uses_streams.proofs.Tries.{has_capacity, keeps_share, none_all, none_
 use Rattle.uses_streams.proofs.queues.overflowing.pop_overflowing_within.Goals as goal
 
 pub loop-empty-init : goal.loop-empty-init
-loop-empty-init g c = record { queue = refl; share = refl; none = λ some. refl }
+loop-empty-init g c = record { queue = refl; share = refl; none = λ some. refl; still = λ none. refl }
 
 pub loop-empty-preserved : goal.loop-empty-preserved
 loop-empty-preserved g c =
@@ -20,6 +20,7 @@ loop-empty-preserved g c =
           λ some.
           none_more l._empty (consumer_view c.args.consumer.now) (consumer_view l.consumer) (consumer_view c.pop.new.self) (was.none some)
           (c.in-None.ensures.empty (subst (λ (q : QueueId). 0 < q.capacity) (sym was.queue) some));
+      still = λ none. c.pop.ensures.same.none (ap (λ (q : QueueId). q.capacity) was.queue ∙ none) ∙ was.still none;
     }
 
 pub returns-in-Some-clause-queue : goal.returns-in-Some-clause-queue
@@ -36,6 +37,21 @@ returns-in-Some-clause-taken g c =
     taken_within l._empty (consumer_view c.args.consumer.now) (consumer_view l.consumer) (consumer_view c.pop.new.self)
     (was.none (subst (λ (q : QueueId). 0 < q.capacity) was.queue here)) c.args.tries (Index c.in-Some.number) (omega arith)
     c.in-Some.ensures.popped
+
+-- where a pop gave a number, the queue has a capacity
+pub returns-in-Some-clause-none : goal.returns-in-Some-clause-none
+returns-in-Some-clause-none g c none =
+    let l = c.loop-empty in
+    let here = has_capacity (consumer_queue l.consumer).capacity c.pop.result c.in-Some.number c.in-Some.is c.pop.ensures.none in
+    let same = ap (λ (q : QueueId). q.capacity) l.invariant.queue in
+    absurd (omega arith)
+
+pub returns-in-Some-clause-still : goal.returns-in-Some-clause-still
+returns-in-Some-clause-still g c none =
+    let l = c.loop-empty in
+    let here = has_capacity (consumer_queue l.consumer).capacity c.pop.result c.in-Some.number c.in-Some.is c.pop.ensures.none in
+    let same = ap (λ (q : QueueId). q.capacity) l.invariant.queue in
+    absurd (omega arith)
 
 pub returns-clause-empty : goal.returns-clause-empty
 returns-clause-empty g c some =

@@ -1,4 +1,4 @@
--- each pop so far found none, if the queue has a capacity
+-- each pop so far found none, if the queue has a capacity, and else nothing has changed
 use Rattle.std.proofs.Common.{◌≡◌, ◌<◌}
 use Rattle.lock_free_queues.specs.Queues.Contracts.{PopFoundNone}
 use Rattle.lock_free_queues.specs.Queues.Overflowing.{consumer_queue, consumer_view}
@@ -11,4 +11,5 @@ invariant-loop-empty g l = record {
   share : (consumer_view l.consumer).share ≡ (consumer_view l.fn.consumer).share;
   none : 0 < (consumer_queue l.fn.consumer).capacity
       → Times l._empty PopFoundNone (consumer_view l.fn.consumer) (consumer_view l.consumer);
+  still : (consumer_queue l.fn.consumer).capacity ≡ 0 → consumer_view l.consumer ≡ consumer_view l.fn.consumer;
 }
