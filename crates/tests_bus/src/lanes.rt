@@ -137,28 +137,16 @@ impl Plays for Loans {
     }
 }
 
-/// A bus of so many lanes.
-fn of_lanes(rt: &(impl Threads + Wait + Sync), alloc: Global, lanes: usize) -> Result<(), Failure> {
-    let sizes = Sizes {
-        slots: ROOM,
-        subscribers: lanes,
-        queue: 2,
-    };
-    on_new_bus(rt, alloc, sizes, ROOM + 1, WORDS, &Lanes { lanes })?;
-    Ok(())
-}
-
 #[test]
-fn few_lanes(rt: HostRuntime) -> Result<(), Fail> {
-    for lanes in [1, 4, 9] {
-        of_lanes(&rt, rt.alloc(), lanes)?;
+fn few_and_many_lanes(rt: HostRuntime) -> Result<(), Fail> {
+    for lanes in [1, 4, 9, 63] {
+        let sizes = Sizes {
+            slots: ROOM,
+            subscribers: lanes,
+            queue: 2,
+        };
+        on_new_bus(&rt, rt.alloc(), sizes, ROOM + 1, WORDS, &Lanes { lanes })?;
     }
-    Ok(())
-}
-
-#[test]
-fn most_lanes(rt: HostRuntime) -> Result<(), Fail> {
-    of_lanes(&rt, rt.alloc(), 63)?;
     Ok(())
 }
 

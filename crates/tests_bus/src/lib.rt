@@ -18,4 +18,6 @@ mod threads;
 #[cfg(test)]
 mod turns;
 #[cfg(test)]
+mod waits;
+#[cfg(test)]
 mod words;

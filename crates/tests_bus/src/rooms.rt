@@ -29,14 +29,14 @@ pub enum Step {
     Publishes(u64, usize),
     /// Whether there is a slot to loan. The loan is kept where none was.
     Loans(bool),
+    /// Whether a slot comes by so many tries, whose loan is given up.
+    LoansBy(u64, bool),
     /// The first loan that was kept is given up.
     GivesUp,
     /// The subscriber reads the record of this number, and gives it back.
     Reads(Who, u64),
-    /// Nothing waits for the subscriber.
-    FindsNone(Who),
-    /// The subscriber receives a record, and keeps it.
-    Keeps(Who),
+    /// Whether a record comes to the subscriber by so many tries, who keeps it.
+    Gets(Who, u64, bool),
     /// The subscriber leaves.
     Leaves(Who),
     /// The subscriber dies.
@@ -55,8 +55,6 @@ pub enum Step {
     Forgets(Who),
     /// A loan is refused, since this slot is still read.
     IsStillRead(u32),
-    /// Of two tries to loan, the first finds this slot still read, and the second gets another. That loan is given up.
-    LoansPast(u32),
     /// The other subscriber still reads what the first one has given back. So its slot is not loaned, and can be reclaimed once it is
     /// read no more.
     ReadsOn,
@@ -152,16 +150,6 @@ fn is_still_read(rt: &impl Wait, publisher: &mut Publisher<'_, Words>, slot: u32
     }
 }
 
-/// Whether of two tries to loan one gets another slot than this.
-fn loan_past(rt: &impl Wait, publisher: &mut Publisher<'_, Words>, slot: u32) -> bool {
-    let Some(loan) = publisher.loan_within(rt, 2) else {
-        return false;
-    };
-    let is_other = loan.slot() != slot;
-    publisher.give_up(loan);
-    is_other
-}
-
 /// Whether there is a slot, of which a loan is kept where none was.
 fn keep_loan<'a>(
     rt: &impl Wait,
@@ -176,6 +164,17 @@ fn keep_loan<'a>(
             true
         }
         Err(_) => false,
+    }
+}
+
+/// Whether there is a slot by so many tries, of which the loan is given up.
+fn try_loan(rt: &impl Wait, publisher: &mut Publisher<'_, Words>, tries: u64) -> bool {
+    match publisher.loan_within(rt, tries) {
+        Some(loan) => {
+            publisher.give_up(loan);
+            true
+        }
+        None => false,
     }
 }
 
@@ -237,12 +236,8 @@ impl<'a> Room<'a> {
                 Some(subscriber) => read(rt, subscriber, number, WORDS).is_some(),
                 None => false,
             },
-            Step::FindsNone(who) => match self.subscriber(who) {
-                Some(subscriber) => subscriber.receive(rt).is_none(),
-                None => false,
-            },
-            Step::Keeps(who) => match self.subscriber(who) {
-                Some(subscriber) => subscriber.receive(rt).is_some(),
+            Step::Gets(who, tries, some) => match self.subscriber(who) {
+                Some(subscriber) => subscriber.receive_within(rt, tries).is_some() == some,
                 None => false,
             },
             Step::Forgets(who) => match self.subscriber(who) {
@@ -270,6 +265,7 @@ impl<'a> Room<'a> {
             Step::HasSeat(free) => publisher.seat().is_some() == free,
             Step::Publishes(number, reached) => publish(rt, publisher, number)? == reached,
             Step::Loans(some) => keep_loan(rt, publisher, &mut self.loan) == some,
+            Step::LoansBy(tries, some) => try_loan(rt, publisher, tries) == some,
             Step::GivesUp => match self.loan.take() {
                 Some(loan) => {
                     publisher.give_up(loan);
@@ -280,7 +276,6 @@ impl<'a> Room<'a> {
             Step::DropsLoan => self.loan.take().is_some(),
             Step::Reclaims(slot, free) => publisher.reclaim(slot).is_ok() == free,
             Step::IsStillRead(slot) => is_still_read(rt, publisher, slot),
-            Step::LoansPast(slot) => loan_past(rt, publisher, slot),
             Step::ReadsOn => read_on(rt, publisher, self),
             Step::IsNext(number) => publisher.next_number() == number,
             Step::Recovers(number) => match OwnerId::new(number) {

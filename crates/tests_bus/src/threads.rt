@@ -1,7 +1,8 @@
-//! A publisher and three subscribers side by side: one is slow, one dies with slots in hand, and one joins late.
+//! A publisher and three subscribers side by side: one is slow, one dies with slots in hand, and one joins late. They wait for slots
+//! and for records by calls of the bus.
 ghost use Rattle.std.specs.Prelude.{◌≡◌, IfSome};
 
-use crate::limit::{Enough, Limit, wait_for};
+use crate::limit::wait_for;
 use crate::stage::Failure;
 use crate::words::{OwnNumber, Words, is_whole, spares, write};
 use lock_free::mpmc::container::OwnerId;
@@ -11,24 +12,51 @@ use std::sync::atomic::{AtomicU64, Ordering};
 use std::test::Fail;
 use std::thread;
 use std::thread::Threads;
-use std::time::Clock;
 use zero_copy_bus::bus::{Bus, Sizes};
 use zero_copy_bus::news::{News, Notifier};
 use zero_copy_bus::numbers::Sequence;
-use zero_copy_bus::publisher::{Loan, Publisher};
+use zero_copy_bus::publisher::Publisher;
 use zero_copy_bus::subscriber::{Sample, Seat, Subscriber};
 
 /// Before which record the late one joins, and the dead one has died.
 const MIDDLE: u64 = 1_000;
 
-/// How many records are published at least, and how many where there is time.
+/// How many records are published before the publisher waits for nobody any more, and how many in all.
 const LEAST: u64 = 2_000;
 
-const RECORDS: u64 = 100_000;
+const RECORDS: u64 = 4_000;
 
-/// After which of the least records the publisher waits until the slow one, and later the late one, has got one more: each
+/// After which of the first records the publisher waits until the slow one, and later the late one, has got one more: each
 /// one of so many.
 const EVERY: u64 = 16;
+
+/// Records that are published one after another, up to an end, and at which of them the publisher waits for somebody: each one of
+/// so many.
+#[derive(Clone, Copy)]
+struct Part {
+    first: u64,
+    end: u64,
+    every: u64,
+}
+
+const BEFORE_DEATH: Part = Part {
+    first: 0,
+    end: MIDDLE,
+    every: EVERY,
+};
+
+const AFTER_DEATH: Part = Part {
+    first: MIDDLE,
+    end: LEAST,
+    every: EVERY,
+};
+
+/// At none of these.
+const REST: Part = Part {
+    first: LEAST,
+    end: RECORDS,
+    every: RECORDS,
+};
 
 /// How many records the one who dies keeps in hand.
 const KEPT: u64 = 3;
@@ -50,7 +78,6 @@ struct Shared {
     joined: AtomicU64,
     dead: AtomicU64,
     left: AtomicU64,
-    is_over: AtomicU64,
     /// How many records came to the slow one, and to the late one.
     slow: AtomicU64,
     late: AtomicU64,
@@ -63,33 +90,13 @@ impl Drop for Shared {
             joined: _joined,
             dead: _dead,
             left: _left,
-            is_over: _is_over,
             slow: _slow,
             late: _late,
         } = self;
     }
 }
 
-/// A free slot, as soon as there is one. None at the limit.
-fn next_loan<'a>(
-    rt: &impl Wait,
-    publisher: &mut Publisher<'a, Words, OwnNumber>,
-) -> Option<Loan<'a, Words, OwnNumber>> {
-    let mut limit = Limit::new();
-    for _ in 0..u64::MAX {
-        if let Ok(loan) = publisher.loan(rt) {
-            return Some(loan);
-        }
-        publisher.collect();
-        if !limit.wait() {
-            return None;
-        }
-    }
-    None
-}
-
-/// Publishes a record of this number, tells of it, and takes back what has been given back. False where the next number is another,
-/// and where there is no memory.
+/// Publishes a record of this number, and tells of it. False where the next number is another, and where there is no memory.
 fn publish(
     rt: &impl Wait,
     publisher: &mut Publisher<'_, Words, OwnNumber>,
@@ -97,32 +104,25 @@ fn publish(
     number: u64,
 ) -> bool {
     publisher.update(rt);
-    let Some(mut loan) = next_loan(rt, publisher) else {
-        return false;
-    };
+    let mut loan = publisher.loan_waiting(rt);
     let is_written = write(&mut loan.value, number);
     let next = publisher.next_number();
     loan.value.number = next;
     publisher.publish(loan);
-    if !is_written || next != number {
-        return false;
-    }
     notifier.notify(rt, 0);
-    publisher.collect();
-    true
+    is_written && next == number
 }
 
-/// Publishes these records, and waits at some of them until this one has got one more: whether all went well.
-fn publish_least(
+/// Publishes these records, and waits at some of them until this subscriber has got one more: whether all went well.
+fn publish_part(
     rt: &impl Wait,
     publisher: &mut Publisher<'_, Words, OwnNumber>,
     notifier: &mut Notifier<'_>,
-    first: u64,
-    end: u64,
+    part: Part,
     came: &AtomicU64,
     shared: &Shared,
 ) -> bool {
-    for number in first..end {
+    for number in part.first..part.end {
         let before = came.load(Ordering::SeqCst);
         if !publish(rt, publisher, notifier, number) {
             return false;
@@ -130,74 +130,44 @@ fn publish_least(
         shared
             .published
             .store(number.wrapping_add(1), Ordering::SeqCst);
-        if number % EVERY == 0 && !wait_for(came, before.wrapping_add(1)) {
+        if number.checked_rem(part.every) == Some(0) && !wait_for(came, before.wrapping_add(1)) {
             return false;
         }
     }
     true
 }
 
-/// Publishes records from the least on, as many as it can until it is enough: how many there are then.
-fn publish_more(
-    rt: &(impl Wait + Clock),
-    publisher: &mut Publisher<'_, Words, OwnNumber>,
-    notifier: &mut Notifier<'_>,
-    shared: &Shared,
-) -> u64 {
-    let mut enough = Enough::new(rt);
-    for number in LEAST..RECORDS {
-        if !enough.has_time(rt) || !publish(rt, publisher, notifier, number) {
-            return number;
-        }
-        shared
-            .published
-            .store(number.wrapping_add(1), Ordering::SeqCst);
-        if number % EVERY == 0 {
-            thread::yield_now();
-        }
-    }
-    RECORDS
-}
-
-/// What the publisher tells of a run: how many records he published, and how many slots were out. He counts those once one
-/// has died, and in the end.
-#[derive(Drop)]
+/// What the publisher tells of a run: how many slots were out once one had died, and in the end.
+#[derive(Clone, Copy)]
 struct Published {
-    number: u64,
     out_at_death: usize,
     out: usize,
 }
 
 /// Publishes all records, takes out the one who has died, and waits until the others have left.
 fn publish_all(
-    rt: &(impl Wait + Clock),
+    rt: &impl Wait,
     publisher: &mut Publisher<'_, Words, OwnNumber>,
     notifier: &mut Notifier<'_>,
     dead: OwnerId,
     shared: &Shared,
 ) -> Option<Published> {
-    if !wait_for(&shared.joined, 2) {
-        return None;
-    }
-    if !publish_least(rt, publisher, notifier, 0, MIDDLE, &shared.slow, shared) {
-        return None;
-    }
-    if !wait_for(&shared.dead, 1) || !wait_for(&shared.joined, 3) {
+    let has_died = wait_for(&shared.joined, 2)
+        && publish_part(rt, publisher, notifier, BEFORE_DEATH, &shared.slow, shared)
+        && wait_for(&shared.dead, 1)
+        && wait_for(&shared.joined, 3);
+    if !has_died {
         return None;
     }
     let out_at_death = publisher.borrowed();
     publisher.recover(rt, dead);
-    if !publish_least(rt, publisher, notifier, MIDDLE, LEAST, &shared.late, shared) {
-        return None;
-    }
-    let number = publish_more(rt, publisher, notifier, shared);
-    shared.is_over.store(1, Ordering::SeqCst);
-    if !wait_for(&shared.left, 2) {
+    let are_out = publish_part(rt, publisher, notifier, AFTER_DEATH, &shared.late, shared)
+        && publish_part(rt, publisher, notifier, REST, &shared.late, shared);
+    if !are_out || !wait_for(&shared.left, 2) {
         return None;
     }
     publisher.update(rt);
     Some(Published {
-        number,
         out_at_death,
         out: publisher.borrowed(),
     })
@@ -216,25 +186,6 @@ fn numbers_of(subscriber: &Subscriber<'_, Words, OwnNumber>, sample: &Sample) ->
     Some((reading.number(), words.number))
 }
 
-/// Receives what comes next. None where it is over and nothing comes any more, and at the limit.
-fn next(
-    rt: &impl Wait,
-    subscriber: &mut Subscriber<'_, Words, OwnNumber>,
-    shared: &Shared,
-) -> Option<Sample> {
-    let mut limit = Limit::new();
-    for _ in 0..u64::MAX {
-        let is_over = shared.is_over.load(Ordering::SeqCst) == 1;
-        if let Some(sample) = subscriber.receive(rt) {
-            return Some(sample);
-        }
-        if is_over || !limit.wait() {
-            return None;
-        }
-    }
-    None
-}
-
 /// The number of a record, which is read so often more. None where it was torn, or has changed.
 fn number_still(
     subscriber: &Subscriber<'_, Words, OwnNumber>,
@@ -251,20 +202,17 @@ fn number_still(
     Some(found)
 }
 
-/// Receives records until it is over, reads each so often more, and gives it back: how many came, which it also tells as they
-/// come. None where one was torn or did not come in order.
+/// Receives records until the last one, reads each so often more, and gives it back: how many came, which it also tells as they
+/// come. None where one was torn or did not come in order. (Nothing pushes the last one out.)
 fn receive_all(
     rt: &impl Wait,
     subscriber: &mut Subscriber<'_, Words, OwnNumber>,
     looks: u64,
     came: &AtomicU64,
-    shared: &Shared,
 ) -> Option<u64> {
     let (mut number, mut numbers) = (0u64, Sequence::from(0));
-    for _ in 0..u64::MAX {
-        let Some(sample) = next(rt, subscriber, shared) else {
-            return Some(number);
-        };
+    for _ in 0..RECORDS {
+        let sample = subscriber.receive_waiting(rt);
         let found = number_still(subscriber, &sample, looks)?;
         numbers.follow(found)?;
         if !subscriber.give_back(sample) {
@@ -272,6 +220,9 @@ fn receive_all(
         }
         number = number.wrapping_add(1);
         came.store(number, Ordering::SeqCst);
+        if found == RECORDS - 1 {
+            return Some(number);
+        }
     }
     None
 }
@@ -291,7 +242,7 @@ fn subscribe(
     }
     let mut subscriber = seat.join(rt, owner).ok()?;
     shared.joined.fetch_add(1, Ordering::SeqCst);
-    let number = receive_all(rt, &mut subscriber, looks, came, shared)?;
+    let number = receive_all(rt, &mut subscriber, looks, came)?;
     subscriber.leave(rt).ok()?;
     shared.left.fetch_add(1, Ordering::SeqCst);
     Some(number)
@@ -307,7 +258,7 @@ fn die(
     let mut subscriber = seat.join(rt, owner).ok()?;
     shared.joined.fetch_add(1, Ordering::SeqCst);
     for _ in 0..KEPT {
-        next(rt, &mut subscriber, shared)?;
+        subscriber.receive_waiting(rt);
     }
     drop(subscriber);
     shared.dead.fetch_add(1, Ordering::SeqCst);
@@ -315,7 +266,7 @@ fn die(
 }
 
 /// What came of a run. Besides what the publisher tells it is how many records came to the slow one and to the late one.
-#[derive(Drop)]
+#[derive(Clone, Copy)]
 struct Came {
     published: Published,
     slow: u64,
@@ -323,7 +274,7 @@ struct Came {
 }
 
 /// Runs the four threads.
-fn run<R: Threads + Wait + Clock + Sync>(
+fn run<R: Threads + Wait + Sync>(
     rt: &R,
     publisher: &mut Publisher<'_, Words, OwnNumber>,
     notifier: &mut Notifier<'_>,
@@ -359,7 +310,7 @@ fn run<R: Threads + Wait + Clock + Sync>(
 }
 
 /// The same with three seats of this publisher, and whether the topic was told of in the end.
-fn run_and_hear<R: Threads + Wait + Clock + Sync>(
+fn run_and_hear<R: Threads + Wait + Sync>(
     rt: &R,
     publisher: &mut Publisher<'_, Words, OwnNumber>,
     news: &mut News,
@@ -370,7 +321,6 @@ fn run_and_hear<R: Threads + Wait + Clock + Sync>(
         joined: AtomicU64::new(0),
         dead: AtomicU64::new(0),
         left: AtomicU64::new(0),
-        is_over: AtomicU64::new(0),
         slow: AtomicU64::new(0),
         late: AtomicU64::new(0),
     };
@@ -381,7 +331,7 @@ fn run_and_hear<R: Threads + Wait + Clock + Sync>(
 }
 
 /// The same on a new bus.
-fn run_anew<R: Threads + Wait + Clock + Sync>(
+fn run_anew<R: Threads + Wait + Sync>(
     rt: &R,
     alloc: Global,
     owners: [OwnerId; 3],
@@ -399,12 +349,10 @@ fn run_anew<R: Threads + Wait + Clock + Sync>(
 fn all_slots_are_free_in_the_end(rt: HostRuntime) -> Result<(), Fail> {
     let owners = [OwnerId::new(1)?, OwnerId::new(2)?, OwnerId::new(3)?];
     let (came, is_told) = run_anew(&rt, rt.alloc(), owners)?.ok_or("one gave up")?;
-    let number = came.published.number;
     assert_eq!(rt; came.published.out, 0);
     assert!(rt; came.published.out_at_death >= KEPT as usize);
-    assert!(rt; number >= LEAST);
-    assert!(rt; came.slow >= MIDDLE / EVERY && came.slow <= number);
-    assert!(rt; came.late >= (LEAST - MIDDLE) / EVERY && came.late <= number - MIDDLE);
+    assert!(rt; came.slow >= MIDDLE / EVERY && came.slow <= RECORDS);
+    assert!(rt; came.late >= (LEAST - MIDDLE) / EVERY && came.late <= RECORDS - MIDDLE);
     assert!(rt; is_told);
     Ok(())
 }

@@ -1,7 +1,7 @@
 //! Rows of steps on a bus, taken by one thread.
 use crate::rooms::Step::{
-    Collects, Dies, DropsLoan, FindsNone, Forgets, GivesUp, HasSeat, IsNext, IsStillRead, Joins,
-    Keeps, Leaves, Loans, LoansPast, Out, Publishes, Reads, ReadsOn, Reclaims, Recovers, Updates,
+    Collects, Dies, DropsLoan, Forgets, Gets, GivesUp, HasSeat, IsNext, IsStillRead, Joins, Leaves,
+    Loans, LoansBy, Out, Publishes, Reads, ReadsOn, Reclaims, Recovers, Updates,
 };
 use crate::rooms::Who::{One, Other};
 use crate::rooms::{Row, SIZES, Step, WORDS};
@@ -24,7 +24,7 @@ const BOTH: [Step; 9] = [
     Reads(Other, 7),
     Collects,
     Out(0),
-    FindsNone(One),
+    Gets(One, 1, false),
 ];
 
 /// Two wait for one who is slow, and what was sent before came back.
@@ -37,7 +37,7 @@ const SLOW: [Step; 11] = [
     Out(2),
     Reads(One, 3),
     Reads(One, 4),
-    FindsNone(One),
+    Gets(One, 1, false),
     Collects,
     Out(0),
 ];
@@ -63,7 +63,7 @@ const LEFT: [Step; 14] = [
     Publishes(0, 2),
     Publishes(1, 2),
     Publishes(2, 2),
-    Keeps(One),
+    Gets(One, 1, true),
     Reads(One, 2),
     Leaves(One),
     Leaves(Other),
@@ -79,7 +79,7 @@ const LEFT: [Step; 14] = [
 /// What one who died had comes back once he is recovered, and not before; nor is his place free.
 const DEAD: [Step; 17] = [
     Publishes(0, 2),
-    Keeps(Other),
+    Gets(Other, 1, true),
     Publishes(1, 2),
     Dies(Other),
     Reads(One, 0),
@@ -93,7 +93,7 @@ const DEAD: [Step; 17] = [
     Joins(Other, 3),
     Publishes(2, 2),
     Reads(Other, 2),
-    FindsNone(Other),
+    Gets(Other, 1, false),
     Reads(One, 2),
 ];
 
@@ -143,8 +143,65 @@ const FORGOTTEN: [Step; 10] = [
     IsNext(2),
 ];
 
-/// A loan that is tried for again gets another slot than one whose reading is forgotten, which stays out.
-const FORGOTTEN_PAST: [Step; 4] = [Publishes(0, 1), Forgets(One), LoansPast(0), Out(1)];
+/// A try that gets no slot since it finds one whose reading is forgotten leaves that out, and the next gets another. No record is lost
+/// but that which lies there.
+const FORGOTTEN_PAST: [Step; 9] = [
+    Publishes(0, 1),
+    Forgets(One),
+    LoansBy(1, false),
+    Out(1),
+    LoansBy(1, true),
+    Out(1),
+    Reclaims(0, false),
+    LoansBy(70, true),
+    Out(1),
+];
+
+/// So two tries of one call get another, too.
+const FORGOTTEN_BY_TWO: [Step; 4] = [Publishes(0, 1), Forgets(One), LoansBy(2, true), Out(1)];
+
+/// Who may not try takes nothing. A try to loan takes back what was given back. Where nothing comes by any number of tries, nothing has
+/// changed.
+const LIMITS: [Step; 38] = [
+    LoansBy(0, false),
+    LoansBy(1, true),
+    Out(0),
+    Gets(One, 0, false),
+    Gets(One, 1, false),
+    Gets(One, 70, false),
+    Publishes(0, 1),
+    Gets(One, 0, false),
+    Reads(One, 0),
+    Publishes(1, 1),
+    Publishes(2, 1),
+    Gets(One, 70, true),
+    Reads(One, 2),
+    Gets(One, 70, false),
+    Loans(true),
+    Loans(true),
+    Loans(true),
+    Loans(true),
+    Loans(true),
+    Out(8),
+    Loans(false),
+    LoansBy(0, false),
+    Out(8),
+    LoansBy(1, true),
+    Out(6),
+    Loans(true),
+    Loans(true),
+    Out(8),
+    LoansBy(0, false),
+    LoansBy(1, false),
+    LoansBy(70, false),
+    Out(8),
+    IsNext(3),
+    GivesUp,
+    LoansBy(70, true),
+    Out(7),
+    Publishes(3, 1),
+    Reads(One, 3),
+];
 
 /// The slot of a loan that was dropped is free once it is reclaimed. That of a loan in hand is not.
 const DROPPED: [Step; 9] = [
@@ -215,7 +272,7 @@ const RECORDS: usize = 16;
 #[test]
 fn rows(rt: HostRuntime) -> Result<(), Fail> {
     // (and how many records are left at least)
-    let rows: [(&str, &[Step], &[Step], usize, usize); 15] = [
+    let rows: [(&str, &[Step], &[Step], usize, usize); 17] = [
         ("BOTH", &JOIN, &BOTH, 100, 0),
         ("SLOW", &JOIN_ONE, &SLOW, 3, 0),
         ("LOANS", &[], &LOANS, 1, 0),
@@ -224,7 +281,15 @@ fn rows(rt: HostRuntime) -> Result<(), Fail> {
         ("GIVEN", &JOIN, &GIVEN, 1, 0),
         ("SEATS", &[], &SEATS, 1, 0),
         ("FORGOTTEN", &JOIN_ONE, &FORGOTTEN, 1, 0),
-        ("FORGOTTEN_PAST", &JOIN_ONE, &FORGOTTEN_PAST, 1, 0),
+        ("FORGOTTEN_PAST", &JOIN_ONE, &FORGOTTEN_PAST, 1, RECORDS - 1),
+        (
+            "FORGOTTEN_BY_TWO",
+            &JOIN_ONE,
+            &FORGOTTEN_BY_TWO,
+            1,
+            RECORDS - 1,
+        ),
+        ("LIMITS", &JOIN_ONE, &LIMITS, 1, 0),
         ("DROPPED", &[], &DROPPED, 1, 0),
         ("DROPPED_OTHER", &[], &DROPPED_OTHER, 1, 0),
         ("READ_ON", &JOIN, &READ_ON, 17, 0),

@@ -1,7 +1,7 @@
 //! Calls of the bus once more, each with a clause that the program has no use for, so that the clause cannot go out of the call
 //! unnoticed. What a wrong body would leave, and the clause refuses, stands in `proofs/WrongBodies.antt`, `WrongRejoins.antt`,
 //! `WrongSubscribers.antt` and `WrongTries.antt` of the bus.
-ghost use Rattle.std.specs.Prelude.{◌≡◌, ◌<◌, Bool, List, ℕ, [], ◌∷◌, true, false, Some, slice_get, slice_set, IfErr, IfNone, IfOk, IfSome};
+ghost use Rattle.std.specs.Prelude.{◌≡◌, ◌+◌, ◌<◌, Bool, List, ℕ, [], ◌∷◌, true, false, Some, slice_get, slice_set, IfErr, IfNone, IfOk, IfSome, OnErr};
 ghost use Rattle.lock_free.specs.Robust.Contracts.{WasFreed};
 ghost use Rattle.zero_copy_bus.specs.Books.{IsLoaned};
 ghost use Rattle.zero_copy_bus.specs.Ends.{expected_at, layout_at, loaned, number_of, numbers_of, slots_at, slots_of, CanSendToAll, HasHad, HasTried, TookOut};
@@ -84,17 +84,26 @@ pub fn borrowed<X: Drop, K: Keeps<X>>(publisher: &mut Publisher<'_, X, K>) -> us
     publisher.borrowed()
 }
 
-/// Where a loan is refused since there is no record, there is none.
+/// Where a loan is refused since there is no record, there is none. No refused loan uses a record up.
 pub fn loan<'a, X: Drop, K: Keeps<X>>(
     publisher: &mut Publisher<'a, X, K>,
     rt: &impl Wait,
 ) -> Result<Loan<'a, X, K>, LoanFailure>
+    ensures kept { OnErr result (spares_in publisher.new ≡ spares_in publisher.old) }
     ensures refused { IfErr result (IsTakenFor (spares_in publisher.old) (table_of publisher.old) (table_of publisher.new)) }
 {
     publisher.loan(rt)
 }
 
-/// A loan that is waited for is of a slot that was not on loan, and that no subscriber has. No record is sent meanwhile.
+/// What comes back uses no record up.
+pub fn collect<X: Drop, K: Keeps<X>>(publisher: &mut Publisher<'_, X, K>)
+    ensures spares { spares_in publisher.new ≡ spares_in publisher.old }
+{
+    publisher.collect();
+}
+
+/// A loan that is waited for is of a slot that was not on loan, and that no subscriber has. No record is sent meanwhile, none is used
+/// up but that of the loan, and of a subscriber's slots those alone are taken back that came back.
 pub fn loan_waiting<'a, X: Drop, K: Keeps<X>>(
     publisher: &mut Publisher<'a, X, K>,
     rt: &impl Wait,
@@ -103,6 +112,7 @@ pub fn loan_waiting<'a, X: Drop, K: Keeps<X>>(
     ensures fresh { ¬ IsLoaned (table_of publisher.old) (loaned result) }
     ensures loaned { IsLoaned (table_of publisher.new) (loaned result) }
     ensures can { CanSendToAll publisher.new (loaned result) }
+    ensures spares { spares_in publisher.new + 1 ≡ spares_in publisher.old }
     ensures tried { HasTried publisher.old publisher.new }
 {
     publisher.loan_waiting(rt)
@@ -118,6 +128,8 @@ pub fn loan_within<'a, X: Drop, K: Keeps<X>>(
     ensures fresh { IfSome result (λ l. ¬ IsLoaned (table_of publisher.old) (loaned l)) }
     ensures loaned { IfSome result (λ l. IsLoaned (table_of publisher.new) (loaned l)) }
     ensures can { IfSome result (λ l. CanSendToAll publisher.new (loaned l)) }
+    ensures spares { IfSome result (λ l. spares_in publisher.new + 1 ≡ spares_in publisher.old) }
+    ensures kept { IfNone result (spares_in publisher.new ≡ spares_in publisher.old) }
     ensures tried { HasTried publisher.old publisher.new }
 {
     publisher.loan_within(rt, tries)

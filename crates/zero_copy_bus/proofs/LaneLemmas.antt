@@ -113,6 +113,17 @@ pub placed_at : (lanes : List Outlet) (place : ℕ) (lane : Outlet) → HaveThei
     → slice_get lanes place ≡ Some lane → bit_of (holder_of lane) ≡ place + 1
 placed_at lanes place lane placed is = placed place (holder_of lane) (get_map holder_of lanes place lane is)
 
+-- a lane is named as before, where all are
+pub same_holder : (news olds : List Outlet) (place : ℕ) (new old : Outlet) → holders_in news ≡ holders_in olds
+    → slice_get news place ≡ Some new
+    → slice_get olds place ≡ Some old
+    → holder_of new ≡ holder_of old
+same_holder news olds place new old same got was =
+    let one : slice_get (holders_in news) place ≡ Some (holder_of new) = get_map holder_of news place new got in
+    let two : slice_get (holders_in olds) place ≡ Some (holder_of old) = get_map holder_of olds place old was in
+    let both : slice_get (holders_in news) place ≡ slice_get (holders_in olds) place = ap (λ hs. slice_get hs place) same in
+    cc
+
 -- so it is below a place, and from there on nothing has changed
 pub record DoneTo (R : Outlet → Outlet → Type 0) (n : ℕ) (olds news : List Outlet) : Type 0 where
   pub done : (k : ℕ) (old : Outlet) → k < n → slice_get olds k ≡ Some old

@@ -238,7 +238,9 @@ module _ {X K : Type 0} {rule : Ghosts K X} where
 
   -- calls that try to loan
   pub published_tried : (old new : Publisher X K rule) → HasTried old new → HasPublished old new
-  published_tried old new tried = published_by old new tried.same.layout tried.taking tried.next tried.passes
+  published_tried old new tried =
+      published_by old new tried.same.layout tried.taking tried.next
+      (λ place lane is. (let it = tried.back place lane is in (it.0, it.1, it.2.passes)))
 
   -- a publish
   has_number : (p : Publisher X K rule) (slot : ℕ) → HasNumber p slot ⊎ (HasNumber p slot → ⊥)

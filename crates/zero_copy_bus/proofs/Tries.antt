@@ -1,20 +1,28 @@
 -- Calls that try more than once: what further tries leave of what stood before.
-use Rattle.std.proofs.Common.{◌≡◌, ℕ, false, List, [], ◌++◌, Result, Ok, Err, IfOk, IfErr, refl, sym, ap, subst, ◌∙◌, ⊎_elim, arith}
+use Rattle.std.proofs.Common.{◌≡◌, ℕ, ◌<◌, false, List, [], ◌++◌, map, length, Result, Ok, Err, IfOk, IfErr, refl, sym, ap, subst, ◌∙◌, ⊎_elim, arith}
+use Rattle.std.proofs.Common.{append-nil, append_assoc}
 use Rattle.std.proofs.lemmas.Bool.{cases_eq}
+use Rattle.std.proofs.lemmas.List.{length-map, map-append}
+use Rattle.std.proofs.lemmas.List.Elements.{Contains-append_cases, Contains-append_left, Contains-append_right}
 use Rattle.std.proofs.lemmas.Nat.Bits.{bit_at-zero}
 use Rattle.std.specs.Int.{bit_at}
+use Rattle.std.specs.Prelude.{Contains}
+use Rattle.model.specs.declared.event.Item.TheVariants.{Index}
+use Rattle.model.specs.Families.Queues.Reading.{handed_out}
 use Rattle.zero_copy_bus.specs.declared.holders.Holders.{Holders}
 use Rattle.zero_copy_bus.specs.declared.loan.Loan.{Loan}
 use Rattle.zero_copy_bus.specs.declared.outlet.Outlet.{Outlet}
 use Rattle.zero_copy_bus.specs.declared.publisher.Publisher.{Publisher}
 use Rattle.zero_copy_bus.specs.declared.subscriber.Subscriber.{Subscriber}
-use Rattle.zero_copy_bus.specs.Books.{holders_at, ChangesAt, GainsNone, IsLoaned, KeepsLoans, LoansStay, SubscribersGainNone}
+use Rattle.zero_copy_bus.specs.Books.{holders_at, ChangesAt, GainsNone, HasSlot, IsLoaned, KeepsLoans, KeepsSlots, LoansStay}
+use Rattle.zero_copy_bus.specs.Books.{MoreLoansAreAlone, SubscribersGainNone}
 use Rattle.zero_copy_bus.specs.Ends.{lanes_of, loaned, next_of, slots_of, slots_at, table_of, HasHad, HasTried, IsSame, IsTakenFor}
-use Rattle.zero_copy_bus.specs.Holders.{is_held, publisher}
-use Rattle.zero_copy_bus.specs.Outlets.{open_in, EachLane, IsTakenBack, SamePasses}
+use Rattle.zero_copy_bus.specs.Holders.{bit_of, is_held, publisher}
+use Rattle.zero_copy_bus.specs.Outlets.{holder_of, holders_in, open_in, takes_view, EachLane, HasGivenBack, IsTakenBack, KeepsRest}
 use Rattle.zero_copy_bus.specs.declared.error.LoanFailure.{LoanFailure}
 use Rattle.zero_copy_bus.specs.declared.error.LoanFailure.TheVariants.{NoSlot, NoRecord, StillRead}
-use Rattle.zero_copy_bus.proofs.BookLemmas.{changes_keep, free_is, has_elsewhere}
+use Rattle.zero_copy_bus.proofs.BookLemmas.{changes_keep, free_is, had_elsewhere, has_elsewhere}
+use Rattle.zero_copy_bus.proofs.LaneLemmas.{same_holder}
 use Rattle.zero_copy_bus.proofs.Received.{had_still, had_then}
 use Rattle.zero_copy_slots.specs.declared.Keeps.{Ghosts}
 
@@ -42,23 +50,109 @@ gains_loan : (slot : ℕ) (old new : List Holders) → ChangesAt slot publisher 
 gains_loan slot old new changes other i some small has =
     sym (changes_keep slot publisher old new changes other i small (λ same. (let zero : i ≡ 0 = same in absurd (omega arith)))) ∙ has
 
--- what nobody holds is not on loan
-pub free_not_loaned : (table : List Holders) (slot : ℕ) → is_held (holders_at table slot) ≡ false → IsLoaned table slot → ⊥
-free_not_loaned table slot free on =
-    let none : bit_at (holders_at table slot).bits 0 ≡ bit_at 0 0 = ap (λ (h : Holders). bit_at h.bits 0) (free_is (holders_at table slot) free) in
-    let one : 1 ≡ 0 = sym on ∙ (none ∙ bit_at-zero 0) in
+-- what nobody holds has no bit
+free_bit : (table : List Holders) (slot i : ℕ) → is_held (holders_at table slot) ≡ false → bit_at (holders_at table slot).bits i ≡ 1 → ⊥
+free_bit table slot i free on =
+    let none : bit_at (holders_at table slot).bits i ≡ bit_at 0 i = ap (λ (h : Holders). bit_at h.bits i) (free_is (holders_at table slot) free) in
+    let one : 1 ≡ 0 = sym on ∙ (none ∙ bit_at-zero i) in
     absurd (omega arith)
+
+-- and is not on loan
+pub free_not_loaned : (table : List Holders) (slot : ℕ) → is_held (holders_at table slot) ≡ false → IsLoaned table slot → ⊥
+free_not_loaned table slot free on = free_bit table slot 0 free on
+
+-- what is on loan more
+alone_then : (one two three : List Holders) → MoreLoansAreAlone one two → MoreLoansAreAlone two three → SubscribersGainNone two three
+    → MoreLoansAreAlone one three
+alone_then one two three first second gains slot i on off some small has =
+    ⊎_elim (λ was. first slot i was off some small (gains slot i some small has)) (λ not. second slot i on not some small has)
+    (cases_eq (bit_at (holders_at two slot).bits 0) 1)
+
+alone_kept : (old new : List Holders) → KeepsLoans old new → MoreLoansAreAlone old new
+alone_kept old new keeps slot i on off some small has = off (sym (keeps slot) ∙ on)
+
+alone_loan : (slot : ℕ) (old new : List Holders) → is_held (holders_at old slot) ≡ false → ChangesAt slot publisher old new → MoreLoansAreAlone old new
+alone_loan slot old new free changes other i on off some small has =
+    ⊎_elim (λ same. free_bit old slot i free (subst (λ k. bit_at (holders_at old k).bits i ≡ 1) same had))
+    (λ differs. off (had_elsewhere slot publisher old new other changes differs on)) (cases_eq other slot)
+  where
+    had : bit_at (holders_at old other).bits i ≡ 1
+    had = sym (changes_keep slot publisher old new changes other i small (λ same. (let zero : i ≡ 0 = same in absurd (omega arith)))) ∙ has
+
+-- bits for which there is no lane
+rest_then : (olds news : List Outlet) (one two three : List Holders) → holders_in news ≡ holders_in olds → KeepsRest olds one two
+    → KeepsRest news two three
+    → KeepsRest olds one three
+rest_then olds news one two three same first second i long small slot =
+    let many : length news ≡ length olds = sym (length-map news holder_of) ∙ (ap length same ∙ length-map olds holder_of) in
+    second i (omega arith) small slot ∙ first i long small slot
+
+rest_loan : (slot : ℕ) (lanes : List Outlet) (old new : List Holders) → ChangesAt slot publisher old new → KeepsRest lanes old new
+rest_loan slot lanes old new changes i long small other =
+    changes_keep slot publisher old new changes other i small (λ same. (let zero : i ≡ 0 = same in absurd (omega arith)))
 
 -- ---- the lanes
 
-passes_none : (lanes : List Outlet) → EachLane SamePasses lanes lanes
-passes_none lanes place lane is = (lane, is, record { sends = refl; waits = refl })
+-- what has come back
+back_still : (before after : List Holders) (lane : Outlet) → KeepsSlots (holder_of lane) before after → HasGivenBack before after lane lane
+back_still before after lane keeps =
+    record {
+      numbers = [];
+      taken = sym (append-nil (handed_out (takes_view lane).seen));
+      has = λ slot. ((λ has. (sym (keeps slot) ∙ has, none slot)), (λ x. keeps slot ∙ x.0));
+      passes = record { sends = refl; waits = refl };
+    }
+  where
+    none : (slot : ℕ) → Contains [] slot → ⊥
+    none slot c = let lt : c.0 < 0 = c.1 in absurd (omega arith)
 
-passes_then : (one two three : List Outlet) → EachLane SamePasses one two → EachLane SamePasses two three → EachLane SamePasses one three
-passes_then one two three first second place lane is =
-    let middle = first place lane is in
-    let last = second place middle.0 middle.1 in
-    (last.0, last.1, record { sends = last.2.sends ∙ middle.2.sends; waits = last.2.waits ∙ middle.2.waits })
+back_then : (one two three : List Holders) (old mid new : Outlet) → holder_of mid ≡ holder_of old → HasGivenBack one two old mid
+    → HasGivenBack two three mid new
+    → HasGivenBack one three old new
+back_then one two three old mid new same first second =
+    record {
+      numbers = first.numbers ++ second.numbers;
+      taken =
+          second.taken
+          ∙ (ap (λ items. items ++ map Index second.numbers) first.taken
+          ∙ (append_assoc (handed_out (takes_view old).seen) (map Index first.numbers) (map Index second.numbers)
+          ∙ ap (λ items. handed_out (takes_view old).seen ++ items) (sym (map-append Index first.numbers second.numbers))));
+      has = λ slot. (forth slot, from slot);
+      passes = record { sends = second.passes.sends ∙ first.passes.sends; waits = second.passes.waits ∙ first.passes.waits };
+    }
+  where
+    forth : (slot : ℕ) → HasSlot three slot (holder_of old) → HasSlot one slot (holder_of old) × ¬ Contains (first.numbers ++ second.numbers) slot
+    forth slot has =
+        let x = (second.has slot).0 (subst (λ h. HasSlot three slot h) (sym same) has) in
+        let y = (first.has slot).0 (subst (λ h. HasSlot two slot h) same x.0) in
+        (y.0, λ c. ⊎_elim y.1 x.1 (Contains-append_cases first.numbers second.numbers slot c))
+
+    from : (slot : ℕ) → HasSlot one slot (holder_of old) × ¬ Contains (first.numbers ++ second.numbers) slot → HasSlot three slot (holder_of old)
+    from slot x =
+        let y = (first.has slot).1 (x.0, λ c. x.1 (Contains-append_left first.numbers second.numbers slot c)) in
+        let z = (second.has slot).1 (subst (λ h. HasSlot two slot h) (sym same) y, λ c. x.1 (Contains-append_right first.numbers second.numbers slot c)) in
+        subst (λ h. HasSlot three slot h) same z
+
+backs_still : (before after : List Holders) (lanes : List Outlet) → ((lane : Outlet) → KeepsSlots (holder_of lane) before after)
+    → EachLane (HasGivenBack before after) lanes lanes
+backs_still before after lanes keeps place lane is = (lane, is, back_still before after lane (keeps lane))
+
+backs_then : (one two three : List Holders) (olds mids news : List Outlet) → holders_in mids ≡ holders_in olds
+    → EachLane (HasGivenBack one two) olds mids
+    → EachLane (HasGivenBack two three) mids news
+    → EachLane (HasGivenBack one three) olds news
+backs_then one two three olds mids news holders first second place lane is =
+    let mid = first place lane is in
+    let last = second place mid.0 mid.1 in
+    let same : holder_of mid.0 ≡ holder_of lane = same_holder mids olds place mid.0 lane holders mid.1 is in
+    (last.0, last.1, back_then one two three lane mid.0 last.0 same mid.2 last.2)
+
+-- what the publisher alone changes is no subscriber's
+kept_by : (slot : ℕ) (old new : List Holders) (lane : Outlet) → ChangesAt slot publisher old new → KeepsSlots (holder_of lane) old new
+kept_by slot old new lane changes other =
+    let some : 0 < bit_of (holder_of lane) = lane.subscribes in
+    changes_keep slot publisher old new changes other (bit_of (holder_of lane)) lane.holder.within
+    (λ same. (let zero : bit_of (holder_of lane) ≡ 0 = same in absurd (omega arith)))
 
 module _ {X K : Type 0} {rule : Ghosts K X} where
   -- a publisher that stays the same by two calls stays so by both
@@ -83,8 +177,10 @@ module _ {X K : Type 0} {rule : Ghosts K X} where
   tried_none p =
       record {
         loans = λ slot on. on;
+        alone = λ slot i on off some small has. off on;
         gains = λ slot i some small has. has;
-        passes = passes_none (lanes_of p);
+        back = backs_still (table_of p) (table_of p) (lanes_of p) (λ lane slot. refl);
+        rest = λ i long small slot. refl;
         taking = refl;
         same = record { pool = record { set = refl; share = refl; slots = refl }; records = refl; layout = refl; lanes = refl };
         next = refl;
@@ -95,8 +191,12 @@ module _ {X K : Type 0} {rule : Ghosts K X} where
   tried_then p q r first second =
       record {
         loans = loans_then (table_of p) (table_of q) (table_of r) first.loans second.loans;
+        alone = alone_then (table_of p) (table_of q) (table_of r) first.alone second.alone second.gains;
         gains = gains_then (table_of p) (table_of q) (table_of r) first.gains second.gains;
-        passes = passes_then (lanes_of p) (lanes_of q) (lanes_of r) first.passes second.passes;
+        back =
+            backs_then (table_of p) (table_of q) (table_of r) (lanes_of p) (lanes_of q) (lanes_of r) first.same.lanes first.back
+            second.back;
+        rest = rest_then (lanes_of p) (lanes_of q) (table_of p) (table_of q) (table_of r) first.same.lanes first.rest second.rest;
         taking = second.taking ∙ first.taking;
         same = same_then p q r first.same second.same;
         next = second.next ∙ first.next;
@@ -104,41 +204,59 @@ module _ {X K : Type 0} {rule : Ghosts K X} where
 
   -- what was given back is taken back
   pub tried_collect : (p q : Publisher X K rule) → EachLane (IsTakenBack (slots_of p) (table_of p) (table_of q)) (lanes_of p) (lanes_of q)
+      → KeepsRest (lanes_of p) (table_of p) (table_of q)
       → GainsNone (table_of p) (table_of q) → KeepsLoans (table_of p) (table_of q) → open_in (lanes_of q) ≡ open_in (lanes_of p)
       → IsSame p q → next_of q ≡ next_of p → HasTried p q
-  tried_collect p q taken gains loans taking same next =
+  tried_collect p q taken rest gains loans taking same next =
       record {
         loans = loans_kept (table_of p) (table_of q) loans;
+        alone = alone_kept (table_of p) (table_of q) loans;
         gains = gains_none (table_of p) (table_of q) gains;
-        passes = λ place lane is. (let it = taken place lane is in (it.0, it.1, it.2.passes));
+        back =
+            λ place lane is.
+            (let it = taken place lane is in (
+              it.0,
+              it.1,
+              record { numbers = it.2.numbers; taken = it.2.taken; has = it.2.has; passes = it.2.passes },
+            ));
+        rest = rest;
         taking = taking;
         same = same;
         next = next;
       }
 
   module _ (p q : Publisher X K rule) (lanes : lanes_of q ≡ lanes_of p) (same : IsSame p q) (next : next_of q ≡ next_of p) where
-    passes_kept : EachLane SamePasses (lanes_of p) (lanes_of q)
-    passes_kept = subst (λ ls. EachLane SamePasses (lanes_of p) ls) (sym lanes) (passes_none (lanes_of p))
+    back_kept : ((lane : Outlet) → KeepsSlots (holder_of lane) (table_of p) (table_of q))
+        → EachLane (HasGivenBack (table_of p) (table_of q)) (lanes_of p) (lanes_of q)
+    back_kept keeps =
+        subst (λ ls. EachLane (HasGivenBack (table_of p) (table_of q)) (lanes_of p) ls) (sym lanes)
+        (backs_still (table_of p) (table_of q) (lanes_of p) keeps)
 
     -- the table stays
     tried_still : table_of q ≡ table_of p → HasTried p q
     tried_still table =
         record {
           loans = λ slot on. subst (λ t. IsLoaned t slot) (sym table) on;
+          alone = λ slot i on off some small has. off (subst (λ t. IsLoaned t slot) table on);
           gains = λ slot i some small has. subst (λ t. bit_at (holders_at t slot).bits i ≡ 1) table has;
-          passes = passes_kept;
+          back = back_kept (λ lane slot. ap (λ t. bit_at (holders_at t slot).bits (bit_of (holder_of lane))) table);
+          rest = λ i long small slot. ap (λ t. bit_at (holders_at t slot).bits i) table;
           taking = ap open_in lanes;
           same = same;
           next = next;
         }
 
     -- one slot more is on loan
-    pub tried_loan : (slot : ℕ) → ChangesAt slot publisher (table_of p) (table_of q) → IsLoaned (table_of q) slot → HasTried p q
-    tried_loan slot changes lent =
+    pub tried_loan : (slot : ℕ) → is_held (holders_at (table_of p) slot) ≡ false → ChangesAt slot publisher (table_of p) (table_of q)
+        → IsLoaned (table_of q) slot
+        → HasTried p q
+    tried_loan slot free changes lent =
         record {
           loans = loans_more slot (table_of p) (table_of q) changes lent;
+          alone = alone_loan slot (table_of p) (table_of q) free changes;
           gains = gains_loan slot (table_of p) (table_of q) changes;
-          passes = passes_kept;
+          back = back_kept (λ lane. kept_by slot (table_of p) (table_of q) lane changes);
+          rest = rest_loan slot (lanes_of p) (table_of p) (table_of q) changes;
           taking = ap open_in lanes;
           same = same;
           next = next;
@@ -146,16 +264,17 @@ module _ {X K : Type 0} {rule : Ghosts K X} where
 
     -- a loan is refused
     pub tried_refused : (spares : ℕ) (failure : LoanFailure) → IsTakenFor spares (table_of p) (table_of q) failure → HasTried p q
-    tried_refused spares (StillRead slot) taken = tried_loan slot taken.0 taken.1
+    tried_refused spares (StillRead slot) taken = tried_loan slot taken.0 taken.1 taken.2
     tried_refused spares (NoSlot failure) taken = tried_still taken
     tried_refused spares NoRecord taken = tried_still taken.0
 
     -- or had, or refused
     pub tried_asked : (spares : ℕ) (answer : Result (Loan X K) LoanFailure) → IfErr answer (IsTakenFor spares (table_of p) (table_of q))
+        → IfOk answer (λ l. is_held (holders_at (table_of p) (loaned l)) ≡ false)
         → IfOk answer (λ l. ChangesAt (loaned l) publisher (table_of p) (table_of q)) → IfOk answer (λ l. IsLoaned (table_of q) (loaned l))
         → HasTried p q
-    tried_asked spares (Ok loan) refused changes on = tried_loan (loaned loan) changes on
-    tried_asked spares (Err failure) refused changes on = tried_refused spares failure refused
+    tried_asked spares (Ok loan) refused free changes on = tried_loan (loaned loan) free changes on
+    tried_asked spares (Err failure) refused free changes on = tried_refused spares failure refused
 
   -- ---- a subscriber that tries to receive
 

@@ -35,12 +35,12 @@ use Rattle.zero_copy_bus.specs.Ends.{place_at, place_before, place_left, receive
 use Rattle.zero_copy_bus.specs.Ends.{table_of, IsTakenFor, WasNotShown, WasNotSubscribed, WasSeated}
 use Rattle.zero_copy_bus.specs.Holders.{bit_of}
 use Rattle.zero_copy_bus.specs.Outlets.{holder_of, is_open, sends_view, waits_queue, waits_view, AreShown, FoundEmpty, HasPushed, IsFree, IsServed, IsSettled}
-use Rattle.zero_copy_bus.specs.Outlets.{has_end, holders_in, is_let, is_lost, lets, open_in, place_of, takes_view, EachLane, StaysOrLost}
+use Rattle.zero_copy_bus.specs.Outlets.{has_end, is_let, is_lost, lets, open_in, place_of, takes_view, EachLane, StaysOrLost}
 use Rattle.zero_copy_bus.specs.Outlets.{WasDrained}
 use Rattle.zero_copy_bus.specs.Relays.{HasHeard}
 use Rattle.zero_copy_bus.specs.Rolls.{look_view, member_view, HasLooked, HasRecovered, IsShown}
 use Rattle.zero_copy_bus.specs.Sequences.{AreAll}
-use Rattle.zero_copy_bus.proofs.LaneLemmas.{get_map}
+use Rattle.zero_copy_bus.proofs.LaneLemmas.{same_holder}
 use Rattle.zero_copy_bus.proofs.Words.{number_in_word}
 use Rattle.zero_copy_loans.specs.Words.{word_of}
 use Rattle.zero_copy_loans.specs.declared.words.Layout.{Layout}
@@ -231,17 +231,6 @@ pub seat_loses_a_lane_that_is_let : (old new : Outlet) → ¬ IsFree old → is_
     → ⊥
 seat_loses_a_lane_that_is_let old new taken had lost (inl still) = true≢false (sym lost ∙ (ap is_lost still.tenancy ∙ had))
 seat_loses_a_lane_that_is_let old new taken had lost (inr k) = taken k.0
-
--- a lane is named as before
-same_holder : (news olds : List Outlet) (place : ℕ) (new old : Outlet) → holders_in news ≡ holders_in olds
-    → slice_get news place ≡ Some new
-    → slice_get olds place ≡ Some old
-    → holder_of new ≡ holder_of old
-same_holder news olds place new old same got was =
-    let one : slice_get (holders_in news) place ≡ Some (holder_of new) = get_map holder_of news place new got in
-    let two : slice_get (holders_in olds) place ≡ Some (holder_of old) = get_map holder_of olds place old was in
-    let both : slice_get (holders_in news) place ≡ slice_get (holders_in olds) place = ap (λ hs. slice_get hs place) same in
-    cc
 
 -- somebody has it still
 still_let : (old new : Outlet) → is_let old ≡ true → StaysOrLost old new → is_let new ≡ true

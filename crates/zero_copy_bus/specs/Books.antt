@@ -84,6 +84,11 @@ KeepsLoansBut slot old new =
 abbrev pub LoansStay : List Holders → List Holders → Type 0
 LoansStay old new = (slot : ℕ) → IsLoaned old slot → IsLoaned new slot
 
+-- what is on loan and was not is no subscriber's
+abbrev pub MoreLoansAreAlone : List Holders → List Holders → Type 0
+MoreLoansAreAlone old new =
+    (slot i : ℕ) → IsLoaned new slot → ¬ IsLoaned old slot → 0 < i → i < 64 → bit_at (holders_at new slot).bits i ≢ 1
+
 -- no subscriber gains a slot
 abbrev pub SubscribersGainNone : List Holders → List Holders → Type 0
 SubscribersGainNone old new =

@@ -32,11 +32,12 @@ use Rattle.zero_copy_bus.specs.declared.subscriber.Left.{Left}
 use Rattle.zero_copy_bus.specs.declared.subscriber.Sample.{Sample}
 use Rattle.zero_copy_bus.specs.declared.subscriber.Seat.{Seat}
 use Rattle.zero_copy_bus.specs.declared.subscriber.Subscriber.{Subscriber}
-use Rattle.zero_copy_bus.specs.Outlets.{holder_of, holders_in, open_in, waits_queue, AtLane, EachLane, EachOther, IsSettled, KeepsRest, SamePasses, StaysOrLost}
+use Rattle.zero_copy_bus.specs.Outlets.{holder_of, holders_in, open_in, waits_queue, AtLane, EachLane, EachOther}
+use Rattle.zero_copy_bus.specs.Outlets.{HasGivenBack, IsSettled, KeepsRest, StaysOrLost}
 use Rattle.zero_copy_bus.specs.Outlets.{WasLetOf}
 use Rattle.zero_copy_bus.specs.Pools as pools
-use Rattle.zero_copy_bus.specs.Books.{CanSend, ChangesAt, IsLoaned, LoansStay, SubscribersGainNone}
-use Rattle.zero_copy_bus.specs.Holders.{publisher}
+use Rattle.zero_copy_bus.specs.Books.{holders_at, CanSend, ChangesAt, IsLoaned, LoansStay, MoreLoansAreAlone, SubscribersGainNone}
+use Rattle.zero_copy_bus.specs.Holders.{is_held, publisher}
 use Rattle.zero_copy_bus.specs.Rolls.{HasLooked}
 use Rattle.zero_copy_bus.specs.Sequences.{Delivers}
 use Rattle.zero_copy_loans.specs.Numbers.{Shape, ReceivesOn}
@@ -46,9 +47,11 @@ use Rattle.zero_copy_loans.specs.declared.error.ReadFailure.TheVariants.{Slot, O
 use Rattle.zero_copy_loans.specs.declared.words.Layout.{Layout}
 use Rattle.zero_copy_slots.specs.Slots.{slots_in, IsUnreadable, IsUntaken}
 
--- nothing changed, and no record to write was left where that is the reason; or one slot more is out, which the publisher has
+-- nothing changed, and no record to write was left where that is the reason; or one slot more is out, which nobody had, and which the
+-- publisher has
 abbrev pub IsTakenFor : ℕ → List Holders → List Holders → LoanFailure → Type 0
-IsTakenFor spares old new (StillRead slot) = ChangesAt slot publisher old new × IsLoaned new slot
+IsTakenFor spares old new (StillRead slot) =
+    (is_held (holders_at old slot) ≡ false) × ChangesAt slot publisher old new × IsLoaned new slot
 IsTakenFor spares old new (NoSlot e) = new ≡ old
 IsTakenFor spares old new NoRecord = (new ≡ old) × (spares ≡ 0)
 
@@ -157,11 +160,14 @@ module _ {X K : Type 0} {rule : Ghosts K X} where
     pub layout : layout_of new ≡ layout_of old
     pub lanes : holders_in (lanes_of new) ≡ holders_in (lanes_of old)
 
-  -- It has tried to loan: what was on loan is so still, and no subscriber has gained a slot. No record went out, and no number is used.
+  -- It has tried to loan. What was on loan is so still, and what is on loan more no subscriber has. Each subscriber has what he had, but
+  -- for what he gave back. No record went out, and no number is used.
   pub record HasTried (old new : Publisher X K rule) : Type 0 where
     pub loans : LoansStay (table_of old) (table_of new)
+    pub alone : MoreLoansAreAlone (table_of old) (table_of new)
     pub gains : SubscribersGainNone (table_of old) (table_of new)
-    pub passes : EachLane SamePasses (lanes_of old) (lanes_of new)
+    pub back : EachLane (HasGivenBack (table_of old) (table_of new)) (lanes_of old) (lanes_of new)
+    pub rest : KeepsRest (lanes_of old) (table_of old) (table_of new)
     pub taking : open_in (lanes_of new) ≡ open_in (lanes_of old)
     pub same : IsSame old new
     pub next : next_of new ≡ next_of old

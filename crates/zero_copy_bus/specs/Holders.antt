@@ -26,10 +26,10 @@ abbrev pub nobody : Holders
 nobody = record { bits = 0 }
 
 -- of all but one, each is among both or among neither
-abbrev pub SameBut : Holder → Holders → Holders → Type 0
+abbrev pub SameBut : Holder → (old new : Holders) → Type 0
 SameBut holder old new =
     (i : ℕ) → i < 64 → i ≢ holder.bit → bit_at new.bits i ≡ bit_at old.bits i
 
 -- who is among the second is among the first
-abbrev pub GainsNobody : Holders → Holders → Type 0
+abbrev pub GainsNobody : (old new : Holders) → Type 0
 GainsNobody old new = (i : ℕ) → i < 64 → bit_at new.bits i ≡ 1 → bit_at old.bits i ≡ 1

@@ -104,7 +104,7 @@ pub record IsStill (old new : Outlet) : Type 0 where
   pub passes : SamePasses old new
 
 -- or nobody had it, and nobody gets it any more
-abbrev pub StaysOrLost : Outlet → Outlet → Type 0
+abbrev pub StaysOrLost : (old new : Outlet) → Type 0
 StaysOrLost old new = IsStill old new ⊎ IsFree old × (new.tenancy ≡ Lost)
 
 -- where nobody had the other end that is still so, and who takes part is sent from the same pass
@@ -113,7 +113,7 @@ pub record OthersStay (old new : Outlet) : Type 0 where
   pub taking : IsTrue (is_open old) → IsTrue (is_open new) → SamePasses old new
 
 -- each queue was found empty after what was known of it (one without capacity is always)
-abbrev pub FoundEmpty : Outlet → Outlet → Type 0
+abbrev pub FoundEmpty : (old new : Outlet) → Type 0
 FoundEmpty old new =
     (0 < (waits_queue old).capacity → FoundNone (waits_view old) (waits_view new)) × FoundNone (takes_view old) (takes_view new)
 
@@ -142,7 +142,7 @@ pub record WasLet (theirs : View ℕ) (old new : Outlet) : Type 0 where
   pub waits : Goes other theirs × HasAcquired roles.Consumer true other theirs
 
 -- so it was let to one whose guard is of this queue
-abbrev pub WasLetOf : QueueId → View ℕ → Outlet → Outlet → Type 0
+abbrev pub WasLetOf : QueueId → View ℕ → (old new : Outlet) → Type 0
 WasLetOf queue theirs old new = (queue ≡ waits_queue old) × WasLet theirs old new
 
 -- the publisher's end has given its role back, and the lane's pass has taken its pass in
@@ -179,7 +179,7 @@ pub record WasJoined (theirs : View ℕ) (old new : Outlet) : Type 0 where
   pub history : HasHistory (waits_queue new).capacity (waits_view new)
 
 -- so it is; where the publisher had its end both ends were taken in, and else that of the other
-abbrev pub WasRejoined : View ℕ → Outlet → Outlet → Type 0
+abbrev pub WasRejoined : View ℕ → (old new : Outlet) → Type 0
 WasRejoined theirs old new =
     IsLeftBehind old new × (IsTrue (has_end old) → WasTakenIn theirs old new) × (old.sends ≡ None → WasJoined theirs old new)
 
@@ -246,7 +246,7 @@ KeepsRest lanes old new = (i : ℕ) → length lanes < i → i < 64 → KeepsBit
 -- ---- a publish
 
 -- the push of the word handed this back: nothing, or the oldest word, or the word itself where the queue did not take it
-abbrev pub HasPushed : ℕ → Option ℕ → Outlet → Outlet → Type 0
+abbrev pub HasPushed : ℕ → Option ℕ → (old new : Outlet) → Type 0
 HasPushed word None old new = PushAdded word (sends_view old) (sends_view new)
 HasPushed word (Some back) old new =
     PushHandedBack (waits_queue old).capacity word back (sends_view old) (sends_view new)
@@ -283,6 +283,14 @@ pub record IsTakenBack (slots : ℕ) (before after : List Holders) (old new : Ou
   pub numbers : List ℕ
   pub taken : handed_out (takes_view new).seen ≡ handed_out (takes_view old).seen ++ map Index numbers
   pub all : FoundNone (takes_view old) (takes_view new) ⊎ (length numbers ≡ slots)
+  pub has : (slot : ℕ) → HasSlot after slot (holder_of old)
+      ↔ (HasSlot before slot (holder_of old) × ¬ Contains numbers slot)
+  pub passes : SamePasses old new
+
+-- These numbers came back, one after another. The subscriber has what he had, but for these.
+pub record HasGivenBack (before after : List Holders) (old new : Outlet) : Type 0 where
+  pub numbers : List ℕ
+  pub taken : handed_out (takes_view new).seen ≡ handed_out (takes_view old).seen ++ map Index numbers
   pub has : (slot : ℕ) → HasSlot after slot (holder_of old)
       ↔ (HasSlot before slot (holder_of old) × ¬ Contains numbers slot)
   pub passes : SamePasses old new

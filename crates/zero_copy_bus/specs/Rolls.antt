@@ -24,7 +24,7 @@ IsShown roll place = ¬ ((index : ℕ) → index < roll.state.capacity
     → shown_at roll.state.shown.elements index ≢ Some place)
 
 -- nobody has looked since, so the state shows what it showed
-abbrev pub HasNotLooked : Roll → Roll → Type 0
+abbrev pub HasNotLooked : (old new : Roll) → Type 0
 HasNotLooked old new = (look_view new ≡ look_view old) × (new.state ≡ old.state)
 
 -- One look at the registry. What the state shows then was copied by it or an earlier one; where no change was told it shows

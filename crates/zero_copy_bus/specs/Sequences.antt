@@ -12,7 +12,7 @@ Rises from [] next = next ≡ from
 Rises from (n ∷ ns) next = (from ≤ n) × Rises (n + 1) ns next
 
 -- they are just those from the first one on, up to this one
-abbrev pub AreAll : ℕ → ℕ → List ℕ → Type 0
+abbrev pub AreAll : (from to : ℕ) → List ℕ → Type 0
 AreAll from to [] = to ≡ from
 AreAll from to (n ∷ ns) = (n ≡ from) × AreAll (n + 1) to ns
 

@@ -1,6 +1,6 @@
 //! The end of a bus that writes records and publishes them.
 ghost use Rattle.std.specs.Prelude.{◌≡◌, ◌+◌, ◌-◌, ◌^◌, ◌<◌, ◌≤◌, ◌↔◌, Bool, true};
-ghost use Rattle.std.specs.Prelude.{false, Some, count_by, slice_get, slice_set, vec_len, IsTrue, IsFalse, IfOk, IfErr, IfNone, IfSome};
+ghost use Rattle.std.specs.Prelude.{false, Some, count_by, slice_get, slice_set, vec_len, IsTrue, IsFalse, IfOk, IfErr, IfNone, IfSome, OnErr};
 ghost use Rattle.threaded.specs.Shares.{IsAll};
 ghost use Rattle.lock_free_sets.specs.UniqueIndexSet.{set_of, share};
 ghost use Rattle.zero_copy_bus.specs.Books.{holders_at, AllFree, ChangesAt, GainsNone, GainsOnly, IsLoaned};
@@ -248,7 +248,7 @@ impl<'a, X: Drop, K: Keeps<X>> Publisher<'a, X, K> {
     /// A free slot, which the publisher alone holds, with a record to write. `NoRecord`: none is left to write, and nothing
     /// changes. `NoSlot`: each slot is out, or the pool is locked (the clause says only that nothing changes). `StillRead`:
     /// somebody still reads the slot, who has it not. The slot stays out, so that the next loan gets another, and `reclaim` tries
-    /// it again.
+    /// it again. Where no loan comes no record is used up.
     ///
     /// A load, at most one compare-exchange, and the steps of `acquire_raw_index`.
     pub fn loan(&mut self, rt: &impl Wait) -> Result<Loan<'a, X, K>, LoanFailure>
@@ -259,6 +259,7 @@ impl<'a, X: Drop, K: Keeps<X>> Publisher<'a, X, K> {
             (λ l. ChangesAt (loaned l) publisher (table_of self.old) (table_of self.new)) }
         ensures loaned { IfOk result (λ l. IsLoaned (table_of self.new) (loaned l)) }
         ensures spares { IfOk result (λ l. spares_in self.new + 1 ≡ spares_in self.old) }
+        ensures kept { OnErr result (spares_in self.new ≡ spares_in self.old) }
         ensures refused { IfErr result (IsTakenFor (spares_in self.old) (table_of self.old) (table_of self.new)) }
         ensures taking { open_in (lanes_of self.new) ≡ open_in (lanes_of self.old) }
         ensures lanes { lanes_of self.new ≡ lanes_of self.old }
@@ -281,12 +282,14 @@ impl<'a, X: Drop, K: Keeps<X>> Publisher<'a, X, K> {
         Ok(Loan::of(slot, value, writing))
     }
 
-    /// Takes back what was given back, and tries to loan once.
+    /// Takes back what was given back, and tries to loan once. Where no loan comes no record is used up.
     fn loan_once(&mut self, rt: &impl Wait) -> Option<Loan<'a, X, K>>
         ensures within { IfSome result (λ l. loaned l < slots_of self.old) }
         ensures fresh { IfSome result (λ l. ¬ IsLoaned (table_of self.old) (loaned l)) }
         ensures loaned { IfSome result (λ l. IsLoaned (table_of self.new) (loaned l)) }
         ensures can { IfSome result (λ l. CanSendToAll self.new (loaned l)) }
+        ensures spares { IfSome result (λ l. spares_in self.new + 1 ≡ spares_in self.old) }
+        ensures kept { IfNone result (spares_in self.new ≡ spares_in self.old) }
         ensures tried { HasTried self.old self.new }
     {
         self.collect();
@@ -297,13 +300,18 @@ impl<'a, X: Drop, K: Keeps<X>> Publisher<'a, X, K> {
     }
 
     /// A loan as soon as there is one, by at most so many tries (by no clause). Before each try it takes back what subscribers gave
-    /// back, and after one that is refused another thread may run. None where each try was refused. A slot that is `StillRead` stays
-    /// out, on loan, and its number is not told: `reclaim` may be tried with each. For each try, the steps of `collect` and of `loan`.
+    /// back, and after one that is refused another thread may run. None where each try was refused; then no record is used up.
+    ///
+    /// A slot that is `StillRead` stays out, on loan, and its number is not told: `reclaim` may be tried with each. No subscriber
+    /// has it any more. That it is still read, and that each try leaves one at most, no clause says, nor that all that was given back is
+    /// taken back. For each try, the steps of `collect` and of `loan`.
     pub fn loan_within(&mut self, rt: &impl Wait, tries: u64) -> Option<Loan<'a, X, K>>
         ensures within { IfSome result (λ l. loaned l < slots_of self.old) }
         ensures fresh { IfSome result (λ l. ¬ IsLoaned (table_of self.old) (loaned l)) }
         ensures loaned { IfSome result (λ l. IsLoaned (table_of self.new) (loaned l)) }
         ensures can { IfSome result (λ l. CanSendToAll self.new (loaned l)) }
+        ensures spares { IfSome result (λ l. spares_in self.new + 1 ≡ spares_in self.old) }
+        ensures kept { IfNone result (spares_in self.new ≡ spares_in self.old) }
         ensures tried { HasTried self.old self.new }
     {
         for _ in 0..tries {
@@ -317,13 +325,13 @@ impl<'a, X: Drop, K: Keeps<X>> Publisher<'a, X, K> {
 
     /// A loan as soon as there is one. Before each try it takes back what subscribers gave back, and after one that is refused
     /// another thread may run. It waits for good where no slot comes back, and where no record is left to write. A slot that is
-    /// `StillRead` stays out, on loan, and its number is not told: `reclaim` may be tried with each. For each try, the steps of
-    /// `collect` and of `loan`.
+    /// `StillRead` stays out as by `loan_within`. For each try, the steps of `collect` and of `loan`.
     pub fn loan_waiting(&mut self, rt: &impl Wait) -> Loan<'a, X, K>
         ensures within { loaned result < slots_of self.old }
         ensures fresh { ¬ IsLoaned (table_of self.old) (loaned result) }
         ensures loaned { IsLoaned (table_of self.new) (loaned result) }
         ensures can { CanSendToAll self.new (loaned result) }
+        ensures spares { spares_in self.new + 1 ≡ spares_in self.old }
         ensures tried { HasTried self.old self.new }
     {
         for _ in rt.forever() {
@@ -418,13 +426,14 @@ impl<'a, X: Drop, K: Keeps<X>> Publisher<'a, X, K> {
         Ok(emptied)
     }
 
-    /// Takes back what subscribers have given back: nobody gains a slot, and what is on loan stays so.
+    /// Takes back what subscribers have given back: nobody gains a slot, and what is on loan stays so. No record is used up.
     pub fn collect(&mut self)
         ensures taken { EachLane (IsTakenBack (slots_of self.old) (table_of self.old) (table_of self.new))
             (lanes_of self.old) (lanes_of self.new) }
         ensures rest { KeepsRest (lanes_of self.old) (table_of self.old) (table_of self.new) }
         ensures gains { GainsNone (table_of self.old) (table_of self.new) }
         ensures loans { KeepsLoans (table_of self.old) (table_of self.new) }
+        ensures spares { spares_in self.new ≡ spares_in self.old }
         ensures taking { open_in (lanes_of self.new) ≡ open_in (lanes_of self.old) }
         ensures same { IsSame self.old self.new }
         ensures next { next_of self.new ≡ next_of self.old }

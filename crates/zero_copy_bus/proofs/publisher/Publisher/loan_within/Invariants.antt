@@ -1,5 +1,9 @@
-use Rattle.zero_copy_bus.specs.Ends.{HasTried}
+use Rattle.std.proofs.Common.{◌≡◌}
+use Rattle.zero_copy_bus.specs.Ends.{spares_in, HasTried}
 use Rattle.zero_copy_bus.proofs.publisher.Publisher.loan_within.Given as given
 
 abbrev pub invariant-loop : given.invariant-loop
-invariant-loop g l = HasTried l.fn.self l.self
+invariant-loop g l = record {
+  tried : HasTried l.fn.self l.self;
+  spares : spares_in l.self ≡ spares_in l.fn.self;
+}

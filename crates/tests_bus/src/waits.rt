@@ -1,0 +1,93 @@
+//! A subscriber who waits for a publisher that comes late, and a publisher who waits until a slot comes back.
+use crate::limit::wait_for;
+use crate::stage::{Failure, some};
+use crate::words::{Words, spares};
+use lock_free::mpmc::container::OwnerId;
+use std::alloc::Global;
+use std::sync::Wait;
+use std::sync::atomic::{AtomicU64, Ordering};
+use std::test::Fail;
+use std::thread;
+use std::thread::Threads;
+use zero_copy_bus::bus::{Bus, Sizes};
+use zero_copy_bus::publisher::Publisher;
+use zero_copy_bus::subscriber::Subscriber;
+
+/// All records may wait.
+const SIZES: Sizes = Sizes {
+    slots: 2,
+    subscribers: 1,
+    queue: 2,
+};
+
+/// Publishes three records once the subscriber is about to wait. For the third it waits until a slot comes back, and tells so before.
+fn publish_late(
+    rt: &impl Wait,
+    publisher: &mut Publisher<'_, Words>,
+    receives: &AtomicU64,
+    loans: &AtomicU64,
+) -> bool {
+    let mut right = wait_for(receives, 1);
+    for at in 0..3u64 {
+        if at == 2 {
+            loans.store(1, Ordering::SeqCst);
+        }
+        let loan = publisher.loan_waiting(rt);
+        right &= publisher.publish(loan) == 1;
+    }
+    right
+}
+
+/// Tells that it is about to wait, receives two records, and keeps both until the publisher is about to wait for a slot. Then it gives
+/// the first one back, and receives a third, in its slot: whether they are numbered 0, 1 and 2.
+fn receive_early(
+    rt: &impl Wait,
+    subscriber: &mut Subscriber<'_, Words>,
+    receives: &AtomicU64,
+    loans: &AtomicU64,
+) -> bool {
+    receives.store(1, Ordering::SeqCst);
+    let first = subscriber.receive_waiting(rt);
+    let second = subscriber.receive_waiting(rt);
+    let mut right = wait_for(loans, 1);
+    let slot = first.slot();
+    right &= first.number() == 0 && second.number() == 1 && second.slot() != slot;
+    right &= subscriber.give_back(first);
+    let third = subscriber.receive_waiting(rt);
+    right && third.number() == 2 && third.slot() == slot
+}
+
+/// Runs both threads. `join` calls its first closure last where no thread can be made.
+fn run<R: Threads + Wait + Sync>(
+    rt: &R,
+    publisher: &mut Publisher<'_, Words>,
+    subscriber: &mut Subscriber<'_, Words>,
+) -> bool {
+    let (receives, loans) = (AtomicU64::new(0), AtomicU64::new(0));
+    let (receives, loans) = (&receives, &loans);
+    let (has_received, has_published) = thread::join(
+        rt,
+        move || receive_early(rt, subscriber, receives, loans),
+        move || publish_late(rt, publisher, receives, loans),
+    );
+    has_received && has_published
+}
+
+/// The same on a new bus.
+fn run_anew<R: Threads + Wait + Sync>(
+    rt: &R,
+    alloc: Global,
+    owner: OwnerId,
+) -> Result<bool, Failure> {
+    let (mut bus, pass) = Bus::new(alloc, SIZES)?;
+    let records = spares(alloc, SIZES.slots + 1, 1)?;
+    let mut publisher = bus.publisher(rt, alloc, pass, records)?;
+    let mut subscriber = some(publisher.subscribe(rt, owner).ok())?;
+    Ok(run(rt, &mut publisher, &mut subscriber))
+}
+
+#[test]
+fn who_waits_gets_what_comes(rt: HostRuntime) -> Result<(), Fail> {
+    assert!(rt; run_anew(&rt, rt.alloc(), OwnerId::new(1)?)?);
+    Ok(())
+}
