@@ -10,10 +10,6 @@ mark n = 3 * n + 1
 unfoldable pub IsBlockOf : ℕ → List ℕ → Type 0
 IsBlockOf number words = words ≡ replicate 8192 (mark number)
 
--- the marks of the numbers of tickets
-abbrev pub marks_of : List (ℕ × ℕ) → List ℕ
-marks_of tickets = map (λ ticket. mark ticket.0) tickets
-
 -- the marks of the first numbers
 abbrev pub first_marks : ℕ → List ℕ
 first_marks count = map mark (range_with_len 0 count)

@@ -1,5 +1,6 @@
 -- What a wrong body of a call would leave or answer, and the clause that refuses it. A name says what the body does.
-use Rattle.std.proofs.Common.{◌≡◌, ◌≢◌, ◌+◌, ℕ, true, false, None, List, [], ◌∷◌, ◌++◌, length, refl, sym, ap, subst, ◌∙◌, arith, length-append, true≢false}
+use Rattle.std.proofs.Common.{◌≡◌, ◌≢◌, ◌+◌, ◌<◌, ◌≤◌, ℕ, true, false, None, List, [], ◌∷◌, ◌++◌, length}
+use Rattle.std.proofs.Common.{refl, sym, ap, subst, ◌∙◌, arith, length-append, true≢false}
 use Rattle.std.proofs.lemmas.List.{append_cancel_left}
 use Rattle.zero_copy_loans.specs.Numbers.{AreTold}
 use Rattle.zero_copy_slots.specs.declared.Keeps.{Ghosts}
@@ -62,6 +63,15 @@ module _ {X K : Type 0} {rule : Ghosts K X} where
     -- `send_each` sends one too few
     pub send_each_sends_too_few : (count : ℕ) → next_of new + 1 ≡ next_of old + count → next_of new ≡ next_of old + count → ⊥
     send_each_sends_too_few count few says = absurd (omega arith)
+
+    -- it answers that a value was refused, and has sent all, or counts one of before as not sent
+    pub send_each_refuses_what_it_sent : (count : ℕ) → next_of new ≡ next_of old + count
+        → (next_of old ≤ next_of new) × (next_of new < next_of old + count) → ⊥
+    send_each_refuses_what_it_sent count all says = (let fewer = says.1 in absurd (omega arith))
+
+    pub send_each_takes_back_a_number : (count : ℕ) → next_of new + 1 ≡ next_of old
+        → (next_of old ≤ next_of new) × (next_of new < next_of old + count) → ⊥
+    send_each_takes_back_a_number count back says = (let kept = says.0 in absurd (omega arith))
 
   module _ {A : Type 0} (tells : ℕ → A → Type 0) (old new : Receiver X K rule) where
     -- ---- `read_waiting`, and `read` where something was there

@@ -148,9 +148,9 @@ impl<'a, X: Drop, K: Keeps<X>> Sender<'a, X, K> {
     /// - the slot is read or written (`InUse`), which does not come, since the stream alone has its slots, or
     /// - the queue of tickets is full or at its last position, or there is no further number (`Full`).
     ///
-    /// Which of these it was, no clause says. At `InUse` and `Full` the writer has written already, and a later try has it write the
-    /// same number again. By no clause it takes at most 5 atomic steps to find a slot, 3 on the slot, and 6 to send its ticket. This
-    /// project's own.
+    /// Which of these it was, no clause says. At `InUse`, and at `Full` while there is a further number, the writer has written already,
+    /// and a later try has it write the same number again. By no clause it takes at most 5 atomic steps to find a slot, 3 on the slot,
+    /// and 6 to send its ticket. This project's own.
     pub fn send(&mut self, writer: &mut impl Writes<X, K>) -> Result<(), SendFailure>
         ensures queue { sender_queue self.new ≡ sender_queue self.old }
         ensures sent { OnOk result (sent_so_far self.new ≡ sent_so_far self.old ++ next_of self.old ∷ []) }

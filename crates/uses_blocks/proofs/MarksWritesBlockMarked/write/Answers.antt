@@ -1,7 +1,7 @@
--- `fill` (src/main.rt): its return meets what it ensures (`IsBlockOf`).
+-- `write` of `Marks` (src/main.rt): its return meets what it ensures: where it is true, the block has the mark of the number (`IsBlockOf`).
 use Rattle.std.proofs.Common.{◌+◌, ◌*◌, ap, sym, ◌∙◌, replicate}
 use Rattle.uses_blocks.specs.Marks.{IsBlockOf}
-use Rattle.uses_blocks.proofs.fill.Goals as goal
+use Rattle.uses_blocks.proofs.MarksWritesBlockMarked.write.Goals as goal
 
 pub returns : goal.returns
 unfolding IsBlockOf
