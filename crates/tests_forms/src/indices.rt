@@ -1,90 +1,266 @@
 //! Unique index sets.
-use crate::indices::call::IndexCall;
-use crate::indices::user::User;
-use lock_free::mpmc::unique_index_set::{FixedSizeUniqueIndexSet, UniqueIndexSet};
+ghost use Rattle.std.specs.Prelude.{◌≡◌};
+ghost use Rattle.lock_free.specs.HistoryHeld.{Holds};
+ghost use Rattle.lock_free.specs.Unique.Handles.{set_in};
+ghost use Rattle.lock_free.specs.UniqueIndexSet.{made, IsPassOf};
+
+use crate::lines::{Answer, Answers, Block, Call, Made, play_on};
+use lock_free::mpmc::unique_index_set::{
+    FixedSizeUniqueIndexSet, Handle, Pass, UniqueIndex, UniqueIndexSet,
+};
+use std::alloc::Global;
+use std::mem;
 use std::sync::Wait;
-use tests_calls::forms::{Form, Made, Plain, on, plays};
-use tests_calls::stage::{Scene, Stage};
-use tests_calls::words::Words;
+use steps::enums::UniqueIndexCreationError;
+use steps::indices::enums::UniqueIndexSetAcquireFailure;
 
-mod alone;
-mod call;
-mod user;
-
-/// One of threads.
-struct Heap;
-
-impl Form for Heap {
-    fn plays(rt: &impl Wait, scene: Scene<'_>, stage: &mut Stage) -> Made {
-        let (set, pass) = UniqueIndexSet::new(scene.alloc, scene.capacity)?;
-        let user = User::new(scene.alloc, &set, pass);
-        plays::<IndexCall, plain::UniqueIndexSet, _>(rt, scene, stage, user)
+/// Says which index was taken, or why none.
+pub fn say_acquired(index: Result<u32, UniqueIndexSetAcquireFailure>, answer: &mut Answer) {
+    match index {
+        Ok(index) => answer.number(index as u64),
+        Err(UniqueIndexSetAcquireFailure::OutOfIndices) => answer.word("OutOfIndices"),
+        Err(UniqueIndexSetAcquireFailure::IsLocked) => answer.word("locked"),
     }
 }
 
-/// One of a type that has the capacity.
-struct Fixed<const CAPACITY: usize>;
+/// Takes so many indices: how many come in order, from 0 on.
+fn keep(set: &mut plain::UniqueIndexSet, number: u64) -> u64 {
+    for index in 0..number {
+        if set.acquire_raw_index().unwrap_or(u32::MAX) as u64 != index {
+            return index;
+        }
+    }
+    number
+}
 
-impl<const CAPACITY: usize> Form for Fixed<CAPACITY> {
-    fn plays(rt: &impl Wait, scene: Scene<'_>, stage: &mut Stage) -> Made {
-        let (set, pass) = FixedSizeUniqueIndexSet::<CAPACITY>::new(scene.alloc)?;
-        let user = User::new(scene.alloc, &set, pass);
-        plays::<IndexCall, plain::UniqueIndexSet, _>(rt, scene, stage, user)
+impl Answers for plain::UniqueIndexSet {
+    fn answer(&mut self, _rt: &impl Wait, call: Call<'_>, answer: &mut Answer) {
+        let index = (call.numbers[0] & 0xffff_ffff) as u32;
+        let is_out = self.is_out(index);
+        match call.name {
+            "acquire" | "hold" => say_acquired(self.acquire_raw_index(), answer),
+            "keep" => answer.number(keep(self, call.numbers[0])),
+            "release" | "drop" if is_out => answer.ended(self.release_raw_index(index)),
+            "release_or_lock" if is_out => answer.ended(self.release_or_lock(index)),
+            "is_out" => answer.truth(is_out),
+            "borrowed_indices" => answer.number(self.borrowed_indices() as u64),
+            "is_locked" => answer.truth(self.is_locked()),
+            "capacity" => answer.number(self.capacity() as u64),
+            "holds" | "is_locked_further" => {}
+            _ => answer.word("refused"),
+        }
     }
 }
 
-/// One of a type that has a greater capacity.
-struct Reduced<const CAPACITY: usize>;
-
-impl<const CAPACITY: usize> Form for Reduced<CAPACITY> {
-    fn plays(rt: &impl Wait, scene: Scene<'_>, stage: &mut Stage) -> Made {
-        let (set, pass) = FixedSizeUniqueIndexSet::<CAPACITY>::new_with_reduced_capacity(
-            scene.alloc,
-            scene.capacity,
-        )?;
-        let user = User::new(scene.alloc, &set, pass);
-        plays::<IndexCall, plain::UniqueIndexSet, _>(rt, scene, stage, user)
-    }
+/// A raw index, with the pass that holds it.
+#[derive(Drop)]
+struct Raw<'a> {
+    set: &'a UniqueIndexSet,
+    pass: Pass,
+    index: u32,
+    ghost of: { IsPassOf set.now pass },
+    ghost held: { Holds index (made pass) },
 }
 
-/// Plays the block on a set whose type has this greater capacity.
-fn on_greater(rt: &impl Wait, scene: Scene<'_>, of: usize, stage: &mut Stage) -> Option<()> {
-    match of {
-        5 => on::<Reduced<5>>(rt, scene, stage, "reduced"),
-        6 => on::<Reduced<6>>(rt, scene, stage, "reduced"),
-        8 => on::<Reduced<8>>(rt, scene, stage, "reduced"),
-        16_777_214 => on::<Reduced<16_777_214>>(rt, scene, stage, "reduced"),
-        16_777_215 => on::<Reduced<16_777_215>>(rt, scene, stage, "reduced"),
-        _ => return None,
-    }
-    Some(())
-}
-
-/// Plays the block on all forms, or, where the head says `of`, on a set of reduced capacity.
-pub fn forms(
-    rt: &impl Wait,
-    scene: Scene<'_>,
-    words: &mut Words<'_>,
-    stage: &mut Stage,
-) -> Option<()> {
-    let scene = scene.of_capacity(words.place()?);
-    if let Some(word) = words.word() {
-        return if word == "of" {
-            on_greater(rt, scene, words.place()?, stage)
+impl<'a> Raw<'a> {
+    /// Gives the index back, in mode `LockIfLastIndex` if so.
+    fn release(self, rt: &impl Wait, locks: bool, answer: &mut Answer) {
+        let Raw {
+            set,
+            mut pass,
+            index,
+        } = self;
+        answer.ended(if locks {
+            set.release_or_lock(rt, index, &mut pass)
         } else {
-            None
+            set.release_raw_index(index, &mut pass)
+        });
+    }
+}
+
+/// An index that is out.
+#[derive(Drop)]
+enum Index<'a> {
+    Raw(Raw<'a>),
+    Held(UniqueIndex<'a>),
+}
+
+/// Gives back an index that a guard holds, as the name says.
+fn give_back(held: UniqueIndex<'_>, rt: &impl Wait, name: &str, answer: &mut Answer) {
+    match name {
+        "release" => {
+            held.release();
+            answer.word("unlocked");
+        }
+        "drop" => {
+            drop(held);
+            answer.word("unlocked");
+        }
+        _ => {
+            let (state, _handle) = held.give_back_or_lock(rt);
+            answer.ended(state);
+        }
+    }
+}
+
+/// A caller of a set between threads, by two passes in turn.
+#[derive(Drop)]
+struct User<'a> {
+    set: &'a UniqueIndexSet,
+    now: Handle<'a>,
+    other: Handle<'a>,
+    /// Those that are out, each at its place.
+    out: Vec<Option<Index<'a>>>,
+    ghost of: { set_in now ≡ set.now },
+    ghost of_other: { set_in other ≡ set.now },
+}
+
+impl<'a> User<'a> {
+    /// With another pass, which is made of two.
+    fn new(alloc: Global, set: &'a UniqueIndexSet, pass: Pass) -> Option<User<'a>>
+        requires { IsPassOf set.now pass }
+    {
+        let mut pass = pass;
+        let mut other = pass.split()?;
+        other.join(pass.split()?);
+        Some(User {
+            set,
+            now: set.handle(pass),
+            other: set.handle(other),
+            out: Vec::new(alloc),
+        })
+    }
+
+    /// Puts the index at its place, and says which.
+    fn put_at(&mut self, at: u32, index: Index<'a>, answer: &mut Answer) {
+        for _ in self.out.len()..at as usize + 1 {
+            answer.lost |= self.out.push(None).is_err();
+        }
+        if let Some(place) = self.out.get_mut(at as usize) {
+            *place = Some(index);
+            answer.number(at as u64);
+        }
+    }
+
+    /// Takes a raw index by a further pass.
+    fn acquire(&mut self, rt: &impl Wait, answer: &mut Answer) {
+        let Some(further) = self.now.split() else {
+            return answer.word("no_pass");
         };
+        let mut pass = further.into_pass();
+        match self.set.acquire_raw_index(rt, &mut pass) {
+            Ok(index) => {
+                let raw = Raw {
+                    set: self.set,
+                    pass,
+                    index,
+                };
+                self.put_at(index, Index::Raw(raw), answer);
+            }
+            Err(failure) => say_acquired(Err(failure), answer),
+        }
     }
-    on::<Plain<IndexCall, plain::UniqueIndexSet>>(rt, scene, stage, "plain");
-    on::<Heap>(rt, scene, stage, "heap");
-    match scene.capacity {
-        0 => on::<Fixed<0>>(rt, scene, stage, "fixed"),
-        1 => on::<Fixed<1>>(rt, scene, stage, "fixed"),
-        3 => on::<Fixed<3>>(rt, scene, stage, "fixed"),
-        5 => on::<Fixed<5>>(rt, scene, stage, "fixed"),
-        9 => on::<Fixed<9>>(rt, scene, stage, "fixed"),
-        16_777_215 => on::<Fixed<16_777_215>>(rt, scene, stage, "fixed"),
-        _ => {}
+
+    /// Takes an index that a guard holds.
+    fn hold(&mut self, rt: &impl Wait, answer: &mut Answer) {
+        let Some(further) = self.now.split() else {
+            return answer.word("no_pass");
+        };
+        match further.acquire(rt) {
+            Ok(held) => self.put_at(held.value(), Index::Held(held), answer),
+            Err((failure, _)) => say_acquired(Err(failure), answer),
+        }
     }
-    Some(())
+
+    /// Takes an index for good, by a further pass.
+    fn keep_one(&mut self, rt: &impl Wait) -> Option<u32> {
+        let mut pass = self.now.split()?.into_pass();
+        self.set.acquire_raw_index(rt, &mut pass).ok()
+    }
+
+    /// Takes so many indices for good: how many come in order, from 0 on.
+    fn keep(&mut self, rt: &impl Wait, number: u64) -> u64 {
+        for index in 0..number {
+            if self.keep_one(rt).unwrap_or(u32::MAX) as u64 != index {
+                return index;
+            }
+        }
+        number
+    }
+
+    /// Gives the index at this place back, if one is there.
+    fn release(&mut self, rt: &impl Wait, call: Call<'_>, answer: &mut Answer) {
+        let index = match self.out.get_mut(call.numbers[0] as usize) {
+            Some(place) => place.take(),
+            None => None,
+        };
+        match index {
+            Some(Index::Raw(raw)) => raw.release(rt, call.name == "release_or_lock", answer),
+            Some(Index::Held(held)) => give_back(held, rt, call.name, answer),
+            None => answer.word("refused"),
+        }
+    }
+
+    /// Which index the guard at the place has.
+    fn value(&self, at: u64, answer: &mut Answer) {
+        match self.out.get(at as usize) {
+            Some(Some(Index::Held(held))) => answer.number(held.value() as u64),
+            _ => answer.word("refused"),
+        }
+    }
+
+    /// Whether the set is locked, by a further pass.
+    fn is_locked_further(&mut self, answer: &mut Answer) {
+        match self.now.split() {
+            Some(mut further) => answer.truth(further.is_locked()),
+            None => answer.word("no_pass"),
+        }
+    }
+}
+
+impl<'a> Answers for User<'a> {
+    fn answer(&mut self, rt: &impl Wait, call: Call<'_>, answer: &mut Answer) {
+        match call.name {
+            "acquire" => self.acquire(rt, answer),
+            "hold" => self.hold(rt, answer),
+            "keep" => answer.number(self.keep(rt, call.numbers[0])),
+            "holds" => self.value(call.numbers[0], answer),
+            "borrowed_indices" => answer.number(self.now.borrowed_indices() as u64),
+            "is_locked" => answer.truth(self.now.is_locked()),
+            "is_locked_further" => self.is_locked_further(answer),
+            "capacity" => answer.number(self.now.capacity() as u64),
+            "other" => mem::swap(&mut self.now, &mut self.other),
+            "is_out" => {}
+            _ => self.release(rt, call, answer),
+        }
+    }
+}
+
+/// Plays the block on a set of its form: reduced to the capacity, of a type of the next number.
+pub fn play_indices(rt: &impl Wait, block: &mut Block<'_>) -> Made {
+    match block.form {
+        "plain" => {
+            let set = plain::UniqueIndexSet::new(block.alloc, block.capacity)?;
+            play_on(rt, block, Some(set))
+        }
+        "heap" => {
+            let (set, pass) = UniqueIndexSet::new(block.alloc, block.capacity)?;
+            let user = User::new(block.alloc, &set, pass);
+            play_on(rt, block, user)
+        }
+        "fixed" => of_capacity!(fixed, block.capacity, rt, block; 0 1 3 5 9 16_777_215),
+        _ => of_capacity!(reduced, block.numbers[1], rt, block; 5 6 8 16_777_214 16_777_215),
+    }
+}
+
+fn fixed<const N: usize>(rt: &impl Wait, block: &mut Block<'_>) -> Made {
+    let (set, pass) = FixedSizeUniqueIndexSet::<N>::new(block.alloc)?;
+    let user = User::new(block.alloc, &set, pass);
+    play_on(rt, block, user)
+}
+
+fn reduced<const N: usize>(rt: &impl Wait, block: &mut Block<'_>) -> Made {
+    let (alloc, capacity) = (block.alloc, block.capacity);
+    let (set, pass) = FixedSizeUniqueIndexSet::<N>::new_with_reduced_capacity(alloc, capacity)?;
+    play_on(rt, block, User::new(alloc, &set, pass))
 }

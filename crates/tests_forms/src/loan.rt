@@ -1,104 +1,187 @@
 //! The loan channel.
-use crate::loan::call::LoanCall;
-use crate::loan::user::User;
-use lock_free::mpmc::unique_index_set::{FixedSizeUniqueIndexSet, UniqueIndexSet};
-use lock_free::spsc::index_queue::{FixedSizeIndexQueue, IndexQueue};
+ghost use Rattle.std.specs.Prelude.{◌≡◌, IfSome};
+ghost use Rattle.std.specs.Option.{ForSome};
+ghost use Rattle.lock_free.specs.Unique.Held.{HoldsNothing};
+ghost use Rattle.lock_free.specs.UniqueIndexSet.{made, IsPassOf};
+ghost use Rattle.lock_free.specs.Queues.Rings as ends;
+ghost use Rattle.lock_free.specs.Loan.Sender.{set_of_sender, submission_of, IsSenderOf};
+
+use crate::indices::say_acquired;
+use crate::lines::{Answer, Answers, Block, Call, Made, play_on};
+use lock_free::mpmc::unique_index_set::{FixedSizeUniqueIndexSet, Pass, UniqueIndexSet};
+use lock_free::spsc::index_queue::{FixedSizeIndexQueue, Handle, IndexQueue, Producer};
+use lock_free::spsc::loan::LoanSender;
 use lock_free::spsc::safely_overflowing_index_queue::{
-    FixedSizeSafelyOverflowingIndexQueue, SafelyOverflowingIndexQueue,
+    Consumer, FixedSizeSafelyOverflowingIndexQueue, SafelyOverflowingIndexQueue,
 };
+use lock_free::spsc::{index_queue, safely_overflowing_index_queue as overflow};
+use std::alloc::Global;
 use std::sync::Wait;
-use steps::enums::UniqueIndexCreationError;
-use tests_calls::play::{Nobody, play};
-use tests_calls::stage::{Scene, Stage};
-use tests_calls::words::Words;
 
-mod call;
-mod user;
-
-/// Plays the block on a channel, of which there is no form of one caller. Where there is no user, memory was refused.
-fn plays(
-    rt: &impl Wait,
-    scene: Scene<'_>,
-    stage: &mut Stage,
-    user: Option<User<'_>>,
-) -> Result<(), UniqueIndexCreationError> {
-    let Some(mut user) = user else {
-        return Err(UniqueIndexCreationError::NoMemory);
-    };
-    let mut nobody = Nobody;
-    play::<LoanCall, _, _>(rt, scene, stage, &mut nobody, &mut user);
-    let Nobody = nobody;
-    Ok(())
+/// Both who use a channel: one who sends, and one who receives.
+#[derive(Drop)]
+struct User<'a> {
+    set: &'a UniqueIndexSet,
+    looks: Pass,
+    sender: Option<LoanSender<'a>>,
+    receives: Consumer<'a>,
+    returns: Producer<'a>,
+    last: Handle<'a>,
+    ghost of: { IsPassOf set.now looks },
+    ghost from: { ForSome sender (λ s. IsSenderOf set.now s) },
+    ghost through: { ForSome sender (λ s. submission_of s ≡ ends.consumer_queue receives) },
 }
 
-/// With so many slots, places for what is sent and places for what comes back.
-fn on_heap(
-    rt: &impl Wait,
-    scene: Scene<'_>,
-    stage: &mut Stage,
-    sends: usize,
-    returns: usize,
-) -> Result<(), UniqueIndexCreationError> {
-    let (set, slots) = UniqueIndexSet::new(scene.alloc, scene.capacity)?;
-    let (submission, sends) = SafelyOverflowingIndexQueue::new(scene.alloc, sends)?;
-    let (completion, returns) = IndexQueue::new(scene.alloc, returns)?;
-    let user = User::new(
-        scene.alloc,
-        &set,
-        slots,
-        submission.handle(sends),
-        completion.handle(returns),
-    );
-    plays(rt, scene, stage, user)
+/// A sender that is made of these.
+fn sender<'a>(
+    alloc: Global,
+    set: &'a UniqueIndexSet,
+    pass: Pass,
+    submission: overflow::Producer<'a>,
+    completion: index_queue::Consumer<'a>,
+) -> Option<LoanSender<'a>>
+    requires pass { IsPassOf set.now pass }
+    requires nothing { HoldsNothing (made pass) }
+    ensures set { IfSome result (λ s. IsSenderOf set.now s) }
+    ensures submission { IfSome result
+        (λ s. submission_of s ≡ ends.producer_queue submission.entry) }
+{
+    LoanSender::new(alloc, set, pass, submission, completion).ok()
 }
 
-/// The same of types that have the capacities.
-fn on_types<const SLOTS: usize, const SENDS: usize, const RETURNS: usize>(
-    rt: &impl Wait,
-    scene: Scene<'_>,
-    stage: &mut Stage,
-) -> Result<(), UniqueIndexCreationError> {
-    let (set, slots) = FixedSizeUniqueIndexSet::<SLOTS>::new(scene.alloc)?;
-    let (submission, sends) = FixedSizeSafelyOverflowingIndexQueue::<SENDS>::new(scene.alloc)?;
-    let (completion, returns) = FixedSizeIndexQueue::<RETURNS>::new(scene.alloc)?;
-    let user = User::new(
-        scene.alloc,
-        &set,
-        slots,
-        submission.handle(sends),
-        completion.handle(returns),
-    );
-    plays(rt, scene, stage, user)
-}
-
-fn on_fixed<const SLOTS: usize, const SENDS: usize, const RETURNS: usize>(
-    rt: &impl Wait,
-    scene: Scene<'_>,
-    stage: &mut Stage,
-) {
-    let scene = scene.on("fixed");
-    let made = on_types::<SLOTS, SENDS, RETURNS>(rt, scene, stage);
-    stage.made(scene, made);
-}
-
-/// Plays the block on all forms: the head has how many slots there are, and places in each queue.
-pub fn forms(
-    rt: &impl Wait,
-    scene: Scene<'_>,
-    words: &mut Words<'_>,
-    stage: &mut Stage,
-) -> Option<()> {
-    let heap = scene.of_capacity(words.place()?).on("heap");
-    let sends = words.place()?;
-    let returns = words.place()?;
-    let made = on_heap(rt, heap, stage, sends, returns);
-    stage.made(heap, made);
-    match (heap.capacity, sends, returns) {
-        (1, 0, 1) => on_fixed::<1, 0, 1>(rt, heap, stage),
-        (1, 1, 1) => on_fixed::<1, 1, 1>(rt, heap, stage),
-        (2, 1, 2) => on_fixed::<2, 1, 2>(rt, heap, stage),
-        (3, 3, 8) => on_fixed::<3, 3, 8>(rt, heap, stage),
-        _ => {}
+/// A call of the sender.
+fn make_call(sender: &mut LoanSender<'_>, rt: &impl Wait, call: Call<'_>, answer: &mut Answer)
+    ensures set { set_of_sender sender.new ≡ set_of_sender sender.old }
+    ensures submission { submission_of sender.new ≡ submission_of sender.old }
+{
+    let index = (call.numbers[0] & 0xffff_ffff) as u32;
+    let is_loaned = sender.is_loaned(index);
+    match call.name {
+        "loan" => say_acquired(sender.loan(rt), answer),
+        "is_loaned" => answer.truth(is_loaned),
+        "take_back" => answer.perhaps(sender.take_back()),
+        "send" if is_loaned => answer.perhaps(sender.send(index)),
+        "give_up" if is_loaned => {
+            sender.give_up(index);
+            answer.word("done");
+        }
+        _ => answer.word("refused"),
     }
-    Some(())
+}
+
+impl<'a> User<'a> {
+    fn new(
+        alloc: Global,
+        set: &'a UniqueIndexSet,
+        slots: Pass,
+        submission: overflow::Handle<'a>,
+        completion: Handle<'a>,
+    ) -> Option<User<'a>>
+        requires { IsPassOf set.now slots }
+    {
+        // what is split off holds no index
+        let mut looks = slots;
+        let slots = looks.split()?;
+        let (producer, receives) = submission.ends()?;
+        let mut last = completion;
+        let (returns, consumer) = last.split()?.ends()?;
+        let sender = sender(alloc, set, slots, producer, consumer)?;
+        Some(User {
+            set,
+            looks,
+            sender: Some(sender),
+            receives,
+            returns,
+            last,
+        })
+    }
+
+    /// The receiver's guard of what is sent goes to the sender for it.
+    fn reclaim(&mut self, rt: &impl Wait, answer: &mut Answer) {
+        match &mut self.sender {
+            Some(sender) => answer.number(sender.reclaim(rt, &mut self.receives) as u64),
+            None => answer.word("refused"),
+        }
+    }
+
+    /// The sender ends. The answer is how many indices are borrowed, by the pass that it had, and what waits to be taken
+    /// back.
+    fn finish(&mut self, answer: &mut Answer) {
+        match self.sender.take() {
+            Some(sender) => {
+                let mut pass = sender.finish();
+                answer.number(self.set.borrowed_indices(&mut pass) as u64);
+                self.left(answer);
+            }
+            None => answer.word("refused"),
+        }
+    }
+
+    /// What waits to be taken back, by one who comes after the sender.
+    fn left(&mut self, answer: &mut Answer) {
+        let Some(handle) = self.last.split() else {
+            return answer.word("no_pass");
+        };
+        match handle.acquire_consumer() {
+            Ok(mut consumer) => answer.perhaps(consumer.pop()),
+            Err(_) => answer.word("taken"),
+        }
+    }
+
+    fn send(&mut self, rt: &impl Wait, call: Call<'_>, answer: &mut Answer) {
+        match &mut self.sender {
+            Some(sender) => make_call(sender, rt, call, answer),
+            None => answer.word("refused"),
+        }
+    }
+}
+
+impl<'a> Answers for User<'a> {
+    fn answer(&mut self, rt: &impl Wait, call: Call<'_>, answer: &mut Answer) {
+        match call.name {
+            "receive" => answer.perhaps(self.receives.pop(rt)),
+            "give_back" => answer.truth(self.returns.push(call.numbers[0])),
+            "borrowed_indices" => {
+                answer.number(self.set.borrowed_indices(&mut self.looks) as u64);
+            }
+            "reclaim" => self.reclaim(rt, answer),
+            "finish" => self.finish(answer),
+            _ => self.send(rt, call, answer),
+        }
+    }
+}
+
+/// Plays the block on a channel of its form: of so many slots, places for what is sent and places for what comes back.
+pub fn play_loan(rt: &impl Wait, block: &mut Block<'_>) -> Made {
+    let [slots, sends, returns, ..] = block.numbers;
+    if block.form == "heap" {
+        return heap(rt, block, sends as usize, returns as usize);
+    }
+    match (slots, sends, returns) {
+        (1, 0, 1) => fixed::<1, 0, 1>(rt, block),
+        (1, 1, 1) => fixed::<1, 1, 1>(rt, block),
+        (2, 1, 2) => fixed::<2, 1, 2>(rt, block),
+        _ => fixed::<3, 3, 8>(rt, block),
+    }
+}
+
+fn heap(rt: &impl Wait, block: &mut Block<'_>, sends: usize, returns: usize) -> Made {
+    let (set, slots) = UniqueIndexSet::new(block.alloc, block.capacity)?;
+    let (sends, pass) = SafelyOverflowingIndexQueue::new(block.alloc, sends)?;
+    let (returns, back) = IndexQueue::new(block.alloc, returns)?;
+    let (sent, back) = (sends.handle(pass), returns.handle(back));
+    let user = User::new(block.alloc, &set, slots, sent, back);
+    play_on(rt, block, user)
+}
+
+fn fixed<const SLOTS: usize, const SENDS: usize, const RETURNS: usize>(
+    rt: &impl Wait,
+    block: &mut Block<'_>,
+) -> Made {
+    let (set, slots) = FixedSizeUniqueIndexSet::<SLOTS>::new(block.alloc)?;
+    let (sends, pass) = FixedSizeSafelyOverflowingIndexQueue::<SENDS>::new(block.alloc)?;
+    let (returns, back) = FixedSizeIndexQueue::<RETURNS>::new(block.alloc)?;
+    let (sent, back) = (sends.handle(pass), returns.handle(back));
+    let user = User::new(block.alloc, &set, slots, sent, back);
+    play_on(rt, block, user)
 }

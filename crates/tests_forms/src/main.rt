@@ -1,51 +1,84 @@
-//! Makes the calls of texts on each structure, on every form of it, and tells which lines came out as written. Each
-//! argument is the name of a text.
+//! Makes the calls of a script, which it reads from standard input, and prints what they answer.
+//!
+//! A script has blocks, which empty lines part. The first line of a block names a structure, a form of it, the type of its
+//! values and numbers, of which the first is the capacity: `queue type u128 9 0`. Each other line is a call, with numbers:
+//! `push 17`. A line is printed for each call, and at the end of a block one that tells whether the structure was made.
+//! `tests/forms` draws scripts and judges what is printed.
 #![tactic(auto)]
 
-mod bits;
+/// Calls the function for the block's type of values.
+macro_rules! of_values {
+    ($play:ident, $rt:expr, $block:expr) => {
+        match $block.values {
+            "u32" => $play::<u32>($rt, $block),
+            "u64" => $play::<u64>($rt, $block),
+            "u128" => $play::<u128>($rt, $block),
+            "pairs" => $play::<(u64, u64)>($rt, $block),
+            "three" => $play::<Three>($rt, $block),
+            "sixteen" => $play::<Sixteen>($rt, $block),
+            _ => $play::<Greatest>($rt, $block),
+        }
+    };
+}
+
+/// Calls the function for a capacity that types have.
+macro_rules! of_capacity {
+    ($play:ident, $capacity:expr, $rt:expr, $block:expr; $($is:literal)*) => {
+        match $capacity {
+            $($is => $play::<$is>($rt, $block),)*
+            _ => Err(UniqueIndexCreationError::NoMemory),
+        }
+    };
+    ($play:ident::<$T:ident>, $capacity:expr, $rt:expr, $block:expr; $($is:literal)*) => {
+        match $capacity {
+            $($is => $play::<$T, $is>($rt, $block),)*
+            _ => Err(UniqueIndexCreationError::NoMemory),
+        }
+    };
+}
+
 mod container;
-mod counts;
 mod facts;
 mod indices;
+mod lines;
 mod loan;
 mod queues;
 mod robust;
 mod sets;
 mod value;
 
+use facts::Facts;
+use lines::{Block, Made, play};
 use std::io;
 use std::sync::Wait;
-use tests_calls::blocks::{Structures, plays_all};
-use tests_calls::stage::{Scene, Stage};
-use tests_calls::words::Words;
 
-/// The structures.
-struct All;
-
-impl Structures for All {
-    fn forms(
-        rt: &impl Wait,
-        scene: Scene<'_>,
-        words: &mut Words<'_>,
-        stage: &mut Stage,
-    ) -> Option<()> {
-        match words.word()? {
-            "atomic" => value::forms(rt, scene, words, stage),
-            "bits" => bits::forms(rt, scene, words, stage),
-            "container" => container::forms(rt, scene, words, stage),
-            "counts" => counts::forms(rt, scene, words, stage),
-            "facts" => facts::forms(rt, scene, stage),
-            "index_queue" => queues::index_queue::forms(rt, scene, words, stage),
-            "indices" => indices::forms(rt, scene, words, stage),
-            "loan" => loan::forms(rt, scene, words, stage),
-            "overflow" => queues::overflow::forms(rt, scene, words, stage),
-            "queue" => queues::values::forms(rt, scene, words, stage),
-            "robust" => robust::forms(rt, scene, words, stage),
-            _ => None,
+/// Plays a block on its structure.
+fn play_block(rt: &impl Wait, block: &mut Block<'_>) -> Made {
+    match block.structure {
+        "atomic" => value::play_value(rt, block),
+        "bits" => sets::play_bits(rt, block),
+        "container" => container::play_container(rt, block),
+        "counts" => sets::play_counts(rt, block),
+        "index_queue" => queues::play_index(rt, block),
+        "indices" => indices::play_indices(rt, block),
+        "loan" => loan::play_loan(rt, block),
+        "overflow" => queues::play_overflowing(rt, block),
+        "queue" => queues::play_values(rt, block),
+        "robust" => robust::play_robust(rt, block),
+        _ => {
+            play(rt, block.lines, &mut block.answer, &mut Facts);
+            Ok(())
         }
     }
 }
 
 fn main(rt: HostRuntime) -> io::Result<()> {
-    plays_all::<All, _>(&rt)
+    let text = io::read_to_string(rt.alloc(), rt.stdin())?;
+    for part in text.split("\n\n") {
+        let mut block = Block::new(rt.alloc(), part);
+        let made = play_block(&rt, &mut block);
+        block.answer.made(made);
+        rt.print(block.answer.text.as_str())?;
+    }
+    Ok(())
 }

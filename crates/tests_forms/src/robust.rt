@@ -1,121 +1,201 @@
 //! Sets of indices of owners.
-use crate::robust::call::RobustCall;
-use crate::robust::user::two;
-use lock_free::mpmc::robust_unique_index_set::{RobustUniqueIndexSet, StaticRobustUniqueIndexSet};
+ghost use Rattle.lock_free.specs.RobustUniqueIndexSet.{IsPassOf};
+
+use crate::lines::{
+    Answer, Answers, Block, Call, Made, Two, goes_on, is_yes, mode, owner, play_on,
+};
+use lock_free::mpmc::robust_unique_index_set::{
+    Handle, OwnerId, Pass, RobustUniqueIndexSet, StaticRobustUniqueIndexSet,
+};
 use std::sync::Wait;
-use tests_calls::forms::{Form, Made, Plain, on, plays};
-use tests_calls::play::{Nobody, play};
-use tests_calls::stage::{Scene, Stage};
-use tests_calls::words::Words;
+use steps::enums::UniqueIndexCreationError;
+use steps::indices::enums::{
+    ReleaseState, RobustUniqueIndexSetReleaseError, UniqueIndexSetAcquireFailure,
+};
 
-mod alone;
-mod call;
-mod user;
-
-/// One of one caller from a generation on, which is played on alone.
-struct OfGeneration;
-
-impl Form for OfGeneration {
-    fn plays(rt: &impl Wait, scene: Scene<'_>, stage: &mut Stage) -> Made {
-        let mut alone = plain::RobustUniqueIndexSet::new_at(
-            scene.alloc,
-            scene.capacity,
-            scene.number,
-        )?;
-        let mut nobody = Nobody;
-        play::<RobustCall, _, _>(rt, scene, stage, &mut nobody, &mut alone);
-        let Nobody = nobody;
-        Ok(())
+fn say_acquired(index: Result<usize, UniqueIndexSetAcquireFailure>, answer: &mut Answer) {
+    match index {
+        Ok(index) => answer.number(index as u64),
+        Err(UniqueIndexSetAcquireFailure::OutOfIndices) => answer.word("OutOfIndices"),
+        Err(UniqueIndexSetAcquireFailure::IsLocked) => answer.word("locked"),
     }
 }
 
-/// One of threads.
-struct Heap;
-
-impl Form for Heap {
-    fn plays(rt: &impl Wait, scene: Scene<'_>, stage: &mut Stage) -> Made {
-        let (set, pass) = RobustUniqueIndexSet::new(scene.alloc, scene.capacity)?;
-        plays::<RobustCall, plain::RobustUniqueIndexSet, _>(rt, scene, stage, two(&set, pass))
+fn say_released(
+    state: Result<ReleaseState, RobustUniqueIndexSetReleaseError>,
+    answer: &mut Answer,
+) {
+    match state {
+        Ok(state) => answer.ended(state),
+        Err(_) => answer.word("not_owned"),
     }
 }
 
-/// One of a type that has the capacity.
-struct Fixed<const CAPACITY: usize>;
-
-impl<const CAPACITY: usize> Form for Fixed<CAPACITY> {
-    fn plays(rt: &impl Wait, scene: Scene<'_>, stage: &mut Stage) -> Made {
-        let (set, pass) = StaticRobustUniqueIndexSet::<CAPACITY>::new(scene.alloc)?;
-        plays::<RobustCall, plain::RobustUniqueIndexSet, _>(rt, scene, stage, two(&set, pass))
+/// Whether the answer to the question of this number is yes: by the mask, or where the owner is the one of the call.
+fn is_freed(call: Call<'_>, owner: OwnerId, question: u64) -> bool {
+    if call.name == "recover_of" {
+        owner.value() == call.numbers[1]
+    } else {
+        is_yes(call.numbers[1], question)
     }
 }
 
-/// One of a type that has a greater capacity.
-struct Reduced<const CAPACITY: usize>;
-
-impl<const CAPACITY: usize> Form for Reduced<CAPACITY> {
-    fn plays(rt: &impl Wait, scene: Scene<'_>, stage: &mut Stage) -> Made {
-        let (set, pass) = StaticRobustUniqueIndexSet::<CAPACITY>::new_with_reduced_capacity(
-            scene.alloc,
-            scene.capacity,
-        )?;
-        plays::<RobustCall, plain::RobustUniqueIndexSet, _>(rt, scene, stage, two(&set, pass))
-    }
+fn hear(owner: OwnerId, index: usize, answer: &mut Answer) {
+    answer.number(owner.value());
+    answer.number(index as u64);
 }
 
-/// Plays the block on a set whose type has this greater capacity.
-fn on_greater(rt: &impl Wait, scene: Scene<'_>, of: u64, stage: &mut Stage) -> Option<()> {
-    match of {
-        6 => on::<Reduced<6>>(rt, scene, stage, "reduced"),
-        8 => on::<Reduced<8>>(rt, scene, stage, "reduced"),
-        128 => on::<Reduced<128>>(rt, scene, stage, "reduced"),
-        4_294_967_295 => on::<Reduced<4_294_967_295>>(rt, scene, stage, "reduced"),
-        4_294_967_296 => on::<Reduced<4_294_967_296>>(rt, scene, stage, "reduced"),
-        _ => return None,
-    }
-    Some(())
+/// A find, of one caller or by a handle.
+macro_rules! say_found {
+    ($set:ident, $call:ident, $answer:ident) => {{
+        let mut number = 0u64;
+        let found = $set.find(
+            owner($call.numbers[0]),
+            &mut |index| {
+                number = number.wrapping_add(1);
+                $answer.number(index as u64);
+                goes_on(number, $call.numbers[1])
+            },
+        );
+        $answer.word("found");
+        $answer.number(found as u64);
+    }};
 }
 
-/// The head says more than the capacity. `of 8` is a set of reduced capacity, `at 7` one of one caller at a generation.
-fn forms_of(
-    rt: &impl Wait,
-    scene: Scene<'_>,
-    stage: &mut Stage,
-    word: &str,
-    number: u64,
-) -> Option<()> {
-    match word {
-        "of" => on_greater(rt, scene, number, stage),
-        "at" => {
-            on::<OfGeneration>(rt, scene.of_number(number), stage, "plain");
-            Some(())
+/// A recovery, of one caller or by a handle with the runtime.
+macro_rules! say_recovered {
+    ($set:ident, $call:ident, $answer:ident $(, $rt:ident)?) => {{
+        let mut question = 0u64;
+        let mut asked = Answer::new($answer.alloc);
+        let mut told = Answer::new($answer.alloc);
+        let state = $set.recover(
+            $($rt,)?
+            mode($call.numbers[0]),
+            &mut |owner, index| {
+                hear(owner, index, &mut asked);
+                question = question.wrapping_add(1);
+                is_freed($call, owner, question.wrapping_sub(1))
+            },
+            &mut |owner, index| hear(owner, index, &mut told),
+        );
+        $answer.ended(state);
+        $answer.word("asked");
+        $answer.put(asked.text.as_str());
+        $answer.word("told");
+        $answer.put(told.text.as_str());
+        $answer.lost |= asked.lost | told.lost;
+    }};
+}
+
+/// The other calls: `release 3 7 1` is of the index 3 and the owner 7, and locks the set if it was the last one.
+macro_rules! answer_of_robust {
+    ($set:ident, $call:ident, $answer:ident $(, $rt:ident)?) => {
+        match $call.name {
+            "acquire" => say_acquired($set.acquire($($rt,)? owner($call.numbers[0])), $answer),
+            "release" => {
+                let index = $call.numbers[0] as usize;
+                if index < $set.capacity() {
+                    let mode = mode($call.numbers[2]);
+                    say_released($set.release($($rt,)? index, owner($call.numbers[1]), mode), $answer);
+                } else {
+                    $answer.word("refused");
+                }
+            }
+            "borrowed_indices" => $answer.number($set.borrowed_indices($($rt)?) as u64),
+            "is_locked" => $answer.truth($set.is_locked()),
+            "capacity" => $answer.number($set.capacity() as u64),
+            _ => {}
         }
-        _ => None,
+    };
+}
+
+fn find_alone(set: &mut plain::RobustUniqueIndexSet, call: Call<'_>, answer: &mut Answer) {
+    say_found!(set, call, answer);
+}
+
+fn recover_alone(set: &mut plain::RobustUniqueIndexSet, call: Call<'_>, answer: &mut Answer) {
+    say_recovered!(set, call, answer);
+}
+
+impl Answers for plain::RobustUniqueIndexSet {
+    fn answer(&mut self, _rt: &impl Wait, call: Call<'_>, answer: &mut Answer) {
+        match call.name {
+            "find" => find_alone(self, call, answer),
+            "recover" | "recover_of" => recover_alone(self, call, answer),
+            _ => answer_of_robust!(self, call, answer),
+        }
     }
 }
 
-/// Plays the block on all forms.
-pub fn forms(
-    rt: &impl Wait,
-    scene: Scene<'_>,
-    words: &mut Words<'_>,
-    stage: &mut Stage,
-) -> Option<()> {
-    let scene = scene.of_capacity(words.place()?);
-    if let Some(word) = words.word() {
-        return forms_of(rt, scene, stage, word, words.number()?);
+fn find(set: &mut Handle<'_>, call: Call<'_>, answer: &mut Answer) {
+    say_found!(set, call, answer);
+}
+
+fn recover(rt: &impl Wait, set: &mut Handle<'_>, call: Call<'_>, answer: &mut Answer) {
+    say_recovered!(set, call, answer, rt);
+}
+
+/// Whether the set is locked, by a further handle.
+fn is_locked_further(set: &mut Handle<'_>, answer: &mut Answer) {
+    match set.split() {
+        Some(mut further) => answer.truth(further.is_locked()),
+        None => answer.word("no_pass"),
     }
-    on::<Plain<RobustCall, plain::RobustUniqueIndexSet>>(rt, scene, stage, "plain");
-    on::<Heap>(rt, scene, stage, "heap");
-    match scene.capacity {
-        0 => on::<Fixed<0>>(rt, scene, stage, "fixed"),
-        3 => on::<Fixed<3>>(rt, scene, stage, "fixed"),
-        4 => on::<Fixed<4>>(rt, scene, stage, "fixed"),
-        5 => on::<Fixed<5>>(rt, scene, stage, "fixed"),
-        9 => on::<Fixed<9>>(rt, scene, stage, "fixed"),
-        100 => on::<Fixed<100>>(rt, scene, stage, "fixed"),
-        128 => on::<Fixed<128>>(rt, scene, stage, "fixed"),
-        4_294_967_296 => on::<Fixed<4_294_967_296>>(rt, scene, stage, "fixed"),
-        _ => {}
+}
+
+impl<'a> Answers for Handle<'a> {
+    fn answer(&mut self, rt: &impl Wait, call: Call<'_>, answer: &mut Answer) {
+        match call.name {
+            "find" => find(self, call, answer),
+            "recover" | "recover_of" => recover(rt, self, call, answer),
+            "is_locked_further" => is_locked_further(self, answer),
+            _ => answer_of_robust!(self, call, answer, rt),
+        }
     }
-    Some(())
+}
+
+/// The set by two passes, of which one is made of two.
+fn two<'a>(set: &'a RobustUniqueIndexSet, pass: Pass) -> Option<Two<Handle<'a>>>
+    requires { IsPassOf set.now pass }
+{
+    let mut pass = pass;
+    let mut other = pass.split()?;
+    other.join(pass.split()?);
+    Some(Two {
+        now: set.handle(pass),
+        other: set.handle(other),
+    })
+}
+
+/// Plays the block on a set of its form: of one caller from a generation on, which is the next number, or reduced to the
+/// capacity, of a type of that number.
+pub fn play_robust(rt: &impl Wait, block: &mut Block<'_>) -> Made {
+    let (alloc, capacity, number) = (block.alloc, block.capacity, block.numbers[1]);
+    match block.form {
+        "plain" => {
+            let set = plain::RobustUniqueIndexSet::new(alloc, capacity)?;
+            play_on(rt, block, Some(set))
+        }
+        "plain_at" => {
+            let set = plain::RobustUniqueIndexSet::new_at(alloc, capacity, number)?;
+            play_on(rt, block, Some(set))
+        }
+        "heap" => {
+            let (set, pass) = RobustUniqueIndexSet::new(alloc, capacity)?;
+            play_on(rt, block, two(&set, pass))
+        }
+        "fixed" => of_capacity!(fixed, capacity, rt, block; 0 3 4 5 9 100 128 4_294_967_296),
+        _ => of_capacity!(reduced, number, rt, block; 6 8 128 4_294_967_295 4_294_967_296),
+    }
+}
+
+fn fixed<const N: usize>(rt: &impl Wait, block: &mut Block<'_>) -> Made {
+    let (set, pass) = StaticRobustUniqueIndexSet::<N>::new(block.alloc)?;
+    play_on(rt, block, two(&set, pass))
+}
+
+fn reduced<const N: usize>(rt: &impl Wait, block: &mut Block<'_>) -> Made {
+    let (alloc, capacity) = (block.alloc, block.capacity);
+    let (set, pass) = StaticRobustUniqueIndexSet::<N>::new_with_reduced_capacity(alloc, capacity)?;
+    play_on(rt, block, two(&set, pass))
 }

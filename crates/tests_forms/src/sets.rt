@@ -1,69 +1,164 @@
-//! What is done with bit sets and with counting bit sets alike.
+//! Bit sets, and counting bit sets.
 ghost use Rattle.lock_free.specs.Sets.Calls.{IsPassOf};
 
-use lock_free::mpmc::sets::rule::Kind;
+use crate::lines::{Answer, Answers, Block, Call, Made, Two, play_on};
+use lock_free::mpmc::counting_bit_set::CountingBitSet;
+use lock_free::mpmc::sets::rule::{Counts, Flags, Kind};
 use lock_free::mpmc::sets::{FixedSize, Handle, Pass, Set};
-use std::marker::PhantomData;
 use std::sync::Wait;
-use tests_calls::answer::Answer;
-use tests_calls::forms::{Alone, Form, Made, plays};
-use tests_calls::play::{Answers, Call};
-use tests_calls::stage::{Scene, Stage};
-use tests_calls::two::Two;
+use steps::bits::counting_bit_set::BitState;
+use steps::enums::UniqueIndexCreationError;
 
-/// A kind of sets, on which these calls are made.
-pub trait Places<C: Call>: Kind + Sized {
-    fn answer(set: &mut Handle<'_, Self>, rt: &impl Wait, call: C, answer: &mut Answer);
+/// A call on a bit set: of one caller, or by a handle, whose calls have the runtime.
+macro_rules! answer_of_bits {
+    ($set:ident, $call:ident, $answer:ident $(, $rt:ident)?) => {{
+        let place = $call.numbers[0] as usize;
+        let is_in = place < $set.capacity();
+        match $call.name {
+            "set" if is_in => $answer.truth($set.set($($rt,)? place)),
+            "is_set" if is_in => $answer.truth($set.is_set(place)),
+            "reset_next" => $answer.perhaps(number_of($set.reset_next($($rt)?))),
+            "capacity" => $answer.number($set.capacity() as u64),
+            _ => $answer.word("refused"),
+        }
+    }};
 }
 
-/// Who uses a set.
-#[derive(Drop)]
-struct User<'a, E: Kind> {
-    handle: Handle<'a, E>,
+/// The same of a counting bit set.
+macro_rules! answer_of_counts {
+    ($set:ident, $call:ident, $answer:ident) => {{
+        let place = $call.numbers[0] as usize;
+        let is_in = place < $set.capacity();
+        match $call.name {
+            "set" if is_in => $answer.number($set.set(place)),
+            "count" if is_in => $answer.number($set.count(place)),
+            "capacity" => $answer.number($set.capacity() as u64),
+            _ => $answer.word("refused"),
+        }
+    }};
 }
 
-impl<'a, C: Call, E: Places<C>> Answers<C> for User<'a, E> {
-    fn answer(&mut self, rt: &impl Wait, call: C, answer: &mut Answer) {
-        E::answer(&mut self.handle, rt, call, answer);
+fn number_of(place: Option<usize>) -> Option<u64> {
+    match place {
+        Some(place) => Some(place as u64),
+        None => None,
+    }
+}
+
+/// A place with its count.
+fn say(state: BitState, answer: &mut Answer) {
+    answer.number(state.bit() as u64);
+    answer.number(state.count());
+}
+
+#[tactic(auto, using(plain::proofs::Visits::takes_any))]
+fn empty_bits(set: &mut plain::BitSet, answer: &mut Answer) {
+    answer.word("done");
+    set.reset_all(&mut |place| answer.number(place as u64));
+}
+
+#[tactic(auto, using(plain::proofs::Visits::takes_any))]
+fn empty_counts(set: &mut plain::CountingBitSet, answer: &mut Answer) {
+    answer.word("done");
+    set.reset_all(&mut |state| say(state, answer));
+}
+
+impl Answers for plain::BitSet {
+    fn answer(&mut self, _rt: &impl Wait, call: Call<'_>, answer: &mut Answer) {
+        if call.name == "reset_all" {
+            empty_bits(self, answer);
+        } else {
+            answer_of_bits!(self, call, answer);
+        }
+    }
+}
+
+impl Answers for plain::CountingBitSet {
+    fn answer(&mut self, _rt: &impl Wait, call: Call<'_>, answer: &mut Answer) {
+        match call.name {
+            "reset_all" => empty_counts(self, answer),
+            "max_count" => answer.number(plain::CountingBitSet::max_count()),
+            _ => answer_of_counts!(self, call, answer),
+        }
+    }
+}
+
+/// A kind of sets between threads.
+trait Places: Kind + Sized {
+    fn answer(set: &mut Handle<'_, Self>, rt: &impl Wait, call: Call<'_>, answer: &mut Answer);
+}
+
+impl Places for Flags {
+    fn answer(set: &mut Handle<'_, Flags>, rt: &impl Wait, call: Call<'_>, answer: &mut Answer) {
+        if call.name == "reset_all" {
+            answer.word("done");
+            set.reset_all(&mut |place| answer.number(place as u64));
+        } else {
+            answer_of_bits!(set, call, answer, rt);
+        }
+    }
+}
+
+impl Places for Counts {
+    fn answer(set: &mut Handle<'_, Counts>, _rt: &impl Wait, call: Call<'_>, answer: &mut Answer) {
+        match call.name {
+            "reset_all" => {
+                answer.word("done");
+                set.reset_all(&mut |state| say(state, answer));
+            }
+            "max_count" => answer.number(CountingBitSet::max_count()),
+            _ => answer_of_counts!(set, call, answer),
+        }
+    }
+}
+
+impl<'a, E: Places> Answers for Handle<'a, E> {
+    fn answer(&mut self, rt: &impl Wait, call: Call<'_>, answer: &mut Answer) {
+        E::answer(self, rt, call, answer);
     }
 }
 
 /// The set by two passes, of which one is made of two.
-fn two<'a, E: Kind>(set: &'a Set<E>, pass: Pass<E>) -> Option<Two<User<'a, E>>>
+fn two<'a, E: Places>(set: &'a Set<E>, pass: Pass<E>) -> Option<Two<Handle<'a, E>>>
     requires { IsPassOf set.now pass }
 {
     let mut pass = pass;
     let mut other = pass.split()?;
     other.join(pass.split()?);
-    let now = User {
-        handle: set.handle(pass),
-    };
-    let other = User {
-        handle: set.handle(other),
-    };
-    Some(Two::new(now, other))
+    Some(Two {
+        now: set.handle(pass),
+        other: set.handle(other),
+    })
 }
 
-/// One of threads.
-pub struct Heap<E, C, P> {
-    of: PhantomData<(E, C, P)>,
+fn fixed<E: Places, const N: usize>(rt: &impl Wait, block: &mut Block<'_>) -> Made {
+    let (set, pass) = FixedSize::<E, N>::new(block.alloc)?;
+    play_on(rt, block, two(&set, pass))
 }
 
-impl<C: Call, P: Alone<C>, E: Places<C>> Form for Heap<E, C, P> {
-    fn plays(rt: &impl Wait, scene: Scene<'_>, stage: &mut Stage) -> Made {
-        let (set, pass) = Set::<E>::new(scene.alloc, scene.capacity)?;
-        plays::<C, P, Two<User<'_, E>>>(rt, scene, stage, two(&set, pass))
+/// A form of threads: of this capacity, or of a type that has it.
+fn threaded<E: Places>(rt: &impl Wait, block: &mut Block<'_>) -> Made {
+    if block.form != "heap" {
+        return of_capacity!(fixed::<E>, block.capacity, rt, block; 0 1 2 5 9 64 123 128 4_294_967_296);
     }
+    let (set, pass) = Set::<E>::new(block.alloc, block.capacity)?;
+    play_on(rt, block, two(&set, pass))
 }
 
-/// One of a type that has the capacity.
-pub struct Fixed<E, C, P, const CAPACITY: usize> {
-    of: PhantomData<(E, C, P)>,
-}
-
-impl<C: Call, P: Alone<C>, E: Places<C>, const CAPACITY: usize> Form for Fixed<E, C, P, CAPACITY> {
-    fn plays(rt: &impl Wait, scene: Scene<'_>, stage: &mut Stage) -> Made {
-        let (set, pass) = FixedSize::<E, CAPACITY>::new(scene.alloc)?;
-        plays::<C, P, Two<User<'_, E>>>(rt, scene, stage, two(&set, pass))
+/// Plays the block on a bit set of its form.
+pub fn play_bits(rt: &impl Wait, block: &mut Block<'_>) -> Made {
+    if block.form != "plain" {
+        return threaded::<Flags>(rt, block);
     }
+    let set = plain::BitSet::new(block.alloc, block.capacity)?;
+    play_on(rt, block, Some(set))
+}
+
+/// The same of a counting bit set.
+pub fn play_counts(rt: &impl Wait, block: &mut Block<'_>) -> Made {
+    if block.form != "plain" {
+        return threaded::<Counts>(rt, block);
+    }
+    let set = plain::CountingBitSet::new(block.alloc, block.capacity)?;
+    play_on(rt, block, Some(set))
 }
