@@ -6,8 +6,6 @@ mod calls;
 #[cfg(test)]
 mod examples;
 #[cfg(test)]
-mod pool;
-#[cfg(test)]
 mod readers;
 #[cfg(test)]
 mod rooms;
@@ -15,8 +13,6 @@ mod rooms;
 mod sizes;
 #[cfg(test)]
 mod slots;
-#[cfg(test)]
-mod threads;
 #[cfg(test)]
 mod turns;
 #[cfg(test)]

@@ -1,5 +1,5 @@
 //! Both ends of a channel in one thread, and the steps of a row, each with what it has to come to.
-use std::alloc::{AllocError, Global};
+use std::alloc::Global;
 use std::mem::forget;
 use std::sync::Wait;
 use zero_copy_loans::channel::Channel;
@@ -13,19 +13,19 @@ const QUEUE: usize = 2;
 /// A step, and what has to come of it.
 #[derive(Clone, Copy)]
 pub enum Step {
-    /// A text is sent, and this number comes back, if any.
-    Sends(&'static str, Option<u64>),
-    /// The text that comes next, with its number. It is given back.
-    Reads(u64, &'static str),
-    /// The same of a text whose number is that of the round.
-    ReadsOfRound(&'static str),
-    /// The same of a text with its number, and a reading of it is forgotten before.
-    Forgets(u64, &'static str),
+    /// A value is sent, and this place comes back, if any.
+    Sends(u64, Option<u64>),
+    /// The value that comes next, after its number. It is given back.
+    Reads(u64, u64),
+    /// The same of a value whose number is that of the round.
+    ReadsOfRound(u64),
+    /// The same of a value with its number, and a reading of it is forgotten before.
+    Forgets(u64, u64),
     /// Nothing waits to be received.
     FindsNone,
     /// This place is taken back, if any.
     TakesBack(Option<u64>),
-    /// The next text has this number.
+    /// The next value has this number.
     IsNext(u64),
     /// A first loan is kept.
     LoansOne,
@@ -51,10 +51,10 @@ pub enum Step {
 
 /// Both ends, and two loans that are kept.
 pub struct Room<'a> {
-    pub sender: Sender<'a, String>,
-    pub receiver: Receiver<'a, String>,
-    one: Option<Loan<'a, String>>,
-    other: Option<Loan<'a, String>>,
+    pub sender: Sender<'a, u64>,
+    pub receiver: Receiver<'a, u64>,
+    one: Option<Loan<'a, u64>>,
+    other: Option<Loan<'a, u64>>,
     /// The place of the second loan.
     place: u32,
 }
@@ -72,66 +72,60 @@ impl<'a> Drop for Room<'a> {
 }
 
 /// Makes a channel of so many places. None where there is no memory.
-pub fn channel(alloc: Global, places: usize) -> Option<Channel<String>> {
+pub fn channel(alloc: Global, places: usize) -> Option<Channel<u64>> {
     Channel::new(alloc, places, QUEUE).ok()
 }
 
-/// Texts to write, so many.
-fn texts(alloc: Global, number: usize) -> Result<Vec<String>, AllocError> {
-    let mut texts = Vec::new(alloc);
-    for _ in 0..number {
-        texts.push(String::new(alloc))?;
-    }
-    Ok(texts)
-}
-
-/// Sends a text: the answer of the channel. None where there is no place, or no memory.
-fn send(rt: &impl Wait, sender: &mut Sender<'_, String>, text: &str) -> Option<Option<u64>> {
+/// Sends a value: the answer of the channel. None where there is no place.
+fn send(rt: &impl Wait, sender: &mut Sender<'_, u64>, value: u64) -> Option<Option<u64>> {
     let mut loan = sender.loan(rt).ok()?;
-    loan.value.clear();
-    loan.value.push_str(text).ok()?;
+    loan.value = value;
     match sender.send(loan) {
         Some(back) => Some(Some(back.place as u64)),
         None => Some(None),
     }
 }
 
-/// Whether a sample is this text, with this number.
-fn is_text(receiver: &Receiver<'_, String>, sample: &Sample, number: u64, text: &str) -> bool {
+/// Whether a sample is this value, with this number.
+fn is_value(receiver: &Receiver<'_, u64>, sample: &Sample, number: u64, value: u64) -> bool {
     match receiver.read(sample) {
         Ok(reading) => {
-            sample.number() == number
-                && reading.number() == number
-                && reading.get().as_str() == text
+            sample.number() == number && reading.number() == number && *reading.get() == value
         }
         Err(_) => false,
     }
 }
 
-/// Whether the text that comes next is this one, with this number. A reading of it is forgotten before, if that is asked. It is given
-/// back.
+/// Whether a reading of a sample was to be had. It is forgotten.
+fn forget_reading(receiver: &Receiver<'_, u64>, sample: &Sample) -> bool {
+    match receiver.read(sample) {
+        Ok(reading) => {
+            forget(reading);
+            true
+        }
+        Err(_) => false,
+    }
+}
+
+/// Whether the value that comes next is this one, with this number. A reading of it is forgotten before, if that is asked. It is
+/// given back.
 fn read(
     rt: &impl Wait,
-    receiver: &mut Receiver<'_, String>,
+    receiver: &mut Receiver<'_, u64>,
     number: u64,
-    text: &str,
+    value: u64,
     forgets: bool,
 ) -> bool {
     let Some(sample) = receiver.receive(rt) else {
         return false;
     };
-    if forgets {
-        match receiver.read(&sample) {
-            Ok(reading) => forget(reading),
-            Err(_) => return false,
-        }
-    }
-    let is_right = is_text(receiver, &sample, number, text);
+    let mut is_right = !forgets || forget_reading(receiver, &sample);
+    is_right &= is_value(receiver, &sample, number, value);
     is_right & receiver.give_back(sample)
 }
 
 /// Whether there is no loan, for the reason of this step.
-pub fn is_refused(rt: &impl Wait, sender: &mut Sender<'_, String>, step: Step) -> bool {
+pub fn is_refused(rt: &impl Wait, sender: &mut Sender<'_, u64>, step: Step) -> bool {
     let Err(failure) = sender.loan(rt) else {
         return false;
     };
@@ -147,7 +141,7 @@ pub fn is_refused(rt: &impl Wait, sender: &mut Sender<'_, String>, step: Step) -
 }
 
 /// Whether a place can be regained, and its own slot was left empty.
-fn regain(sender: &mut Sender<'_, String>, place: u32) -> bool {
+fn regain(sender: &mut Sender<'_, u64>, place: u32) -> bool {
     match sender.regain(place) {
         Some(emptied) => emptied.slot() == place,
         None => false,
@@ -155,10 +149,10 @@ fn regain(sender: &mut Sender<'_, String>, place: u32) -> bool {
 }
 
 impl<'a> Room<'a> {
-    /// Both ends of a channel, with so many texts to write. None where they are not to be had.
-    pub fn new(alloc: Global, channel: &'a mut Channel<String>, number: usize) -> Option<Room<'a>> {
-        let texts = texts(alloc, number).ok()?;
-        let (sender, receiver) = channel.ends(alloc, texts)?;
+    /// Both ends of a channel, with so many values to write. None where they are not to be had.
+    pub fn new(alloc: Global, channel: &'a mut Channel<u64>, number: usize) -> Option<Room<'a>> {
+        let values = vec![in alloc; 0u64; number].ok()?;
+        let (sender, receiver) = channel.ends(alloc, values)?;
         Some(Room {
             sender,
             receiver,
@@ -205,10 +199,10 @@ impl<'a> Room<'a> {
     /// Does a step of a round: whether it comes to what it has to.
     fn take_step(&mut self, rt: &impl Wait, step: Step, round: u64) -> bool {
         match step {
-            Step::Sends(text, back) => send(rt, &mut self.sender, text) == Some(back),
-            Step::Reads(number, text) => read(rt, &mut self.receiver, number, text, false),
-            Step::ReadsOfRound(text) => read(rt, &mut self.receiver, round, text, false),
-            Step::Forgets(number, text) => read(rt, &mut self.receiver, number, text, true),
+            Step::Sends(value, back) => send(rt, &mut self.sender, value) == Some(back),
+            Step::Reads(number, value) => read(rt, &mut self.receiver, number, value, false),
+            Step::ReadsOfRound(value) => read(rt, &mut self.receiver, round, value, false),
+            Step::Forgets(number, value) => read(rt, &mut self.receiver, number, value, true),
             Step::FindsNone => self.receiver.receive(rt).is_none(),
             Step::TakesBack(place) => self.sender.take_back() == place,
             Step::IsNext(number) => self.sender.next_number() == number,
@@ -234,7 +228,7 @@ impl<'a> Room<'a> {
         None
     }
 
-    /// How many texts are left, besides those that lie in a place.
+    /// How many values are left, besides those that lie in a place.
     pub fn left(self) -> usize {
         let Self {
             sender,

@@ -295,51 +295,77 @@ fn numbers_go_on(rt: HostRuntime) -> Result<(), Fail> {
 
 // ---- pools
 
-/// Takes all places, and lays in each what `of_slot` says of it.
-fn fill_all(
+/// Whether no place is left.
+fn has_none(rt: &impl Wait, lender: &mut Lender<'_, u64>) -> bool {
+    matches!(&lender.acquire(rt), Err(PoolFailure::NoPlace(_)))
+}
+
+/// All places, so many.
+fn take_all<'a>(
     rt: &impl Wait,
     alloc: Global,
-    lender: &mut Lender<'_, u64>,
+    lender: &mut Lender<'a, u64>,
     places: u32,
-) -> Option<bool> {
-    let mut buffers = Vec::new(alloc);
-    for _ in 0..places {
-        let mut buffer = lender.acquire(rt).ok()?;
-        buffer.number = buffer.place() as u64;
-        buffer.value = Some(of_slot(buffer.place()));
-        buffers.push(buffer).ok()?;
-    }
-    let mut right = matches!(&lender.acquire(rt), Err(PoolFailure::NoPlace(_)));
-    for buffer in buffers {
-        let place = buffer.place();
-        right &=
-            matches!(&buffer.give_back(), Ok(Some(laid)) if laid.slot() == place && laid.number() == place as u64);
-    }
-    Some(right)
-}
-
-/// Whether a buffer has what lay in its place, and can be given back.
-fn is_own(buffer: Buffer<'_, u64>) -> bool {
-    let is_right = buffer.number == buffer.place() as u64
-        && buffer.value == Some(of_slot(buffer.place()));
-    is_right & buffer.give_back().is_ok()
-}
-
-/// Whether each place of a pool of so many keeps its own value.
-fn keep_own(rt: &impl Wait, alloc: Global, places: u32) -> Option<bool> {
-    let mut pool: Pool<u64> = Pool::new(alloc, places as usize).ok()?;
-    let mut lender = pool.lender()?;
-    let mut right = fill_all(rt, alloc, &mut lender, places)?;
+) -> Option<Vec<Buffer<'a, u64>>> {
     let mut buffers = Vec::new(alloc);
     for _ in 0..places {
         buffers.push(lender.acquire(rt).ok()?).ok()?;
     }
+    Some(buffers)
+}
+
+/// Lays in a place what `of_slot` says of it: whether it could be given back so.
+fn lay_own(mut buffer: Buffer<'_, u64>) -> bool {
+    let place = buffer.place();
+    buffer.number = place as u64;
+    buffer.value = Some(of_slot(place));
+    matches!(&buffer.give_back(), Ok(Some(laid)) if laid.slot() == place && laid.number() == place as u64)
+}
+
+/// Whether a buffer has what `of_slot` says of its place, or nothing. At an even place it can be given back.
+fn is_own(buffer: Buffer<'_, u64>, is_empty: bool) -> bool {
+    let place = buffer.place();
+    let is_right = if is_empty {
+        buffer.value.is_none()
+    } else {
+        buffer.number == place as u64 && buffer.value == Some(of_slot(place))
+    };
+    if place % 2 == 1 {
+        return is_right;
+    }
+    is_right & buffer.give_back().is_ok()
+}
+
+/// Lays its own value in each place in the first round, and looks for it in the later ones. Each odd place is dropped in the second,
+/// and comes empty in the third.
+fn use_all(buffers: Vec<Buffer<'_, u64>>, round: u32) -> bool {
+    let mut right = true;
     for buffer in buffers {
-        right &= is_own(buffer);
+        let is_odd = buffer.place() % 2 == 1;
+        right &= if round == 0 {
+            lay_own(buffer)
+        } else {
+            is_own(buffer, round == 2 && is_odd)
+        };
+    }
+    right
+}
+
+/// Whether each place of a pool of so many keeps its own value until it is dropped, and no further place is to be had.
+fn keep_own(rt: &impl Wait, alloc: Global, places: u32) -> Option<bool> {
+    let mut pool: Pool<u64> = Pool::new(alloc, places as usize).ok()?;
+    let mut lender = pool.lender()?;
+    let mut right = true;
+    for round in 0..3u32 {
+        let buffers = take_all(rt, alloc, &mut lender, places)?;
+        right &= has_none(rt, &mut lender);
+        right &= use_all(buffers, round);
     }
     Some(right)
 }
 
+/// Each place is taken by one at a time, and what was laid back lies there with its number. After a drop the place is free, and
+/// nothing lies there.
 #[test]
 fn each_place_of_a_pool_keeps_its_value(rt: HostRuntime) -> Result<(), Fail> {
     for places in [2, 5, 9, 64, 65, 100, 300, 1_000] {

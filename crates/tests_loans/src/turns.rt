@@ -11,14 +11,14 @@ use std::test::Fail;
 /// How many places there are.
 const PLACES: usize = 4;
 
-/// Three texts go into a queue of two, of which the first comes back. The others are read, and all places are free in the
+/// Three values go into a queue of two, of which the first comes back. The others are read, and all places are free in the
 /// end.
-const TEXTS: [Step; 10] = [
-    Sends("one", None),
-    Sends("two and two", None),
-    Sends("", Some(0)),
-    Reads(1, "two and two"),
-    Reads(2, ""),
+const VALUES: [Step; 10] = [
+    Sends(11, None),
+    Sends(22, None),
+    Sends(0, Some(0)),
+    Reads(1, 22),
+    Reads(2, 0),
     FindsNone,
     TakesBack(Some(1)),
     TakesBack(Some(2)),
@@ -43,20 +43,20 @@ const LOANS: [Step; 12] = [
     HasNoValue,
 ];
 
-/// While a text waits in the first place, the second one is regained. The text still comes.
+/// While a value waits in the first place, the second one is regained. The value still comes.
 const BESIDE: [Step; 6] = [
-    Sends("one", None),
+    Sends(11, None),
     LoansOther,
     DropsOther,
     RegainsOther(true),
-    Reads(0, "one"),
+    Reads(0, 11),
     TakesBack(Some(0)),
 ];
 
-/// A text goes through, and is given up when its place is loaned again.
+/// A value goes through, and is given up when its place is loaned again.
 const KEPT: [Step; 5] = [
-    Sends("one", None),
-    ReadsOfRound("one"),
+    Sends(11, None),
+    ReadsOfRound(11),
     TakesBack(Some(0)),
     LoansOne,
     GivesUpOne,
@@ -65,8 +65,8 @@ const KEPT: [Step; 5] = [
 /// A loan that is dropped.
 const DROPPED: [Step; 3] = [LoansOther, DropsOther, Regains(0, true)];
 
-/// Does the steps so often on a new channel of so many places, with so many texts to write, and then those of the end once. It answers
-/// the first step that does not come to what it has to, if any, and how many texts are left. None where the channel or its ends are not
+/// Does the steps so often on a new channel of so many places, with so many values to write, and then those of the end once. It
+/// answers the first step that does not come to what it has to, if any, and how many values are left. None where the channel or its ends are not
 /// to be had.
 fn on_new(
     rt: &impl Wait,
@@ -76,9 +76,9 @@ fn on_new(
     rounds: usize,
     end: &[Step],
 ) -> Option<(Option<usize>, Option<usize>, usize)> {
-    let (places, texts) = sizes;
+    let (places, values) = sizes;
     let mut channel = channel(alloc, places)?;
-    let mut room = Room::new(alloc, &mut channel, texts)?;
+    let mut room = Room::new(alloc, &mut channel, values)?;
     let wrong = room.first_wrong(rt, steps, rounds);
     let last = room.first_wrong(rt, end, 1);
     Some((wrong, last, room.left()))
@@ -88,8 +88,8 @@ fn on_new(
 #[test]
 fn rows(rt: HostRuntime) -> Result<(), Fail> {
     let alloc = rt.alloc();
-    let texts = on_new(&rt, alloc, (PLACES, PLACES + 1), &TEXTS, 1, &[]);
-    assert_eq!(rt; texts, Some((None, None, PLACES - 2)));
+    let values = on_new(&rt, alloc, (PLACES, PLACES + 1), &VALUES, 1, &[]);
+    assert_eq!(rt; values, Some((None, None, PLACES - 2)));
     let loans = on_new(&rt, alloc, (2, 3), &LOANS, 1, &[]);
     assert_eq!(rt; loans, Some((None, None, 0)));
     let beside = on_new(&rt, alloc, (2, 3), &BESIDE, 1, &[]);
@@ -99,25 +99,25 @@ fn rows(rt: HostRuntime) -> Result<(), Fail> {
     Ok(())
 }
 
-/// A text is sent and read, and its place comes back.
-const READ: [Step; 3] = [Sends("one", None), Reads(0, "one"), TakesBack(Some(0))];
+/// A value is sent and read, and its place comes back.
+const READ: [Step; 3] = [Sends(11, None), Reads(0, 11), TakesBack(Some(0))];
 
 /// What another channel sends, so that its receiver has a sample of the same place.
-const FOREIGN: [Step; 1] = [Sends("another", None)];
+const FOREIGN: [Step; 1] = [Sends(12, None)];
 
 /// Once nobody reads the place any more it can be regained. A reading that is forgotten keeps it for good.
 const FORGOTTEN: [Step; 8] = [
     Regains(0, true),
-    Sends("two", None),
-    Forgets(1, "two"),
+    Sends(13, None),
+    Forgets(1, 13),
     TakesBack(Some(0)),
     IsStillRead(0),
     Regains(0, false),
-    Sends("three", None),
-    Reads(2, "three"),
+    Sends(14, None),
+    Reads(2, 14),
 ];
 
-/// Whether the first place of a room stays loaned as long as it is read by a sample of another room, and the text stands.
+/// Whether the first place of a room stays loaned as long as it is read by a sample of another room, and the value stands.
 fn is_kept_by_another(rt: &impl Wait, room: &mut Room<'_>, another: &mut Room<'_>) -> bool {
     let Some(sample) = another.receiver.receive(rt) else {
         return false;
@@ -125,9 +125,9 @@ fn is_kept_by_another(rt: &impl Wait, room: &mut Room<'_>, another: &mut Room<'_
     let Ok(reading) = room.receiver.read(&sample) else {
         return false;
     };
-    let mut right = reading.get().as_str() == "one";
+    let mut right = *reading.get() == 11;
     right &= is_refused(rt, &mut room.sender, IsStillRead(0));
-    right &= reading.get().as_str() == "one";
+    right &= *reading.get() == 11;
     right & room.sender.regain(0).is_none()
 }
 

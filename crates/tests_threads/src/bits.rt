@@ -1,4 +1,4 @@
-//! Bit sets and counting bit sets: what two set, a third takes out or it is left, at each place; and what is set is seen.
+//! Bit sets and counting bit sets: what two set, a third takes out or it is left, at each place.
 use crate::rests::Rests;
 use crate::tasks::{Beside, Turn, Turns, User, run_three};
 use lock_free::mpmc::bit_set::BitSet;
@@ -50,7 +50,7 @@ impl Tally {
     }
 }
 
-/// One who sets places, looks at them and takes them out.
+/// One who sets places and takes them out.
 trait Places: Drop + Sized {
     /// Another one. None where there is no further handle.
     fn another(&mut self) -> Option<Self>;
@@ -60,9 +60,6 @@ trait Places: Drop + Sized {
 
     /// Sets a place: how much it added there.
     fn set(&mut self, rt: &impl Wait, place: usize) -> u64;
-
-    /// How much stands at a place.
-    fn look(&mut self, place: usize) -> u64;
 
     /// Takes all that stands out, and rests inside the call, at the first place, where there are rests: whether there was
     /// something.
@@ -92,14 +89,6 @@ impl<'a> Places for bit_set::Handle<'a> {
 
     fn set(&mut self, rt: &impl Wait, place: usize) -> u64 {
         if place < self.capacity() && self.set(rt, place) {
-            1
-        } else {
-            0
-        }
-    }
-
-    fn look(&mut self, place: usize) -> u64 {
-        if place < self.capacity() && self.is_set(place) {
             1
         } else {
             0
@@ -136,14 +125,6 @@ impl<'a> Places for counting_bit_set::Handle<'a> {
         if place < self.capacity() {
             self.set(place);
             1
-        } else {
-            0
-        }
-    }
-
-    fn look(&mut self, place: usize) -> u64 {
-        if place < self.capacity() {
-            self.count(place)
         } else {
             0
         }
@@ -222,96 +203,26 @@ fn set_and_reset<R: Threads + Wait + Sync, P: Places + Send>(
     Some(well && tally.is_even())
 }
 
-/// Sets one place after another, and tells how many it has set.
-#[derive(Drop)]
-struct SetsOne<'s, P: Places> {
-    user: P,
-    told: &'s AtomicU64,
-    rests: &'s Rests,
-}
-
-impl<'s, P: Places> User for SetsOne<'s, P> {
-    fn turn(&mut self, rt: &impl Wait, at: u64) -> Turn {
-        let is_set = self.user.set(rt, at as usize) == 1;
-        self.told.store(at.wrapping_add(1), Ordering::SeqCst);
-        Turn::of(is_set && self.rests.rest_at(at, 8))
-    }
-}
-
-/// Looks at the place that was told of last, which stands. The last of all is never set.
-#[derive(Drop)]
-struct Watches<'s, P: Places> {
-    user: P,
-    told: &'s AtomicU64,
-}
-
-impl<'s, P: Places> User for Watches<'s, P> {
-    fn turn(&mut self, _rt: &impl Wait, _at: u64) -> Turn {
-        let told = self.told.load(Ordering::SeqCst) as usize;
-        let last = self.user.number().wrapping_sub(1);
-        if told == 0 {
-            Turn::Nothing
-        } else {
-            let stands = self.user.look(told.wrapping_sub(1)) == 1;
-            Turn::of(stands && self.user.look(last) == 0)
-        }
-    }
-}
-
-/// Whether two who look see each place stand that was set before they looked. None where there are no further handles.
-fn set_and_look<R: Threads + Wait + Sync, P: Places + Send>(rt: &R, mut user: P) -> Option<bool> {
-    let told = AtomicU64::new(0);
-    let rests = Rests::of(3, 2);
-    let ((one, two), other) = user.another().zip(user.another()).zip(user.another())?;
-    let number = user.number() as u64;
-    let one = Watches {
-        user: one,
-        told: &told,
-    };
-    let two = Watches {
-        user: two,
-        told: &told,
-    };
-    let sets = SetsOne {
-        user: other,
-        told: &told,
-        rests: &rests,
-    };
-    let well = run_three(
-        rt,
-        Turns::of(sets, number.wrapping_sub(1), &rests),
-        Beside::of(one, &rests),
-        Beside::of(two, &rests),
-    );
-    Some(well && rests.crossed() >= number / 16 && rests.seen() >= number / 16)
-}
-
-/// Whether both go well with new bit sets of this capacity.
+/// Whether it goes well with a new bit set of this capacity.
 fn use_bits<R: Threads + Wait + Sync>(
     rt: &R,
     alloc: Global,
     capacity: usize,
 ) -> Result<bool, Fail> {
     let tally = Tally::new(alloc, capacity)?;
-    let (one, pass) = BitSet::new(alloc, capacity)?;
-    let mut handle = one.handle(pass);
-    let other = handle.split().ok_or("no further handle")?;
-    let well = set_and_reset(rt, other, &tally) == Some(true);
-    Ok(well && set_and_look(rt, handle) == Some(true))
+    let (set, pass) = BitSet::new(alloc, capacity)?;
+    Ok(set_and_reset(rt, set.handle(pass), &tally) == Some(true))
 }
 
-/// The same of counting bit sets.
+/// The same of a counting bit set.
 fn use_counts<R: Threads + Wait + Sync>(
     rt: &R,
     alloc: Global,
     capacity: usize,
 ) -> Result<bool, Fail> {
     let tally = Tally::new(alloc, capacity)?;
-    let (one, pass) = CountingBitSet::new(alloc, capacity)?;
-    let mut handle = one.handle(pass);
-    let other = handle.split().ok_or("no further handle")?;
-    let well = set_and_reset(rt, other, &tally) == Some(true);
-    Ok(well && set_and_look(rt, handle) == Some(true))
+    let (set, pass) = CountingBitSet::new(alloc, capacity)?;
+    Ok(set_and_reset(rt, set.handle(pass), &tally) == Some(true))
 }
 
 #[test]

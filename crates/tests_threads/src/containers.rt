@@ -1,10 +1,10 @@
 //! Containers of pairs with equal halves: pairs come and go, and are seen, found and recovered whole; and the lock keeps all
 //! out.
-use crate::indices::{EVERY, Guest, Outcome, Part, Visitor};
+use crate::indices::{EVERY, Guest, Outcome, Part, VISITS, further_visits};
 use crate::owners::{Owner, play};
 use crate::rests::Rests;
 use crate::room::{Place, Room, rest_once};
-use crate::tasks::{Beside, Turn, Turns, User, run_three};
+use crate::tasks::{Beside, Turn, User, run_three};
 use lock_free::mpmc::container::{
     CallbackProgression, Container, ContainerAddFailure, ContainerHandle, ContainerState, Handle,
     OwnerId,
@@ -43,7 +43,7 @@ impl<'a> Drop for PairOwner<'a> {
 impl<'a> Guest for PairOwner<'a> {
     type Held = ContainerHandle;
 
-    const LOCKS: u64 = 4;
+    const LOCKS: u64 = 3;
 
     fn another(&mut self, owner: u64) -> Option<PairOwner<'a>> {
         let owner = OwnerId::new(owner).ok()?;
@@ -187,23 +187,6 @@ impl<'a, 's> User for Looks<'a, 's> {
     }
 }
 
-/// How often each of two adds a pair, replaces it and removes it.
-const CHANGES: u64 = 3_200;
-
-/// So many visits of another owner.
-fn changes<'a, 's>(
-    owner: &mut PairOwner<'a>,
-    number: u64,
-    place: Place<'s>,
-) -> Option<Turns<'s, Visitor<'s, PairOwner<'a>>>> {
-    let visits = Visitor {
-        guest: owner.another(number)?,
-        place,
-        locks: false,
-    };
-    Some(Turns::of(visits, CHANGES, place.rests))
-}
-
 /// Whether pairs that come and go are seen whole by one who keeps a state up to date: one at least in each rest of a pair in the
 /// container, and none in the end. None where there are no further handles.
 fn change_and_look<R: Wait + Threads + Sync>(
@@ -219,14 +202,15 @@ fn change_and_look<R: Wait + Threads + Sync>(
         waits: false,
     };
     let mut state = owner.container.get_state(rt).ok()?;
-    let both = changes(owner, 1, place).zip(changes(owner, 2, place));
+    let one = further_visits(owner, 1, place, VISITS);
+    let both = one.zip(further_visits(owner, 2, place, VISITS));
     let ((one, two), looker) = both.zip(owner.another(3))?;
     let looks = Looks {
         owner: looker,
         state: &mut state,
     };
     let mut well = run_three(rt, one, two, Beside::of(looks, &rests));
-    let least = CHANGES / EVERY;
+    let least = VISITS / EVERY;
     well &= rests.seen() >= least && rests.crossed() >= least * 2;
     let shows_none = matches!(look(rt, &mut owner.container, &mut state), Turn::Nothing);
     Some(well && shows_none)
@@ -248,7 +232,7 @@ fn play_anew<R: Wait + Threads + Sync>(rt: &R, alloc: Global, what: Part) -> Res
 
 #[test]
 fn pairs_between_threads(rt: HostRuntime) -> Result<(), Fail> {
-    for what in [Part::ComeAndGo, Part::LockLast, Part::Count, Part::Die] {
+    for what in [Part::ComeAndGo, Part::LockLast, Part::Die] {
         for _ in 0..what.rounds() {
             assert!(rt; play_anew(&rt, rt.alloc(), what)?, "{}", what.name());
         }

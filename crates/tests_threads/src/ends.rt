@@ -5,24 +5,15 @@ use std::sync::Wait;
 /// A value of two numbers, which are equal.
 pub type Pair = (u64, u64);
 
-/// The end that numbers go in at.
-pub trait Gives: Drop + Sized {
-    /// The number that does not wait thereafter, if any. It is this one, which is not taken, or the oldest in its
-    /// place.
-    fn give(&mut self, number: u64) -> Option<u64>;
-}
-
-/// The end that numbers come out at.
-pub trait Takes: Drop + Sized {
-    /// The number that came, if any, after a look at it where one is asked for. Where the look told another one, or a
-    /// value came that was made of none, it is past all others.
-    fn take(&mut self, rt: &impl Wait, looks: bool) -> Option<u64>;
-}
-
-/// One beside both.
-pub trait Length: Drop + Sized {
-    /// How many numbers wait. None where it does not ask.
-    fn length(&mut self, rt: &impl Wait) -> Option<u64>;
+/// One whose calls are written down: an end of a queue, or one beside both ends.
+pub trait Caller: Drop + Sized {
+    /// Makes the so many-th call, which gives this number where it gives one. It answers
+    /// - where it gives one, the number that does not wait thereafter, if any: this one, which is not taken, or the oldest in
+    ///   its place;
+    /// - where it takes one, the number that came, if any, at each second call after a look at it: where the look told another
+    ///   one, or a value came that was made of none, a number past all others;
+    /// - and else how many numbers wait.
+    fn call(&mut self, rt: &impl Wait, at: u64, number: u64) -> Option<u64>;
 }
 
 /// A word that both halves of which tell the number.
@@ -60,27 +51,27 @@ fn as_told(told: Option<u64>, came: Option<u64>) -> Option<u64> {
     }
 }
 
-impl<'a> Gives for index_queue::Producer<'a> {
-    fn give(&mut self, number: u64) -> Option<u64> {
+impl<'a> Caller for index_queue::Producer<'a> {
+    fn call(&mut self, _rt: &impl Wait, _at: u64, number: u64) -> Option<u64> {
         unless(self.push(word_of(number)), number)
     }
 }
 
-impl<'a> Takes for index_queue::Consumer<'a> {
-    fn take(&mut self, _rt: &impl Wait, looks: bool) -> Option<u64> {
-        let told = if looks { self.peek() } else { None };
+impl<'a> Caller for index_queue::Consumer<'a> {
+    fn call(&mut self, _rt: &impl Wait, at: u64, _number: u64) -> Option<u64> {
+        let told = if at % 2 == 1 { self.peek() } else { None };
         Some(number_of(as_told(told, self.pop())?))
     }
 }
 
-impl<'a> Length for index_queue::Handle<'a> {
-    fn length(&mut self, rt: &impl Wait) -> Option<u64> {
+impl<'a> Caller for index_queue::Handle<'a> {
+    fn call(&mut self, rt: &impl Wait, _at: u64, _number: u64) -> Option<u64> {
         Some(self.len(rt) as u64)
     }
 }
 
-impl<'a> Gives for queue::Producer<'a, Pair> {
-    fn give(&mut self, number: u64) -> Option<u64> {
+impl<'a> Caller for queue::Producer<'a, Pair> {
+    fn call(&mut self, _rt: &impl Wait, _at: u64, number: u64) -> Option<u64> {
         unless(self.push(&(number, number)), number)
     }
 }
@@ -90,27 +81,31 @@ fn number_in(pair: Option<Pair>) -> Option<u64> {
     Some(number_of_pair(pair?))
 }
 
-impl<'a> Takes for queue::Consumer<'a, Pair> {
-    fn take(&mut self, _rt: &impl Wait, looks: bool) -> Option<u64> {
-        let told = if looks { number_in(self.peek()) } else { None };
+impl<'a> Caller for queue::Consumer<'a, Pair> {
+    fn call(&mut self, _rt: &impl Wait, at: u64, _number: u64) -> Option<u64> {
+        let told = if at % 2 == 1 {
+            number_in(self.peek())
+        } else {
+            None
+        };
         as_told(told, number_in(self.pop()))
     }
 }
 
-impl<'a> Length for queue::Handle<'a, Pair> {
-    fn length(&mut self, rt: &impl Wait) -> Option<u64> {
+impl<'a> Caller for queue::Handle<'a, Pair> {
+    fn call(&mut self, rt: &impl Wait, _at: u64, _number: u64) -> Option<u64> {
         Some(self.len(rt) as u64)
     }
 }
 
-impl<'a> Gives for overflowing::Producer<'a> {
-    fn give(&mut self, number: u64) -> Option<u64> {
+impl<'a> Caller for overflowing::Producer<'a> {
+    fn call(&mut self, _rt: &impl Wait, _at: u64, number: u64) -> Option<u64> {
         self.push(number)
     }
 }
 
-impl<'a> Takes for overflowing::Consumer<'a> {
-    fn take(&mut self, rt: &impl Wait, _looks: bool) -> Option<u64> {
+impl<'a> Caller for overflowing::Consumer<'a> {
+    fn call(&mut self, rt: &impl Wait, _at: u64, _number: u64) -> Option<u64> {
         self.pop(rt)
     }
 }
@@ -119,8 +114,8 @@ impl<'a> Takes for overflowing::Consumer<'a> {
 #[derive(Drop)]
 pub struct Nobody;
 
-impl Length for Nobody {
-    fn length(&mut self, _rt: &impl Wait) -> Option<u64> {
+impl Caller for Nobody {
+    fn call(&mut self, _rt: &impl Wait, _at: u64, _number: u64) -> Option<u64> {
         None
     }
 }

@@ -1,14 +1,11 @@
-//! What is done with each structure that hands out indices: four take them and give them back, also until one locks.
+//! What is done with each structure that hands out indices: three take them and give them back, also until one locks.
 use crate::limit;
 use crate::rests::Rests;
 use crate::room::{MORE, Place, Room};
-use crate::tasks::{Turn, Turns, User, run_four};
+use crate::tasks::{Turn, Turns, User, run_three};
 use lock_free::mpmc::unique_index_set_enums::{ReleaseMode, ReleaseState};
 use std::sync::Wait;
 use std::thread::Threads;
-
-/// How many indices are out all the time where one counts.
-pub const BETWEEN: usize = 62;
 
 /// How a visit ended, or why there was none.
 #[derive(Clone, Copy)]
@@ -30,7 +27,7 @@ pub trait Guest: Drop + Sized {
     /// An index that it has.
     type Held: Drop;
 
-    /// How many of four are told of the lock at most as they give an index back.
+    /// How many of three are told of the lock at most as they give an index back.
     const LOCKS: u64;
 
     /// Another one, of this owner where there are owners. None where there is no further handle.
@@ -82,11 +79,20 @@ fn visit<G: Guest>(
 
 /// Comes and goes; also until it is locked, where it leaves so that the last one locks. Nobody is inside as one locks, and
 /// nobody gets in later.
-#[derive(Drop)]
 pub struct Visitor<'s, G: Guest> {
     pub guest: G,
     pub place: Place<'s>,
     pub locks: bool,
+}
+
+impl<'s, G: Guest> Drop for Visitor<'s, G> {
+    fn drop(self) {
+        let Self {
+            guest: _guest,
+            place: _,
+            locks: _,
+        } = self;
+    }
 }
 
 impl<'s, G: Guest> User for Visitor<'s, G> {
@@ -109,7 +115,7 @@ impl<'s, G: Guest> User for Visitor<'s, G> {
 }
 
 /// So many visits of another one of this owner. None where there is no further handle.
-fn further_visits<'s, G: Guest>(
+pub fn further_visits<'s, G: Guest>(
     guest: &mut G,
     owner: u64,
     place: Place<'s>,
@@ -124,9 +130,8 @@ fn further_visits<'s, G: Guest>(
     Some(Turns::of(visits, number, place.rests))
 }
 
-/// Whether all visits of four go well, of whom two are of one owner, and two of another. None where there are no further
-/// handles.
-fn visit_by_four<R: Wait + Threads + Sync, G: Guest + Send>(
+/// Whether all visits of three go well, of whom two are of one owner. None where there are no further handles.
+fn visit_by_three<R: Wait + Threads + Sync, G: Guest + Send>(
     rt: &R,
     guest: &mut G,
     place: Place<'_>,
@@ -136,17 +141,16 @@ where
     G::Held: Send,
 {
     let one = further_visits(guest, 1, place, number).zip(further_visits(guest, 1, place, number));
-    let two = further_visits(guest, 2, place, number).zip(further_visits(guest, 2, place, number));
-    let ((first, second), (third, fourth)) = one.zip(two)?;
-    Some(run_four(rt, first, second, third, fourth))
+    let ((first, second), third) = one.zip(further_visits(guest, 2, place, number))?;
+    Some(run_three(rt, first, second, third))
 }
 
-/// How often each of four takes an index, and at which times it rests with one in hand.
-const VISITS: u64 = 3_200;
+/// How often each of three takes an index, and at which times it rests with one in hand.
+pub const VISITS: u64 = 3_200;
 
 pub const EVERY: u64 = 64;
 
-/// Whether four take indices and give them back, and each but the last rested as often as it had to until another came to
+/// Whether three take indices and give them back, and each but the last rested as often as it had to until another came to
 /// such a rest. None is out in the end, and it is not locked. None where there are no further handles.
 fn come_and_go<R: Wait + Threads + Sync, G: Guest + Send>(
     rt: &R,
@@ -156,20 +160,20 @@ fn come_and_go<R: Wait + Threads + Sync, G: Guest + Send>(
 where
     G::Held: Send,
 {
-    let rests = Rests::of(4, 0);
+    let rests = Rests::of(3, 0);
     let place = Place {
         room,
         rests: &rests,
         every: EVERY,
         waits: false,
     };
-    let mut well = visit_by_four(rt, guest, place, VISITS)?;
-    well &= rests.crossed() >= VISITS / EVERY * 3;
+    let mut well = visit_by_three(rt, guest, place, VISITS)?;
+    well &= rests.crossed() >= VISITS / EVERY * 2;
     well &= guest.number(rt) == 0;
     Some(well && !guest.is_locked())
 }
 
-/// Whether four come and go until it is locked, and stays so: some were told so, and some came while another was inside. None
+/// Whether three come and go until it is locked, and stays so: some were told so, and some came while another was inside. None
 /// where there are no further handles.
 fn lock_last<R: Wait + Threads + Sync, G: Guest + Send>(
     rt: &R,
@@ -179,14 +183,14 @@ fn lock_last<R: Wait + Threads + Sync, G: Guest + Send>(
 where
     G::Held: Send,
 {
-    let rests = Rests::of(4, 0);
+    let rests = Rests::of(3, 0);
     let place = Place {
         room,
         rests: &rests,
         every: 0,
         waits: true,
     };
-    let mut well = visit_by_four(rt, guest, place, limit::TURNS)?;
+    let mut well = visit_by_three(rt, guest, place, limit::TURNS)?;
     let locks = room.locks();
     well &= 1 <= locks && locks <= G::LOCKS && room.visits() > MORE;
     well &= guest.number(rt) == 0;
@@ -196,12 +200,10 @@ where
 /// What is done.
 #[derive(Clone, Copy)]
 pub enum Part {
-    /// Four take indices and give them back.
+    /// Three take indices and give them back.
     ComeAndGo,
-    /// Four come and go until one locks.
+    /// Three come and go until one locks.
     LockLast,
-    /// One counts beside another who always holds an index.
-    Count,
     /// Owners die one after another.
     Die,
     /// Values come and go, and are looked at.
@@ -213,18 +215,16 @@ impl Part {
         match self {
             Part::ComeAndGo => "come and go",
             Part::LockLast => "lock last",
-            Part::Count => "count",
             Part::Die => "die",
             Part::Look => "look",
         }
     }
 
-    /// How many indices there are.
+    /// How many indices there are: fewer than those who want one, so that some are refused.
     pub fn capacity(self) -> usize {
         match self {
-            Part::Count => BETWEEN + 2,
             Part::Die => 7,
-            _ => 3,
+            _ => 2,
         }
     }
 
@@ -237,7 +237,7 @@ impl Part {
     }
 }
 
-/// Whether it goes well. None where there are no further handles, and where it asks for owners.
+/// Whether it goes well. None where there are no further handles, and where it asks for owners or values.
 pub fn play<R: Wait + Threads + Sync, G: Guest + Send>(
     rt: &R,
     guest: &mut G,

@@ -25,12 +25,8 @@ mod rests;
 #[cfg(test)]
 mod robust;
 #[cfg(test)]
-mod roles;
-#[cfg(test)]
 mod room;
 #[cfg(test)]
 mod tasks;
 #[cfg(test)]
 mod unique;
-#[cfg(test)]
-mod value;

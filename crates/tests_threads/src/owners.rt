@@ -1,12 +1,10 @@
-//! What is done with each structure whose indices have owners: one counts beside another who always holds one, and owners die
-//! and are recovered beside others.
+//! What is done with each structure whose indices have owners, besides: owners die and are recovered beside others.
 use crate::indices;
-use crate::indices::{BETWEEN, EVERY, Guest, Part, Visitor};
+use crate::indices::{Guest, Part, Visitor};
 use crate::rests::Rests;
 use crate::room::{Place, Room};
-use crate::tasks::{Beside, Turn, Turns, User, run_three, run_two};
-use lock_free::mpmc::unique_index_set_enums::{ReleaseMode, ReleaseState};
-use std::mem;
+use crate::tasks::{Beside, Turn, Turns, User, run_three};
+use lock_free::mpmc::unique_index_set_enums::ReleaseMode;
 use std::sync::Wait;
 use std::thread::Threads;
 
@@ -23,9 +21,6 @@ pub trait Owner: Guest {
     fn has_none(&mut self) -> bool;
 }
 
-/// How often one who holds an index changes between that before those that are out all the time and that behind.
-const CHANGES: u64 = 3_200;
-
 /// Takes so many indices, of which none is given back: whether there were so many.
 fn fill<G: Owner>(rt: &impl Wait, guest: &mut G, number: usize) -> bool {
     let mut well = true;
@@ -33,77 +28,6 @@ fn fill<G: Owner>(rt: &impl Wait, guest: &mut G, number: usize) -> bool {
         well &= guest.take(rt).is_ok();
     }
     well
-}
-
-/// Holds one index at every moment, and at some moments two.
-#[derive(Drop)]
-struct Holds<'s, G: Owner> {
-    guest: G,
-    held: G::Held,
-    rests: &'s Rests,
-}
-
-impl<'s, G: Owner> Holds<'s, G> {
-    /// Takes another index, rests with both in hand where that is due, gives the first one back, and rests again.
-    fn change(&mut self, rt: &impl Wait, at: u64) -> bool {
-        let Ok(next) = self.guest.take(rt) else {
-            return false;
-        };
-        let mut well = self.rests.rest_at(at, EVERY);
-        let held = mem::replace(&mut self.held, next);
-        let state = self.guest.give(rt, held, ReleaseMode::Default);
-        well &= state == Some(ReleaseState::Unlocked);
-        well & self.rests.rest_at(at, EVERY)
-    }
-}
-
-impl<'s, G: Owner> User for Holds<'s, G> {
-    fn turn(&mut self, rt: &impl Wait, at: u64) -> Turn {
-        Turn::of(self.change(rt, at))
-    }
-}
-
-/// Counts: there are one or two more than are out all the time.
-#[derive(Drop)]
-struct Counts<G: Owner> {
-    guest: G,
-}
-
-impl<G: Owner> User for Counts<G> {
-    fn turn(&mut self, rt: &impl Wait, _at: u64) -> Turn {
-        let number = self.guest.number(rt);
-        if number == BETWEEN + 1 {
-            Turn::Nothing
-        } else {
-            Turn::of(number == BETWEEN + 2)
-        }
-    }
-}
-
-/// One who holds an index. None where there was none, or no further handle.
-fn holder<'s, G: Owner>(rt: &impl Wait, guest: &mut G, rests: &'s Rests) -> Option<Holds<'s, G>> {
-    let mut guest = guest.another(1)?;
-    let held = guest.take(rt).ok()?;
-    Some(Holds { guest, held, rests })
-}
-
-/// Whether each count is right beside one who changes its index, and some counts are made whole while two are in hand, and
-/// others while one is. A count that does not look once more whether anything has changed misses the index. None where there
-/// are no further handles.
-fn count<R: Wait + Threads + Sync, G: Owner + Send>(rt: &R, guest: &mut G) -> Option<bool>
-where
-    G::Held: Send,
-{
-    let rests = Rests::of(2, 1);
-    let holds = holder(rt, guest, &rests)?;
-    let mut well = fill(rt, guest, BETWEEN);
-    let counts = Counts {
-        guest: guest.another(2)?,
-    };
-    let counts = Beside::of(counts, &rests);
-    well &= run_two(rt, Turns::of(holds, CHANGES, &rests), counts);
-    let least = CHANGES / EVERY;
-    Some(well && rests.seen() >= least && rests.crossed() >= least * 2)
 }
 
 /// The number of the first owner that dies, how many die, and how many indices each has at most.
@@ -210,7 +134,6 @@ where
     G::Held: Send,
 {
     match what {
-        Part::Count => count(rt, guest),
         Part::Die => die(rt, guest, room),
         _ => indices::play(rt, guest, room, what),
     }

@@ -1,6 +1,7 @@
 //! Queues between three threads, of whom one pushes, one pops and looks, and one asks for the length.
 use crate::ends::{Nobody, Pair};
-use crate::logged::{Rounds, log_calls};
+use crate::log::Calls;
+use crate::logged::{CALLS, log_calls};
 use lock_free::spsc::index_queue::IndexQueue;
 use lock_free::spsc::queue::Queue;
 use lock_free::spsc::safely_overflowing_index_queue::SafelyOverflowingIndexQueue;
@@ -14,6 +15,9 @@ use std::thread::Threads;
 const ROUNDS: u64 = 2;
 
 const OVERLAPS: u64 = 500;
+
+/// The capacity of each queue.
+const CAPACITY: usize = 3;
 
 /// Both ends of an index queue, and one who asks for its length.
 fn split_index_queue<'a>(
@@ -30,15 +34,16 @@ fn split_index_queue<'a>(
     Some((producer, consumer, queue))
 }
 
+/// Logs the calls of a round on a new queue: whether each came to an end. None where there is no memory, or no further handle.
 fn log_index_queue<R: Wait + Threads + Sync>(
     rt: &R,
     alloc: Global,
-    rounds: &mut Rounds,
-) -> Result<(), Fail> {
-    let (queue, pass) = IndexQueue::new(alloc, 3)?;
-    let ends = split_index_queue(queue.handle(pass));
-    let (producer, consumer, length) = ends.ok_or("not to be had")?;
-    log_calls(rt, alloc, 3, producer, consumer, length, rounds)
+    rests: bool,
+    calls: &mut Calls,
+) -> Option<bool> {
+    let (queue, pass) = IndexQueue::new(alloc, CAPACITY).ok()?;
+    let (producer, consumer, length) = split_index_queue(queue.handle(pass))?;
+    Some(log_calls(rt, producer, consumer, length, true, rests, calls))
 }
 
 /// The same of a queue of pairs.
@@ -59,40 +64,56 @@ fn split_queue<'a>(
 fn log_queue<R: Wait + Threads + Sync>(
     rt: &R,
     alloc: Global,
-    rounds: &mut Rounds,
-) -> Result<(), Fail> {
-    let (queue, pass) = Queue::<Pair, 3>::new(alloc)?;
-    let ends = split_queue(queue.handle(pass));
-    let (producer, consumer, length) = ends.ok_or("not to be had")?;
-    log_calls(rt, alloc, 3, producer, consumer, length, rounds)
+    rests: bool,
+    calls: &mut Calls,
+) -> Option<bool> {
+    let (queue, pass) = Queue::<Pair, CAPACITY>::new(alloc).ok()?;
+    let (producer, consumer, length) = split_queue(queue.handle(pass))?;
+    Some(log_calls(rt, producer, consumer, length, true, rests, calls))
 }
 
 fn log_overflowing_queue<R: Wait + Threads + Sync>(
     rt: &R,
     alloc: Global,
-    rounds: &mut Rounds,
-) -> Result<(), Fail> {
-    let (queue, pass) = SafelyOverflowingIndexQueue::new(alloc, 3)?;
-    let (producer, consumer) = queue.ends(pass).ok_or("not to be had")?;
-    log_calls(rt, alloc, 3, producer, consumer, Nobody, rounds)
+    rests: bool,
+    calls: &mut Calls,
+) -> Option<bool> {
+    let (queue, pass) = SafelyOverflowingIndexQueue::new(alloc, CAPACITY).ok()?;
+    let (producer, consumer) = queue.ends(pass)?;
+    Some(log_calls(rt, producer, consumer, Nobody, false, rests, calls))
+}
+
+/// Logs the calls of a round on a new queue of this name.
+fn log_round<R: Wait + Threads + Sync>(
+    rt: &R,
+    alloc: Global,
+    name: &str,
+    rests: bool,
+    calls: &mut Calls,
+) -> Option<bool> {
+    match name {
+        "index queue" => log_index_queue(rt, alloc, rests, calls),
+        "queue" => log_queue(rt, alloc, rests, calls),
+        _ => log_overflowing_queue(rt, alloc, rests, calls),
+    }
 }
 
 /// Each refusal, each number that comes or is handed back, each look and each length is right at some moment of its call. One
 /// order of all calls shows it, of which many overlap. The moment lies between the times before and after the call.
 #[test]
 fn calls_as_if_one_after_another(rt: HostRuntime) -> Result<(), Fail> {
+    let mut calls = Calls::new(rt.alloc(), CAPACITY as u64, CALLS as usize)?;
     for name in ["index queue", "queue", "overflowing queue"] {
-        let mut rounds = Rounds::new();
-        for _ in 0..ROUNDS {
-            match name {
-                "index queue" => log_index_queue(&rt, rt.alloc(), &mut rounds)?,
-                "queue" => log_queue(&rt, rt.alloc(), &mut rounds)?,
-                _ => log_overflowing_queue(&rt, rt.alloc(), &mut rounds)?,
-            }
+        let mut overlaps = 0u64;
+        for round in 0..ROUNDS {
+            calls.clear();
+            let well = log_round(&rt, rt.alloc(), name, round == 1, &mut calls);
+            let are_in_turn = calls.are_in_turn(rt.alloc())?;
+            assert!(rt; well == Some(true) && are_in_turn, "{name}");
+            overlaps = overlaps.wrapping_add(calls.overlaps());
         }
-        let overlaps = rounds.overlaps;
         assert!(rt;
-            rounds.are_in_turn && overlaps >= OVERLAPS,
+            overlaps >= OVERLAPS,
             "{name}: {overlaps} pairs of calls overlapped"
         );
     }

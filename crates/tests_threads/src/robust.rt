@@ -31,7 +31,7 @@ impl<'a> Drop for SetOwner<'a> {
 impl<'a> Guest for SetOwner<'a> {
     type Held = usize;
 
-    const LOCKS: u64 = 4;
+    const LOCKS: u64 = 3;
 
     fn another(&mut self, owner: u64) -> Option<SetOwner<'a>> {
         let owner = OwnerId::new(owner).ok()?;
@@ -143,7 +143,7 @@ fn play_anew<R: Wait + Threads + Sync>(rt: &R, alloc: Global, what: Part) -> Res
 
 #[test]
 fn robust_indices_between_threads(rt: HostRuntime) -> Result<(), Fail> {
-    for what in [Part::ComeAndGo, Part::LockLast, Part::Count, Part::Die] {
+    for what in [Part::ComeAndGo, Part::LockLast, Part::Die] {
         for _ in 0..what.rounds() {
             assert!(rt; play_anew(&rt, rt.alloc(), what)?, "{}", what.name());
         }

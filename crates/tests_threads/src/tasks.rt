@@ -62,28 +62,21 @@ pub fn run_three<R: Wait + Threads + Sync, A: Task + Send, B: Task + Send, C: Ta
     one & others
 }
 
-/// The same of four.
-pub fn run_four<
-    R: Wait + Threads + Sync,
-    A: Task + Send,
-    B: Task + Send,
-    C: Task + Send,
-    D: Task + Send,
->(rt: &R, one: A, two: B, three: C, four: D) -> bool {
-    let (left, right) = thread::join(
-        rt,
-        move || run_two(rt, one, two),
-        move || run_two(rt, three, four),
-    );
-    left & right
-}
-
 /// So many turns of a user, each taken again until it brings something: whether each was right.
-#[derive(Drop)]
 pub struct Turns<'s, U: User> {
     user: U,
     number: u64,
     rests: &'s Rests,
+}
+
+impl<'s, U: User> Drop for Turns<'s, U> {
+    fn drop(self) {
+        let Self {
+            user: _user,
+            number: _,
+            rests: _,
+        } = self;
+    }
 }
 
 impl<'s, U: User> Turns<'s, U> {
@@ -135,10 +128,18 @@ impl<'s, U: User> Task for Turns<'s, U> {
 }
 
 /// Turns of a user until the others have ended: whether none was wrong.
-#[derive(Drop)]
 pub struct Beside<'s, U: User> {
     user: U,
     rests: &'s Rests,
+}
+
+impl<'s, U: User> Drop for Beside<'s, U> {
+    fn drop(self) {
+        let Self {
+            user: _user,
+            rests: _,
+        } = self;
+    }
 }
 
 impl<'s, U: User> Beside<'s, U> {

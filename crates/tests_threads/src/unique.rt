@@ -1,4 +1,4 @@
-//! Unique index sets between four threads: no index has two holders, and the lock comes once, where none has one.
+//! Unique index sets between three threads: no index has two holders, and the lock comes once, where none has one.
 use crate::indices::{Guest, Outcome, Part, play};
 use crate::room::{Place, Room};
 use lock_free::mpmc::unique_index_set::{Handle, UniqueIndex, UniqueIndexSet};
@@ -72,10 +72,10 @@ impl<'a> Guest for IndexGuest<'a> {
     }
 }
 
-/// Whether it goes well with a new set of three indices.
+/// Whether it goes well with a new set.
 fn play_anew<R: Wait + Threads + Sync>(rt: &R, alloc: Global, what: Part) -> Result<bool, Fail> {
-    let room = Room::new(alloc, 3)?;
-    let (set, pass) = UniqueIndexSet::new(alloc, 3)?;
+    let room = Room::new(alloc, what.capacity())?;
+    let (set, pass) = UniqueIndexSet::new(alloc, what.capacity())?;
     let mut guest = IndexGuest {
         set: set.handle(pass),
     };
