@@ -6,6 +6,8 @@ mod robust;
 #[cfg(test)]
 mod shown;
 #[cfg(test)]
+mod splits;
+#[cfg(test)]
 mod threads;
 #[cfg(test)]
 pub mod twins;

@@ -37,6 +37,8 @@ use std::alloc::Global;
 use std::sync::Wait;
 use steps::indices::enums::{ReleaseMode, ReleaseState, UniqueIndexSetAcquireFailure};
 
+pub mod cuts;
+
 /// A guard is of this set, for this owner, and owns the pass. Else the pass comes back.
 pub fn acquire<'a, R: Wait>(
     rt: &'a R,

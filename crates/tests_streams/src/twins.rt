@@ -1,5 +1,5 @@
 //! Calls of an overflowing queue's consumer once more, with the clauses that the tests have no use for.
-ghost use Rattle.std.specs.Prelude.{◌≡◌, ◌<◌, ℕ, IfSome, IfNone};
+ghost use Rattle.std.specs.Prelude.{◌≡◌, ◌<◌, ℕ, None, IfSome, IfNone};
 ghost use Rattle.model.specs.declared.event.Item.TheVariants.{Index};
 ghost use Rattle.lock_free_queues.specs.Queues.Contracts.{PopFoundNone};
 ghost use Rattle.lock_free_queues.specs.Queues.Overflowing.{consumer_queue, consumer_view};
@@ -18,7 +18,7 @@ pub fn pop_overflowing_waiting(rt: &impl Wait, consumer: &mut Consumer<'_>) -> u
     queues::pop_overflowing_waiting(rt, consumer)
 }
 
-/// What comes was taken by the last of so many tries as the oldest one, or each found none.
+/// What comes was taken by the last of so many tries as the oldest one, or each found none. Without a capacity nothing changes.
 pub fn pop_overflowing_within(
     rt: &impl Wait,
     consumer: &mut Consumer<'_>,
@@ -30,6 +30,8 @@ pub fn pop_overflowing_within(
         (λ x. WasTakenWithin tries (Index x) (consumer_view consumer.old) (consumer_view consumer.new)) }
     ensures empty { 0 < (consumer_queue consumer.old).capacity
         → IfNone result (Times tries PopFoundNone (consumer_view consumer.old) (consumer_view consumer.new)) }
+    ensures none { (consumer_queue consumer.old).capacity ≡ 0 → result ≡ None }
+    ensures still { (consumer_queue consumer.old).capacity ≡ 0 → consumer_view consumer.new ≡ consumer_view consumer.old }
 {
     queues::pop_overflowing_within(rt, consumer, tries)
 }

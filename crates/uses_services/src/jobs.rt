@@ -81,8 +81,7 @@ fn run<R: Threads + Wait + Sync>(rt: &R, alloc: Global, jobs: &[u32]) -> Option<
         move || hand_out(rt, shared, mine, jobs),
     );
     let (received, done) = done?;
-    let sent = sent?;
-    sent.join(received);
+    sent?.join(received);
     Some(done)
 }
 
@@ -90,11 +89,7 @@ fn run<R: Threads + Wait + Sync>(rt: &R, alloc: Global, jobs: &[u32]) -> Option<
 pub fn report<R: Threads + Wait + Print + Sync>(rt: &R, alloc: Global) -> io::Result<()> {
     let jobs: Vec<u32> = (0..1000u32).collect(alloc)?;
     match run(rt, alloc, &jobs) {
-        Some(done) => println!(rt;
-            "jobs done: {}; of the last came {:?}",
-            done.len(),
-            done.last()
-        ),
+        Some(done) => println!(rt; "jobs done: {}; the last: {:?}", done.len(), done.last()),
         None => println!(rt; "no memory"),
     }
 }

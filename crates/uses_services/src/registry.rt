@@ -1,5 +1,4 @@
-//! A registry: two threads replace an entry each, over and over, and a third looks at all entries until it has seen the last of both.
-//! No entry that it sees is torn.
+//! A registry: two threads replace an entry each, and a third looks until it has seen the last of both. None that it sees is torn.
 use lock_free::mpmc::container::{
     Container, ContainerHandle, ContainerState, Handle, OwnerId, entries,
 };
@@ -13,9 +12,6 @@ use std::{io, thread};
 type Entry = (u64, u64);
 
 const LAST: u64 = 999;
-
-/// How often the third thread looks before it gives up.
-const LOOKS: u64 = 1 << 26;
 
 /// Adds an entry for this owner, and replaces it until it is the last.
 fn replace(
@@ -43,10 +39,10 @@ fn last_ones(state: &ContainerState<Entry>) -> Option<u64> {
     Some(number)
 }
 
-/// Looks until it sees both of the last entries: false where one was torn. None where there is no memory for a state, or it gives up.
+/// Looks until it sees both of the last entries: false where one was torn. None without memory for a state, or after 2^26 looks.
 fn look(rt: &impl Wait, mut registry: Handle<'_, Entry>) -> Option<bool> {
     let mut state = registry.get_state(rt).ok()?;
-    for _ in 0..LOOKS {
+    for _ in 0..1u64 << 26 {
         match last_ones(&state) {
             Some(2) => return Some(true),
             Some(_) => thread::yield_now(),
