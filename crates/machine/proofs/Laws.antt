@@ -19,6 +19,7 @@ use Rattle.laws_loan.proofs.Justified.{loan_keeps}
 use Rattle.laws_queues.proofs.Queues.Sound.{queue_keeps}
 use Rattle.laws_robust.proofs.Justified.{robust_keeps}
 
+-- each kind keeps its promises in every run
 pub laws_of : {T : Type 0} (kind : Kind) → Keeps T kind
 laws_of IndexQueue = queue_keeps queue_kinds.IndexQueue
 laws_of Overflow = queue_keeps queue_kinds.Overflow
@@ -33,8 +34,8 @@ laws_of Loan = loan_keeps
 
 -- turns that are allowed lead from a reached machine to one
 pub reached_all : {T : Type 0} (t : Trace T) (turns : List (Turn T)) → AreAllowed t turns → IsReached t → IsReached (after_turns t turns)
-reached_all t [] all r = r
-reached_all t (turn ∷ turns) all r = reached_all (after_turn t turn) turns all.1 (reached_more t turn all.0 r)
+reached_all t [] all reached = reached
+reached_all t (turn ∷ turns) all reached = reached_all (after_turn t turn) turns all.1 (reached_more t turn all.0 reached)
 
 -- the same turn once more
 pub once_more : {T : Type 0} (t now new : Trace T) (n : ℕ) (turn : Turn T) → AreAllowed t (replicate n turn) → now ≡ after_turns t (replicate n turn)

@@ -46,7 +46,7 @@ robust_load_ends T = loads_end_of Robust IsDefault default_bound (robust_keeps_e
 pub robust_in_rounds : (T : Type 0) → EndsInRoundsOf T Robust IsDefault default_bound
 robust_in_rounds T = rounds_end_of Robust IsDefault default_bound (robust_load_ends T)
 
--- and in all runs
+-- robust index sets in which no call may lock are lock-free in all runs
 pub room_one_ends : (T : Type 0) → IsLockFree T Robust room_bound
 room_one_ends T = one_call_ends Robust room_bound room_keeps_ending
 
@@ -63,7 +63,7 @@ container_load_ends T = loads_end_of Container IsDefault default_container_bound
 pub container_in_rounds : (T : Type 0) → EndsInRoundsOf T Container IsDefault default_container_bound
 container_in_rounds T = rounds_end_of Container IsDefault default_container_bound (container_load_ends T)
 
--- and in all runs
+-- containers in which no call may lock are lock-free in all runs
 pub room_container_one_ends : (T : Type 0) → IsLockFree T Container room_container_bound
 room_container_one_ends T = one_call_ends Container room_container_bound room_container_keeps_ending
 

@@ -16,6 +16,7 @@ use Rattle.laws_queues.proofs.LockFree.{queue_keeps_ending}
 use Rattle.laws_robust.proofs.LockFree.{default_keeps_ending}
 use Rattle.laws_value.proofs.LockFree.{value_keeps_ending}
 
+-- each kind with a bound that makes it lock-free keeps calls ending as that bound says
 pub keep_ending : (T : Type 0) (kind : Kind) → IfSome (lock_free_bound kind) (KeepsEnding T kind)
 keep_ending T IndexQueue = queue_keeps_ending queue_kinds.IndexQueue
 keep_ending T Overflow = queue_keeps_ending queue_kinds.Overflow

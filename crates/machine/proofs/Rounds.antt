@@ -43,15 +43,16 @@ pub record Went (turns : List (Turn ℕ)) (old : Trace ℕ) (count : ℕ) : Type
 one_more_step : (a b k : ℕ) → a ≡ 1 → b ≡ k → a + b ≡ suc k
 one_more_step a b k e f = omega arith
 
+-- a turn that ends no call comes before turns of which none does
 first : (turn : Turn ℕ) (turns : List (Turn ℕ)) (old new : Trace ℕ) (k : ℕ) → Goes turn old new → new.events ≡ old.events
     → Went turns new k → Went (turn ∷ turns) old (suc k)
 first turn turns old new k goes quiet went =
-    let on : Went turns (after_turn old turn) k = subst (λ (t : Trace ℕ). Went turns t k) (sym goes.is) went in
+    let went_now : Went turns (after_turn old turn) k = subst (λ (t : Trace ℕ). Went turns t k) (sym goes.is) went in
     let still : (after_turn old turn).events ≡ old.events = subst (λ (t : Trace ℕ). t.events ≡ old.events) (sym goes.is) quiet in
     record {
-      allowed = (goes.allowed, on.allowed);
-      steps = one_more_step (steps_of old.world turn) (steps_in (after_turn old turn) turns) k goes.one on.steps;
-      same = on.same ∙ still;
+      allowed = (goes.allowed, went_now.allowed);
+      steps = one_more_step (steps_of old.world turn) (steps_in (after_turn old turn) turns) k goes.one went_now.steps;
+      same = went_now.same ∙ still;
     }
 
 -- ---- the two releases, which have both counted that no cell has an owner
@@ -60,6 +61,7 @@ pub data Who : Type 0 where
   First : Who
   Second : Who
 
+-- the party of each of the two releases
 abbrev number : Who → ℕ
 number First = 0
 number Second = 1
@@ -73,6 +75,7 @@ pub record Tally : Type 0 where
 abbrev stepped : Tally → ℕ → ℕ → Tally
 stepped n back change = record { steps = n.steps + 1; backs = n.backs + back; since = n.since + change }
 
+-- the party of a release that has counted and is about to lock the set
 abbrev locking : Who → Lock → Tally → Party ℕ
 locking who lock n =
     record {
@@ -167,6 +170,7 @@ apart a b less = grind (arith, nat_tests)
 apart_back : (a b : ℕ) → b < a → (a == b) ≡ false
 apart_back a b less = grind (arith, nat_tests)
 
+-- a counter below the greatest has a next one, and neither is the one that locks
 is_high : (c x : ℕ) → x < c → c + 1 < greatest → IsHigh c x
 is_high c x more room =
     record {
@@ -186,12 +190,12 @@ five who turns = Next (number who) ∷ Next (number who) ∷ Next (number who) �
 counts_again : (es : List (Event ℕ)) (who : Who) (c x : ℕ) → IsHigh c x → (n : Tally) (other : Party ℕ) (changes ran k : ℕ) (turns : List (Turn ℕ))
     → ((es : List (Event ℕ)) (n : Tally) (changes ran : ℕ) → Went turns (at es who (c + 1) (ExchangesCounter (c + 1)) n other changes ran) k)
     → Went (five who turns) (at es who c (ExchangesCounter x) n other changes ran) (suc (suc (suc (suc (suc k)))))
-counts_again es who c x h n other changes ran k turns later =
-    first _ _ _ _ _ (fails es c x h n other changes ran who) (append-nil _)
-    (first _ _ _ _ _ (loads _ c x h _ other _ _ who) (append-nil _)
-    (first _ _ _ _ _ (cell _ c x h _ other _ _ who) (append-nil _)
-    (first _ _ _ _ _ (last_cell _ c x h _ other _ _ who) (append-nil _)
-    (first _ _ _ _ _ (counts_on _ c x h _ other _ _ who) (append-nil _) (later _ _ _ _)))))
+counts_again es who c x high n other changes ran k turns later =
+    first _ _ _ _ _ (fails es c x high n other changes ran who) (append-nil _)
+    (first _ _ _ _ _ (loads _ c x high _ other _ _ who) (append-nil _)
+    (first _ _ _ _ _ (cell _ c x high _ other _ _ who) (append-nil _)
+    (first _ _ _ _ _ (last_cell _ c x high _ other _ _ who) (append-nil _)
+    (first _ _ _ _ _ (counts_on _ c x high _ other _ _ who) (append-nil _) (later _ _ _ _)))))
 
 abbrev rounds : ℕ → List (Turn ℕ)
 rounds zero = []
@@ -203,8 +207,9 @@ steps_of_rounds (suc k) = suc (suc (suc (suc (suc (suc (suc (suc (suc (suc (step
 
 ten_each : (k : ℕ) → steps_of_rounds k ≡ 10 * k
 ten_each zero = refl
-ten_each (suc k) = let e = ten_each k in omega arith
+ten_each (suc k) = omega (arith, ten_each k)
 
+-- so many rounds take their steps, and no call ends in them
 endless : (es : List (Event ℕ)) (k c x : ℕ) → x < c → c + (k + k) < greatest → (m n : Tally) (changes ran : ℕ)
     → Went (rounds k) (at es First c (ExchangesCounter x) m (locking Second (ExchangesCounter c) n) changes ran) (steps_of_rounds k)
 endless es zero c x more room m n changes ran = record { allowed = tt; steps = refl; same = refl }
@@ -239,6 +244,7 @@ zero_below = omega arith
 one_below : 1 < 2
 one_below = omega arith
 
+-- the turns of the rounds are of the two parties alone
 below : (k : ℕ) → AllByRecursion (IsBelow 2) (rounds k)
 below zero = tt
 below (suc k) = (

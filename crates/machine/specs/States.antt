@@ -6,17 +6,18 @@ use Rattle.model.specs.declared.families.Registry.TheVariants as registries
 use Rattle.model.specs.Families.Container.States.{state_of}
 
 module _ {T : Type 0} where
+  -- the party has a state, and it shows nothing
   abbrev pub ShowsNothing : Option (ContainerState T) → Type 0
   ShowsNothing (Some state) = state.shown.elements ≡ []
   ShowsNothing None = ⊥
 
-  -- the state that the party's looks have written into, and before its first look one that shows
-  -- nothing; none where there is no such party
+  -- the state that the party's looks have written into, and before its first look one that shows nothing; none where
+  -- there is no such party
   abbrev pub IsFound : (parties p : ℕ) → Option (ContainerState T) → Option (ContainerState T) → Type 0
   IsFound parties p found (Some state) = found ≡ Some state
   IsFound parties p found None = (p < parties → ShowsNothing found) × (parties ≤ p → found ≡ None)
 
-  -- in what a machine of so many parties keeps; other kinds have no states
+  -- what a machine of so many parties keeps as the party's state; other kinds than the container have no states
   abbrev pub IsStateIn : Registry T → (parties p : ℕ) → Option (ContainerState T) → Type 0
   IsStateIn (registries.Container dead states) parties p found =
       IsFound parties p found (state_of p states)

@@ -9,8 +9,8 @@ pub mod theorems;
 
 use event::Event;
 use families::Registry;
+use machine_parts::parts::Parts;
 pub use model::{event, families, party, turn};
-use parts::parts::Parts;
 use party::Progress;
 use std::alloc::Global;
 use std::marker::Model;
@@ -56,7 +56,7 @@ pub struct Stopped {
 impl<T: Words> Model for Machine<T> {
     ghost use Rattle.model.specs.Coding.{coding_by};
     ghost use Rattle.model.specs.World.{State};
-    ghost use Rattle.parts.specs.Parts.{state_of, trace_of};
+    ghost use Rattle.machine_parts.specs.Parts.{state_of, trace_of};
     ghost use Rattle.model.specs.Turns.{IsReached};
 
     ghost Value = { State T };
@@ -77,7 +77,7 @@ impl<T: Words> Machine<T> {
     ghost use Rattle.model.specs.declared.families.loan.Book.{Book};
     ghost use Rattle.model.specs.declared.turn.Shape.TheVariants as shapes;
     ghost use Rattle.steps.specs.declared.enums.UniqueIndexCreationError.TheVariants.{NoMemory};
-    ghost use Rattle.parts.specs.Parts.{trace_of};
+    ghost use Rattle.machine_parts.specs.Parts.{trace_of};
     ghost use Rattle.machine.specs.States.{IsStateIn};
     ghost use Rattle.model.specs.declared.turn.Turn.TheVariants.{Next};
     ghost use Rattle.model.specs.Promises.{IsKept, WritesEvents, TellsBeside, AreTurns};

@@ -8,13 +8,14 @@ use Rattle.model.specs.Promises.{IsKept}
 use Rattle.model.proofs.Orders.{reached_kept}
 use Rattle.model.proofs.Reached.{reached_is}
 use Rattle.model.proofs.Small.{reached_small}
-use Rattle.parts.specs.Parts.{trace_of}
+use Rattle.machine_parts.specs.Parts.{trace_of}
 use Rattle.machine.proofs.Laws.{laws_of, reached_all}
 use Rattle.machine.proofs.Machine.at_once.Goals as goal
 
 pub steps-requires : goal.steps-requires
 steps-requires g c = reached_small (trace_of (coding_by g.T.Words) c.self.inside.parts) c.self.invariant
 
+-- `self` still meets the invariant of its type
 pub invariant_of-self : goal.invariant_of-self
 invariant_of-self g c =
     let inside = trace_of (coding_by g.T.Words) c.self.inside.parts in
@@ -22,6 +23,7 @@ invariant_of-self g c =
     (after_turns inside (replicate c.steps.result (Next c.args.party))) c.steps.ensures.ok
     (reached_all inside (replicate c.steps.result (Next c.args.party)) c.steps.ensures.allowed c.self.invariant)
 
+-- its return meets the clause `kept`
 pub returns-clause-kept : goal.returns-clause-kept
 returns-clause-kept g c =
     let inside = trace_of (coding_by g.T.Words) c.self.inside.parts in

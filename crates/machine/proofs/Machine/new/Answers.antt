@@ -1,10 +1,11 @@
 -- `Machine::new` (src/lib.rt): its call of `made` meets what that requires.
 use Rattle.model.specs.Coding.{coding_by, IsCoding}
 use Rattle.model.specs.World.{opening_as}
-use Rattle.parts.specs.Parts.{trace_of}
+use Rattle.machine_parts.specs.Parts.{trace_of}
 use Rattle.model.proofs.Reached.{reached_is, reached_as}
 use Rattle.machine.proofs.Machine.new.Goals as goal
 
+-- its call of `made` meets what that requires
 pub made-requires : goal.made-requires
 made-requires g c =
     let laws = g.met.T.Words in

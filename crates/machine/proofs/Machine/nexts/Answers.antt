@@ -9,6 +9,7 @@ use Rattle.model.proofs.Orders.{reached_turns}
 use Rattle.machine.proofs.Laws.{laws_of, once_more}
 use Rattle.machine.proofs.Machine.nexts.Goals as goal
 
+-- where the answer is `Err`, its return meets the clause `each_before`
 pub returns-in-Err-clause-each_before : goal.returns-in-Err-clause-each_before
 returns-in-Err-clause-each_before g c =
     reached_turns laws_of (trace_in (coding_by g.T.Words) c.args.self.now)
@@ -17,6 +18,7 @@ returns-in-Err-clause-each_before g c =
     c.self.view_is c.self.invariant)
     c.loop-taken.invariant.allowed
 
+-- each iteration keeps the invariant of the loop
 pub loop-taken-preserved : goal.loop-taken-preserved
 loop-taken-preserved g c =
     let more =
@@ -31,6 +33,7 @@ loop-taken-preserved g c =
     in
     record { allowed = more.0; taken = more.1; kept = c.in_default.ensures.kept }
 
+-- its return meets the clause `each`
 pub returns-clause-each : goal.returns-clause-each
 returns-clause-each g c =
     let all : c.loop-taken.taken ≡ c.args.most = omega (arith, c.at_once-first.ensures.most) in

@@ -12,6 +12,7 @@ use Rattle.model.proofs.Reached.{one_more}
 use Rattle.machine.proofs.Laws.{laws_of}
 use Rattle.machine.proofs.Machine.run_all.Goals as goal
 
+-- the invariant of the loop holds at its start
 pub loop-taken-init : goal.loop-taken-init
 loop-taken-init g c =
     record {
@@ -23,6 +24,7 @@ loop-taken-init g c =
           c.self.view_is c.self.invariant);
     }
 
+-- each iteration keeps the invariant of the loop
 pub loop-taken-preserved : goal.loop-taken-preserved
 loop-taken-preserved g c =
     let within : c.loop-taken.taken < length c.args.turns.now = omega arith in
@@ -38,6 +40,7 @@ loop-taken-preserved g c =
     in
     record { allowed = more.0; taken = more.1; kept = c.in_default.ensures.kept }
 
+-- where the answer is `Err`, its return meets the clause `refused`
 pub returns-in-Err-clause-refused : goal.returns-in-Err-clause-refused
 returns-in-Err-clause-refused g c =
     let within : c.loop-taken.taken < length c.args.turns.now = omega arith in
@@ -52,6 +55,7 @@ returns-in-Err-clause-refused g c =
     turn c.in-Err.refusal))
     (sym here) why
 
+-- where the answer is `Err`, its return meets the clause `each_before`
 pub returns-in-Err-clause-each_before : goal.returns-in-Err-clause-each_before
 returns-in-Err-clause-each_before g c =
     reached_turns laws_of (trace_in (coding_by g.T.Words) c.args.self.now)
@@ -60,6 +64,7 @@ returns-in-Err-clause-each_before g c =
     c.self.view_is c.self.invariant)
     c.loop-taken.invariant.allowed
 
+-- its return meets the clause `each`
 pub returns-clause-each : goal.returns-clause-each
 returns-clause-each g c =
     let all : c.loop-taken.taken ≡ length c.args.turns.now = omega arith in

@@ -3,7 +3,7 @@
 use Rattle.std.proofs.Common.{ap, sym, subst}
 use Rattle.model.specs.Coding.{coding_by}
 use Rattle.model.specs.World.{trace_in}
-use Rattle.parts.specs.Parts.{trace_of}
+use Rattle.machine_parts.specs.Parts.{trace_of}
 use Rattle.model.specs.Turns.{after_turn}
 use Rattle.model.specs.Promises.{IsKept}
 use Rattle.model.proofs.Orders.{reached_kept, step_turn}
@@ -15,6 +15,7 @@ use Rattle.machine.proofs.Machine.step.Goals as goal
 pub step-requires : goal.step-requires
 step-requires g c = reached_small (trace_of (coding_by g.T.Words) c.self.inside.parts) c.self.invariant
 
+-- the machine that the turn leaves is one that turns have reached
 pub invariant_of-self-2 : goal.invariant_of-self-2
 invariant_of-self-2 g c =
     reached_is (trace_of (coding_by g.T.Words) c.step.new.self)
@@ -29,6 +30,7 @@ returns-clause-allowed g c = rw (← c.self.view_is) c.in_ok-step.ensures.allowe
 pub returns-clause-ok : goal.returns-clause-ok
 returns-clause-ok g c = rw (← c.self.view_is) c.in_ok-step.ensures.ok
 
+-- its return meets the clause `later`
 pub returns-clause-later : goal.returns-clause-later
 returns-clause-later g c =
     (step_turn laws_of (trace_of (coding_by g.T.Words) c.self.inside.parts)
@@ -37,6 +39,7 @@ returns-clause-later g c =
     (ap (trace_in (coding_by g.T.Words)) c.self.view_is) c.self.invariant
     c.in_ok-step.ensures.allowed c.in_ok-step.ensures.ok).later
 
+-- its return meets the clause `word`
 pub returns-clause-word : goal.returns-clause-word
 returns-clause-word g c =
     (step_turn laws_of (trace_of (coding_by g.T.Words) c.self.inside.parts)
@@ -45,6 +48,7 @@ returns-clause-word g c =
     (ap (trace_in (coding_by g.T.Words)) c.self.view_is) c.self.invariant
     c.in_ok-step.ensures.allowed c.in_ok-step.ensures.ok).word
 
+-- its return meets the clause `call`
 pub returns-clause-call : goal.returns-clause-call
 returns-clause-call g c =
     (step_turn laws_of (trace_of (coding_by g.T.Words) c.self.inside.parts)
@@ -53,6 +57,7 @@ returns-clause-call g c =
     (ap (trace_in (coding_by g.T.Words)) c.self.view_is) c.self.invariant
     c.in_ok-step.ensures.allowed c.in_ok-step.ensures.ok).call
 
+-- its return meets the clause `counts`
 pub returns-clause-counts : goal.returns-clause-counts
 returns-clause-counts g c =
     (step_turn laws_of (trace_of (coding_by g.T.Words) c.self.inside.parts)
@@ -61,6 +66,7 @@ returns-clause-counts g c =
     (ap (trace_in (coding_by g.T.Words)) c.self.view_is) c.self.invariant
     c.in_ok-step.ensures.allowed c.in_ok-step.ensures.ok).counts
 
+-- its return meets the clause `others`
 pub returns-clause-others : goal.returns-clause-others
 returns-clause-others g c =
     (step_turn laws_of (trace_of (coding_by g.T.Words) c.self.inside.parts)
@@ -69,6 +75,7 @@ returns-clause-others g c =
     (ap (trace_in (coding_by g.T.Words)) c.self.view_is) c.self.invariant
     c.in_ok-step.ensures.allowed c.in_ok-step.ensures.ok).others
 
+-- its return meets the clause `tells`
 pub returns-clause-tells : goal.returns-clause-tells
 returns-clause-tells g c =
     (step_turn laws_of (trace_of (coding_by g.T.Words) c.self.inside.parts)
@@ -77,6 +84,7 @@ returns-clause-tells g c =
     (ap (trace_in (coding_by g.T.Words)) c.self.view_is) c.self.invariant
     c.in_ok-step.ensures.allowed c.in_ok-step.ensures.ok).tells
 
+-- its return meets the clause `events`
 pub returns-clause-events : goal.returns-clause-events
 returns-clause-events g c =
     (step_turn laws_of (trace_of (coding_by g.T.Words) c.self.inside.parts)
@@ -85,6 +93,7 @@ returns-clause-events g c =
     (ap (trace_in (coding_by g.T.Words)) c.self.view_is) c.self.invariant
     c.in_ok-step.ensures.allowed c.in_ok-step.ensures.ok).events
 
+-- its return meets the clause `kept`
 pub returns-clause-kept : goal.returns-clause-kept
 returns-clause-kept g c =
     let inside = trace_of (coding_by g.T.Words) c.self.inside.parts in

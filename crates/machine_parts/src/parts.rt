@@ -8,7 +8,7 @@ ghost use Rattle.model.specs.Small.{IsSmall, HasSmallCounts};
 ghost use Rattle.model.specs.declared.party.Doing.TheVariants.{Over};
 ghost use Rattle.model.specs.Turns.{turn_of, number_of, one_if, after_turn, after_turns, AreAllowed};
 ghost use Rattle.model.specs.declared.turn.Turn.TheVariants.{Next};
-ghost use Rattle.parts.specs.Parts.{state_of, trace_of, going_refusal, IsGoingRefusal, around, after_turn_of, StandsAlone, Steps};
+ghost use Rattle.machine_parts.specs.Parts.{state_of, trace_of, going_refusal, IsGoingRefusal, around, after_turn_of, StandsAlone, Steps};
 ghost use Rattle.model.specs.Coding.{coding_by};
 
 use model::event::{Event, Start};

@@ -2,8 +2,8 @@
 use Rattle.std.proofs.Common.{◌+◌, ◌≤◌}
 use Rattle.model.specs.Coding.{coding_by}
 use Rattle.model.specs.Small.{HasSmallCounts}
-use Rattle.parts.specs.Parts.{around, Steps}
-use Rattle.parts.proofs.parts.take_steps.Given as given
+use Rattle.machine_parts.specs.Parts.{around, Steps}
+use Rattle.machine_parts.proofs.parts.take_steps.Given as given
 
 abbrev pub invariant-loop-taken : given.invariant-loop-taken
 invariant-loop-taken g l =

@@ -7,9 +7,9 @@ use Rattle.std.specs.Ordering.{nat_cmp}
 use Rattle.model.specs.Coding.{coding_by}
 use Rattle.model.specs.Parties.{party_of, put}
 use Rattle.model.proofs.Parties.{set_is_put}
-use Rattle.parts.specs.Parts.{trace_of}
-use Rattle.parts.proofs.Going.{refusal_is, is_refusal, going_is, goes_on_nowhere, is_idle}
-use Rattle.parts.proofs.parts.Parts.resume.Goals as goal
+use Rattle.machine_parts.specs.Parts.{trace_of}
+use Rattle.machine_parts.proofs.Going.{refusal_is, is_refusal, going_is, goes_on_nowhere, is_idle}
+use Rattle.machine_parts.proofs.parts.Parts.resume.Goals as goal
 
 pub take_step-gone-requires-clause-small : goal.take_step-gone-requires-clause-small
 take_step-gone-requires-clause-small g c =

@@ -29,8 +29,8 @@ use Rattle.model.specs.World.{World, Trace}
 use Rattle.model.proofs.Counts.{change_small, steps_small, back_small}
 use Rattle.model.proofs.Parties.{party_put_same, set_is_put}
 use Rattle.model.proofs.Reached.{after_turns_more, AreAllowed-more}
-use Rattle.parts.specs.Parts.{going_refusal, Around, around, ask_with, answer_with, after_turn_of, StandsAlone, Steps}
-use Rattle.parts.proofs.Going.{refusal_is, going_is}
+use Rattle.machine_parts.specs.Parts.{going_refusal, Around, around, ask_with, answer_with, after_turn_of, StandsAlone, Steps}
+use Rattle.machine_parts.proofs.Going.{refusal_is, going_is}
 
 -- ---- a party written in its place
 
@@ -42,8 +42,7 @@ put_again : {X : Type 0} (p : ℕ) (x y : X) (es : List (ℕ × X))
 put_again p x y [] = rw (at_itself p) refl
 put_again p x y (e ∷ es) = by (nat_cmp p e.0) refl (put_again p x y es)
   where
-    -- however the party compares with that of the first entry, what was written last stands in its
-    -- place
+    -- however the party compares with that of the first entry, what was written last stands in its place
     by : (r : Ordering) → nat_cmp p e.0 ≡ r → insert_entry nat_cmp (insert_entry nat_cmp es p x) p y ≡ insert_entry nat_cmp es p y
         → insert_entry nat_cmp (match_ordering r ((p, x) ∷ e ∷ es) ((e.0, x) ∷ es) (e ∷ insert_entry nat_cmp es p x)) p y
         ≡ match_ordering r ((p, y) ∷ e ∷ es) ((e.0, y) ∷ es) (e ∷ insert_entry nat_cmp es p y)
@@ -66,19 +65,19 @@ module _ {T : Type 0} where
       go : (doing : Doing T) → HasSmallCount a.changes doing
           → HasSmallCounts (turns + 1) (after_turn_of code p None None doing a).changes (after_turn_of code p None None doing a).party
           × ((after_turn_of code p None None doing a).changes ≤ turns + 1)
-      go (Over others) h =
+      go (Over others) small_count =
           let steps = small.steps in
           let backs = small.backs in
           let doing = small.doing in
           (record { steps = omega arith; backs = omega arith; doing = doing }, omega arith)
-      go (Going flight since) h =
+      go (Going flight since) small_count =
           let steps = small.steps in
           let backs = small.backs in
           let ask = ask_with code None flight in
           let one = change_small a.words ask in
           let step = steps_small ask in
           let back = back_small (step_of code a.words None p a.party.start flight (answer_with code None a.words flight) a.kept).back in
-          (record { steps = omega arith; backs = omega arith; doing = over_small a.changes since (change_of a.words ask) _ h }, omega arith)
+          (record { steps = omega arith; backs = omega arith; doing = over_small a.changes since (change_of a.words ask) _ small_count }, omega arith)
 
   pub none_taken : (code : Coding T) (p : ℕ) (a : Around T) → Steps code p 0 a a
   none_taken code p a = refl
@@ -110,8 +109,7 @@ module _ {T : Type 0} (w : World T) (p : ℕ) (x : Party T) (events : List (Even
   abbrev Comes : ℕ → Around T → Type 0
   Comes n b = AreAllowed start (replicate n (Next p)) × (taken_to n b ≡ after_turns start (replicate n (Next p)))
 
-  -- n steps of the party's call, taken on the parts, are n turns that go on with the call, none of
-  -- which is refused
+  -- n steps of the party's call, taken on the parts, are n turns that go on with the call, none of which is refused
   pub steps_are : (n : ℕ) (b : Around T) → IsStrictlySortedBy nat_cmp (keys_of w.latest) → party_of p w.latest ≡ Some x → p < w.parties
       → w.turns + n ≤ 2 ^ 64 - 2 → Steps w.coding p n (around x w.words w.kept w.changes events) b → Comes n b
   steps_are zero b ordered found within small is =

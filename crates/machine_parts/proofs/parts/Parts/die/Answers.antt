@@ -3,9 +3,9 @@ use Rattle.std.proofs.Common.{◌≡◌, inl, inr, false, None, Some, refl, sym}
 use Rattle.model.specs.Coding.{coding_by}
 use Rattle.model.specs.Families.{lacks_party, death_rows, kept_after_death}
 use Rattle.model.specs.Rows.{first_row}
-use Rattle.parts.specs.Parts.{trace_of}
-use Rattle.parts.proofs.Going.{death_passes, death_refuses}
-use Rattle.parts.proofs.parts.Parts.die.Goals as goal
+use Rattle.machine_parts.specs.Parts.{trace_of}
+use Rattle.machine_parts.proofs.Going.{death_passes, death_refuses}
+use Rattle.machine_parts.proofs.parts.Parts.die.Goals as goal
 
 -- where a row refuses the death, the machine refuses it so
 pub returns-in-Some-clause-refused : goal.returns-in-Some-clause-refused

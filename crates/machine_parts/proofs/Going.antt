@@ -17,7 +17,7 @@ use Rattle.model.specs.Refusals.{refusal_of, IsRefusal}
 use Rattle.model.specs.Rows.{first_row}
 use Rattle.model.specs.Turns.{turn_of, after_turn}
 use Rattle.model.specs.World.{World, flight_in}
-use Rattle.parts.specs.Parts.{turn_rows, going_refusal, IsGoingRefusal, Around, after_turn_of}
+use Rattle.machine_parts.specs.Parts.{turn_rows, going_refusal, IsGoingRefusal, Around, after_turn_of}
 
 module _ {T : Type 0} (w : World T) (p : ℕ) (said : Option Bool) where
   -- what is tested of the turn, once its party is there
@@ -41,9 +41,9 @@ module _ {T : Type 0} (w : World T) (p : ℕ) (said : Option Bool) where
 
   pub is_refusal : (x : Party T) (r : Refusal) → w.turns < 2 ^ 64 - 2 → p < w.parties → party_of p w.latest ≡ Some x
       → IsGoingRefusal w.coding w.kept x.doing said r → IsRefusal w (turn_of p said) r
-  is_refusal x r small within found h =
+  is_refusal x r small within found is_going_refusal =
       let same = refusal_is x small within found in
-      ⊎_elim (λ row. inl (same ∙ row)) (λ memory. inr (same ∙ memory.0, memory.1)) h
+      ⊎_elim (λ row. inl (same ∙ row)) (λ memory. inr (same ∙ memory.0, memory.1)) is_going_refusal
 
   -- a turn of the party's call that is not refused, taken on the parts of the machine, leaves the
   -- machine as the turn does
@@ -67,14 +67,14 @@ module _ {T : Type 0} (w : World T) (p : ℕ) (said : Option Bool) where
                 record w { words = a.words; kept = a.kept; latest = put p a.party w.latest; changes = a.changes; turns = w.turns + 1 };
             events = a.events;
           } ≡ after_turn (record { world = w; events = events }) (turn_of p said)
-      go (Over others) d None e =
-          let clash = rw (d, e) at allowed in
+      go (Over others) same_doing None e =
+          let clash = rw (same_doing, e) at allowed in
           absurd (cc)
-      go (Over others) d (Some b) e =
-          let clash = rw (d, e) at allowed in
+      go (Over others) same_doing (Some b) e =
+          let clash = rw (same_doing, e) at allowed in
           absurd (cc)
-      go (Going flight since) d None e = rw is (rw (d, e) (rw (found, d) refl))
-      go (Going flight since) d (Some b) e = rw is (rw (d, e) (rw (found, d) refl))
+      go (Going flight since) same_doing None e = rw is (rw (same_doing, e) (rw (found, same_doing) refl))
+      go (Going flight since) same_doing (Some b) e = rw is (rw (same_doing, e) (rw (found, same_doing) refl))
 
 -- a turn that begins a call passes where the family's own rows do
 pub begin_passes : {T : Type 0} (w : World T) (p : ℕ) (start : Start T) → w.turns < 2 ^ 64 - 2 → p < w.parties
@@ -85,7 +85,7 @@ begin_passes w p start small within free rows =
     let there : nat_le w.parties p ≡ false = grind (arith, nat_tests) in
     rw (early, there, free) rows
 
--- and is refused where one of them applies
+-- a turn that begins a call is refused where one of the family's rows applies
 pub begin_refuses : {T : Type 0} (w : World T) (p : ℕ) (start : Start T) (row : Refusal) → w.turns < 2 ^ 64 - 2
     → p < w.parties → is_some (flight_in w p) ≡ false
     → first_row (begin_rows w.kind w.capacity w.kept p start) ≡ Some row → refusal_of w (Begin p start) ≡ Some row
@@ -149,7 +149,7 @@ death_passes w owner small there rows =
     let early : nat_le (2 ^ 64 - 2) w.turns ≡ false = grind (arith, nat_tests) in
     rw (early, there) rows
 
--- and is refused where one of them applies
+-- a death is refused where one of its rows applies
 pub death_refuses : {T : Type 0} (w : World T) (owner : ℕ) (row : Refusal) → w.turns < 2 ^ 64 - 2
     → lacks_party w.kept w.parties owner ≡ false → first_row (death_rows w.kept owner) ≡ Some row
     → refusal_of w (Die owner) ≡ Some row

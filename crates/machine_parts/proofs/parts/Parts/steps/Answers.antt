@@ -4,10 +4,10 @@ use Rattle.std.proofs.Common.{◌≡◌, ◌+◌, ◌-◌, ◌^◌, ◌<◌, ◌
 use Rattle.model.specs.Coding.{coding_by}
 use Rattle.model.specs.Parties.{party_of, put}
 use Rattle.model.proofs.Parties.{set_is_put}
-use Rattle.parts.specs.Parts.{trace_of}
-use Rattle.parts.proofs.Steps.{steps_are}
-use Rattle.parts.proofs.parts.Parts.steps.Goals as goal
-use Rattle.parts.proofs.parts.Parts.steps.Goals.{then-most-left, else-most-left}
+use Rattle.machine_parts.specs.Parts.{trace_of}
+use Rattle.machine_parts.proofs.Steps.{steps_are}
+use Rattle.machine_parts.proofs.parts.Parts.steps.Goals as goal
+use Rattle.machine_parts.proofs.parts.Parts.steps.Goals.{then-most-left, else-most-left}
 
 pub take_steps-taken-requires-clause-small : goal.take_steps-taken-requires-clause-small
 take_steps-taken-requires-clause-small g c =

@@ -2,9 +2,9 @@
 use Rattle.std.proofs.Common.{◌≡◌, ◌+◌, refl, subst, arith}
 use Rattle.model.specs.Coding.{coding_by}
 use Rattle.model.specs.Small.{HasSmallCounts}
-use Rattle.parts.specs.Parts.{around}
-use Rattle.parts.proofs.Steps.{around_small, one_more_step}
-use Rattle.parts.proofs.parts.take_steps.Goals as goal
+use Rattle.machine_parts.specs.Parts.{around}
+use Rattle.machine_parts.proofs.Steps.{around_small, one_more_step}
+use Rattle.machine_parts.proofs.parts.take_steps.Goals as goal
 
 -- with each step that was taken there is one step more, and the counts stay small
 pub loop-taken-preserved : goal.loop-taken-preserved

@@ -5,7 +5,7 @@ use Rattle.std.specs.BTreeMap.{is_at}
 use Rattle.std.specs.Ordering.{nat_cmp}
 use Rattle.model.specs.Parties.{put}
 use Rattle.model.proofs.Parties.{set_is_put}
-use Rattle.parts.proofs.parts.enter.Goals as goal
+use Rattle.machine_parts.proofs.parts.enter.Goals as goal
 
 pub returns-then-not-keep-clause-latest_stays : goal.returns-then-not-keep-clause-latest_stays
 returns-then-not-keep-clause-latest_stays g c stays =

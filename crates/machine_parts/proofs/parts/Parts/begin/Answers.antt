@@ -6,9 +6,9 @@ use Rattle.model.specs.declared.turn.Turn.TheVariants.{Begin}
 use Rattle.model.specs.Coding.{coding_by}
 use Rattle.model.specs.Refusals.{IsRefusal}
 use Rattle.model.specs.World.{flight_in}
-use Rattle.parts.specs.Parts.{trace_of}
-use Rattle.parts.proofs.Going.{begin_passes, begin_refuses, begins_nowhere, is_busy, none_found, some_found}
-use Rattle.parts.proofs.parts.Parts.begin.Goals as goal
+use Rattle.machine_parts.specs.Parts.{trace_of}
+use Rattle.machine_parts.proofs.Going.{begin_passes, begin_refuses, begins_nowhere, is_busy, none_found, some_found}
+use Rattle.machine_parts.proofs.parts.Parts.begin.Goals as goal
 
 -- a begin that is taken is not refused by the machine
 pub returns-clause-allowed : goal.returns-clause-allowed

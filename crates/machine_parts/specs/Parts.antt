@@ -17,7 +17,7 @@ use Rattle.model.specs.Rows.{first_row}
 use Rattle.model.specs.Step.{Step}
 use Rattle.model.specs.Turns.{old_of, words_after, change_of, step_count, number_of, party_after, events_of_step}
 use Rattle.model.specs.World.{Trace, State, trace_in}
-use Rattle.parts.specs.declared.parts.Parts.{Parts}
+use Rattle.machine_parts.specs.declared.parts.Parts.{Parts}
 
 -- what these parts hold
 abbrev pub state_of : {T : Type 0} → Parts T → State T
@@ -48,10 +48,11 @@ module _ {T : Type 0} where
       ∷ (not (is_due code flight), Undecided)
       ∷ going_rows code kept flight (Some said)
 
+  -- why a pending call does not go on, with a decision or without, if it does not
   abbrev pub going_refusal : Coding T → Registry T → Doing T → Option Bool → Option Refusal
   going_refusal code kept doing said = first_row (turn_rows code kept (flight_of (Some doing)) said)
 
-  -- a refusal of it names the first row that applies; where none does, memory was refused
+  -- a refusal of a call that is to go on names the first row that applies; where none does, memory was refused
   abbrev pub IsGoingRefusal : Coding T → Registry T → Doing T → Option Bool → Refusal → Type 0
   IsGoingRefusal code kept doing said refusal =
       (going_refusal code kept doing said ≡ Some refusal)
@@ -62,7 +63,7 @@ module _ {T : Type 0} where
   ask_with code None flight = ask_of (want_of code flight)
   ask_with code (Some said) flight = None
 
-  -- what it is handed: the old value of its word, or the decision
+  -- what the call is handed: the old value of its word, or the decision
   abbrev pub answer_with : Coding T → Option Bool → List ℕ → Flight T → ℕ
   answer_with code None words flight = old_of words (ask_of (want_of code flight))
   answer_with code (Some said) words flight = number_of said
@@ -76,6 +77,7 @@ pub record Around (T : Type 0) : Type 0 where
   pub events : List (Event T)
 
 module _ {T : Type 0} where
+  -- these as what a party's turn works on
   abbrev pub around : Party T → List ℕ → Registry T → ℕ → List (Event T) → Around T
   around party words kept changes events =
       record {
@@ -86,6 +88,7 @@ module _ {T : Type 0} where
         events = events;
       }
 
+  -- what a step of the party's call leaves, which does this operation: the word is written, and what it tells is added
   abbrev after_going : ℕ → Option Ask → Party T → ℕ → Around T
       → Step (Flight T) (Registry T) T → Around T
   after_going p ask x since a s =
@@ -97,7 +100,7 @@ module _ {T : Type 0} where
         events = a.events ++ events_of_step p x.start s;
       }
 
-  -- what the turn makes of it; a call that is done stays
+  -- what a party's turn makes of this; a call that is done stays
   abbrev pub after_turn_of : Coding T → ℕ → Option Bool → Option (ℕ × ℕ) → Doing T → Around T
       → Around T
   after_turn_of code p said beside (Over others) a = a
@@ -106,11 +109,11 @@ module _ {T : Type 0} where
       (step_of code a.words beside p a.party.start flight
       (answer_with code said a.words flight) a.kept)
 
-  -- none of its steps has to know of the others
+  -- with this kept beside the words, no step of any party has to know what another party's call is about to do
   abbrev pub StandsAlone : Registry T → Type 0
   StandsAlone kept = (words : List ℕ) (latest : List (ℕ × Party T)) (p : ℕ) → beside_of words kept latest p ≡ None
 
-  -- so many steps of the party's call, none of which is refused or has to know of the others, lead from here to there
+  -- n steps of the party's call lead from a to b, and none of them is refused or has to know of another party's call
   abbrev pub Steps : Coding T → ℕ → ℕ → Around T → Around T → Type 0
   Steps code p zero a b = b ≡ a
   Steps code p (suc n) a b =
