@@ -39,8 +39,8 @@ module _ {T : Type 0} where
         → IsLook start
         → EndsWith p (Container start) answer old new
         → is_some (state_in new.world.kept p) ≡ true
-    -- In a well-formed run the state shows each value that stood during the whole look and that a call had placed which ended
-    -- before the look began.
+    -- In a well-formed run the state shows each value that stood during the whole look and that a call had placed which
+    -- ended before the look began.
     pub stood : IsWellFormedRun new
         → (p index : ℕ) (value : T) (start : ContainerStart T) (answer : Answer T) (state : ContainerState T)
         → IsLook start
@@ -58,8 +58,8 @@ module _ {T : Type 0} where
         → WasAlone p new.events
         → index < old.world.capacity
         → shows state index ≡ contents_of index new.events
-    -- In a well-formed run a look that answers true leaves a state that shows at each index what stood there at a moment of the
-    -- look.
+    -- In a well-formed run a look that answers true leaves a state that shows at each index what stood there at a
+    -- moment of the look.
     pub moments : IsWellFormedRun new
         → (p index : ℕ) (state : ContainerState T)
         → EndsWith p (Container UpdateState) (Truth true) old new
@@ -85,8 +85,8 @@ module _ {T : Type 0} where
 
   -- ---- a find
 
-  -- What a find of a robust set has counted when it ends: each index that its owner filled during the whole call, and none that
-  -- the owner filled at no moment of it.
+  -- What a find of a robust set has counted when it ends: each index that its owner filled during the whole call, and
+  -- none that the owner filled at no moment of it.
   pub record RobustFinds (old : Trace T) (turn : Turn T) (new : Trace T) : Type 0 where
     -- If no decision to stop ends it, it has counted the indices of the set.
     pub all : (p owner number : ℕ)
@@ -102,8 +102,9 @@ module _ {T : Type 0} where
         × (new.events ≡ old.events ++ Finished p (Robust (robust.Find owner)) (Number number) ∷ [])
         × IsCount p (IsFilledWith owner) (index + 1) number old.events
 
-  -- What a find of a container has counted when it ends, and, in a well-formed run, copied: a value of each index that it has
-  -- counted, if one stood there during the whole call. (That it is the one that stood is `copied` of `ContainerRuns`.)
+  -- What a find of a container has counted when it ends, and, in a well-formed run,
+  -- copied: a value of each index that it has counted, if one stood there during
+  -- the whole call. (That it is the one that stood is `copied` of `ContainerRuns`.)
   pub record ContainerFinds (old : Trace T) (turn : Turn T) (new : Trace T) : Type 0 where
     -- If no decision to stop ends it, it has counted the indices of the container.
     pub all : (p owner number : ℕ) (wrote : List (Event T))

@@ -12,8 +12,8 @@ use Rattle.model.specs.Turns.{AreAllowed, IsReached, IsReachedOn, after_turns, a
 use Rattle.model.specs.World.{Trace, World, flight_in}
 use Rattle.headline.specs.Nexts.{begins_of_others, nexts_in, own_ends}
 
--- In runs in which no call begins but such ones: a party with a call under way, that goes on in more turns than the load of the
--- calls that were under way and of those that others begin, ends it.
+-- In runs in which no call begins but such ones: a party with a call under way, that goes on in more turns than the
+-- load of the calls that were under way and of those that others begin, ends it.
 abbrev pub EndsByTurnsOf : (T : Type 0) → Kind → (Start T → Type 0) → Bound → Type 0
 EndsByTurnsOf T kind Such bound =
     (t : Trace T) → t.world.kind ≡ kind → (r : IsReached t) → AllByRecursion (BeginsSuch Such) r.turns
@@ -40,8 +40,8 @@ module _ {T : Type 0} where
     pub goes : (k : ℕ) → (flight_in (moment_on t turns (at k)).world p ≡ None)
         ⊎ IsStepOf p (moment_on t turns (at k)).world (turns (at k))
 
--- Whatever endless schedule n parties follow on which at most so many calls begin: each party to which it is fair comes to a
--- moment at which it has no call under way. A turn may be refused, so the others may have nothing more to do.
+-- Whatever endless schedule n parties follow on which at most so many calls begin: each party to which it is fair comes
+-- to a moment at which it has no call under way. A turn may be refused, so the others may have nothing more to do.
 abbrev pub EndsIfFairOn : Type 0 → Kind → Bound → Type 0
 EndsIfFairOn T kind bound =
     (t : Trace T) → t.world.kind ≡ kind → IsReachedOn t → (n calls : ℕ) (turns : ℕ → Turn T)

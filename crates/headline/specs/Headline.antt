@@ -62,22 +62,22 @@ use Rattle.headline.specs.Moments.{Follows, call_in, ActedOnce, AtMostOnce, ActA
 module _ {T : Type 0} where
   -- ---- the queues and the value
 
-  -- Each finished push and pop acts at one moment inside it on one bounded list, or on one that overflows. The values handed
-  -- out are the first of those published, in order, and the rest waits in the cells.
+  -- Each finished push and pop acts at one moment inside it on one bounded list, or on one that overflows. The values
+  -- handed out are the first of those published, in order, and the rest waits in the cells.
   pub record QueueRuns (kind : QueueKind) (t : Trace T) : Type 0 where
     pub list : ActAs (as_list kind t.world.capacity) t.events
     pub conserved : published t.events
         ≡ handed_out t.events ++ waiting_in t.world.coding kind t.world.capacity t.world.words
 
-  -- Each finished store and load acts at one moment inside it on one value: a load answers the latest store, whole, or the value
-  -- of zeros where none has been made.
+  -- Each finished store and load acts at one moment inside it on one value: a load answers the latest store, whole, or
+  -- the value of zeros where none has been made.
   pub record ValueRuns (t : Trace T) : Type 0 where
     pub value : ActAs (as_value t.world.coding) t.events
 
   -- ---- bits and counts are conserved
 
-  -- Each bit was set as often as it was cleared, and once more if it stands. A set that answers true has set its bit once, and a
-  -- reset of the next one has cleared the bit that it answers once.
+  -- Each bit was set as often as it was cleared, and once more if it stands. A set that answers true has set its bit
+  -- once, and a reset of the next one has cleared the bit that it answers once.
   pub record BitsRun (t : Trace T) : Type 0 where
     pub conserved : (b : ℕ) → sets b t.events ≡ clears b t.events + one_if (stands t.world.words b)
     pub set : (p b : ℕ) (before : List (Event T))
@@ -86,8 +86,8 @@ module _ {T : Type 0} where
     pub reset : (p b : ℕ) (before : List (Event T))
         → Follows (Finished p (Bits bits.ResetNext) (Reset b)) before t.events
         → clears b (wrote_in (span_of p before)) ≡ 1
-    -- It has come to that bit from where the reset position stood at a moment of the call. Each place that it passed was clear at
-    -- a moment of the call.
+    -- It has come to that bit from where the reset position stood at a moment of the call. Each place that it passed
+    -- was clear at a moment of the call.
     pub reset_came : (p b : ℕ) (before : List (Event T))
         → Follows (Finished p (Bits bits.ResetNext) (Reset b)) before t.events
         → CameTo p t.world.capacity b before
@@ -101,8 +101,8 @@ module _ {T : Type 0} where
 
   -- ---- unique indices
 
-  -- No index has two holders, and none has one once the set is locked. Who is answered an index of the set has claimed it in
-  -- that call, and holds it until a release of his frees it.
+  -- No index has two holders, and none has one once the set is locked. Who is answered an index of the set has claimed
+  -- it in that call, and holds it until a release of his frees it.
   pub record IndicesRun (t : Trace T) : Type 0 where
     pub no_two_hold : NoTwoHold claims t.events
     pub none_once_locked : NoneOnceLocked claims t.events
@@ -146,8 +146,8 @@ module _ {T : Type 0} where
         → Follows (Finished p (Robust (Recover LockIfLastIndex)) (State Unlocked)) before t.events
         → IsOneOf (Frees index owner) (set_acts_of p before)
         → FilledSinceFreed p owner index before
-    -- The number that a find answers counts indices of the set up to a bound: each that its owner filled during the whole call,
-    -- and none that the owner filled at no moment of it.
+    -- The number that a find answers counts indices of the set up to a bound: each that its owner filled during the
+    -- whole call, and none that the owner filled at no moment of it.
     pub found : (p owner number : ℕ) (before : List (Event T))
         → Follows (Finished p (Robust (Find owner)) (Number number)) before t.events
         → robust.IsFound p owner t.world.capacity number before
@@ -173,8 +173,8 @@ module _ {T : Type 0} where
     pub acquired : (p index owner : ℕ) (value : T) (before : List (Event T))
         → Follows (Finished p (Container (containers.Add value owner)) (Index index)) before t.events
         → (set_acts_of p before ≡ Fills index owner ∷ Grants index owner ∷ []) × (index < t.world.capacity)
-    -- An index that is freed was filled for that owner. A remove for the owner frees it, or a recovery of the owner that was told to
-    -- free it or was shown it empty.
+    -- An index that is freed was filled for that owner. A remove for the owner frees it, or a recovery of the owner
+    -- that was told to free it or was shown it empty.
     pub freed : (p index owner : ℕ) (before : List (Event T))
         → Follows (FreedOf p index owner) before t.events
         → (holders fills index before ≡ owner ∷ []) × GivesBack p index owner before
@@ -204,8 +204,8 @@ module _ {T : Type 0} where
         → Follows (Finished p (Container (containers.Recover owner mode)) (State Unlocked)) before t.events
         → IsOneOf (Yes index owner) (set_acts_of p before) ⊎ IsOneOf (Sees index) (acts_of p before)
         → filled_of index before ≢ Some owner
-    -- Such a recovery has asked about each index that its owner filled during the whole call, or until the call itself freed it,
-    -- or was shown it empty.
+    -- Such a recovery has asked about each index that its owner filled during the whole call, or until the call itself
+    -- freed it, or was shown it empty.
     pub asked_each : (p index owner : ℕ) (mode : ReleaseMode) (before : List (Event T))
         → Follows (Finished p (Container (containers.Recover owner mode)) (State Unlocked)) before t.events
         → HeldThroughout p (StillToFree p owner index) before
@@ -215,15 +215,15 @@ module _ {T : Type 0} where
         → Follows (Finished p (Container (containers.Recover owner LockIfLastIndex)) (State Unlocked)) before t.events
         → IsOneOf (Frees index owner) (set_acts_of p before)
         → FilledSinceFreed p owner index before
-    -- A recovery that comes to an index met the container unlocked at a moment of the call: one that began after the lock comes to
-    -- none.
+    -- A recovery that comes to an index met the container unlocked at a moment of the call: one that began after the
+    -- lock comes to none.
     pub visits : (p owner : ℕ) (mode : ReleaseMode) (e : Event T) (before : List (Event T))
         → IsVisit p e
         → Follows e before t.events
         → call_in (span_of p before) ≡ Some (Container (containers.Recover owner mode))
         → HeldSometime p IsUnlocked before
-    -- The number that a find answers counts indices of the container up to a bound: each that its owner filled during the whole
-    -- call, and none that the owner filled at no moment of it.
+    -- The number that a find answers counts indices of the container up to a bound: each that its owner filled during
+    -- the whole call, and none that the owner filled at no moment of it.
     pub found : (p owner number : ℕ) (before : List (Event T))
         → Follows (Finished p (Container (containers.Find owner)) (Number number)) before t.events
         → container.IsFound p owner t.world.capacity number before
@@ -248,13 +248,14 @@ module _ {T : Type 0} where
     pub dead : has_died_by (receiver_of before) before ≡ true
     pub held : holders loans index before ≡ receiver_of before ∷ []
 
+  -- the calls whose moments act on the list that a loan channel's submission queue is
   abbrev pub is_send_or_receive : Start T → Bool
   is_send_or_receive (Loan (channels.Send index)) = true
   is_send_or_receive (Loan channels.Receive) = true
   is_send_or_receive start = false
 
-  -- What every run of a loan channel keeps. Its sends and receives act as the pushes and pops of one list that overflows, each
-  -- at one moment inside the call.
+  -- What every run of a loan channel keeps. Its sends and receives act as the pushes and pops of one list that
+  -- overflows, each at one moment inside the call.
   pub record ChannelRuns (queue : ℕ) (t : Trace T) : Type 0 where
     -- The submission queue has this capacity.
     pub length : queue_in t.world.kept ≡ Some queue
@@ -289,6 +290,7 @@ module _ {T : Type 0} where
         ≡ map items.Index (taken_back t.events)
         ++ given_back_in t.world.coding t.world.capacity queue t.world.words
 
+  -- what every run of a machine of this kind keeps; a loan channel's submission queue has the capacity `queue`
   abbrev pub Runs : Kind → ℕ → Trace T → Type 0
   Runs kinds.IndexQueue queue t = QueueRuns queues.IndexQueue t
   Runs kinds.Overflow queue t = QueueRuns queues.Overflow t

@@ -20,6 +20,7 @@ pub data Hand : Type 0 where
   Gives : (index : ℕ) → Hand
   Neither : Hand
 
+-- who holds index i after an event, where these did before
 abbrev pub held_after : ℕ → List ℕ → Hand → List ℕ
 held_after i holders (Takes index holder) = if index == i then holder ∷ holders else holders
 held_after i holders (Gives index) = if index == i then [] else holders
@@ -66,7 +67,7 @@ module _ {T : Type 0} where
   abbrev pub NoTwoHold : (Event T → Hand) → List (Event T) → Type 0
   NoTwoHold hand events = Always (λ past. (i : ℕ) → length (holders hand i past) ≤ 1) events
 
-  -- and none once the set is locked
+  -- no index has a holder once the set is locked
   abbrev pub NoneOnceLocked : (Event T → Hand) → List (Event T) → Type 0
   NoneOnceLocked hand events =
       Always (λ past. is_locked past ≡ true → (i : ℕ) → holders hand i past ≡ []) events
@@ -78,9 +79,9 @@ module _ {T : Type 0} where
   IsRelease index (Some (Indices (indices.Release i mode))) = i ≡ index
   IsRelease index call = ⊥
 
-  -- The call, which has done this to the set and that to the elements, may free the index: it is a release or a remove of it
-  -- for this owner, a recovery of a robust set that heard yes of it, or a container's recovery of this owner that heard yes of
-  -- it or saw no value there.
+  -- The call, which has done this to the set and that to the elements, may free the index: it is a release or a remove
+  -- of it for this owner, a recovery of a robust set that heard yes of it, or a container's recovery of this owner that
+  -- heard yes of it or saw no value there.
   abbrev pub MayFree : (index owner : ℕ) → Option (Start T) → List SetAct → List (Act T) → Type 0
   MayFree index owner (Some (Robust (robust.Release i o mode))) all acts = (i ≡ index) × (o ≡ owner)
   MayFree index owner (Some (Robust (robust.Recover mode))) all acts = IsOneOf (Yes index owner) all

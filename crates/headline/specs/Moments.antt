@@ -27,22 +27,25 @@ module _ {T : Type 0} where
 
   -- ---- a call acts at one moment
 
+  -- the act of this party that the event is, if it is one
   abbrev pub act_of : ℕ → Event T → List (Start T × Answer T)
   act_of p (Acted q start answer) = if q == p then (start, answer) ∷ [] else []
   act_of p e = []
 
-  -- The party has begun this call, and since then, and before what comes next, it has acted once: as this call, with this
-  -- answer.
+  -- The party has begun this call, and since then, and before what comes next,
+  -- it has acted once: as this call, with this answer.
   pub record ActedOnce (p : ℕ) (start : Start T) (answer : Answer T) (events : List (Event T))
       : Type 0 where
     pub before : List (Event T)
     pub since : List (Event T)
     pub is : events ≡ before ++ Begun p start ∷ since
+    -- the party has begun no call since
     pub within : BeginsNone p since
+    -- it acted once since, as this call with this answer
     pub once : flat_map (act_of p) since ≡ (start, answer) ∷ []
 
-  -- Since a call began, and before its party begins another one, it acts at most once, and as this call, whether it finishes or
-  -- not.
+  -- Since a call began, and before its party begins another one,
+  -- it acts at most once, and as this call, whether it finishes or not.
   abbrev pub AtMostOnce : List (Event T) → Type 0
   AtMostOnce events =
       (p : ℕ) (start : Start T) (before since after : List (Event T))
@@ -51,13 +54,16 @@ module _ {T : Type 0} where
       → (flat_map (act_of p) since ≡ [])
       ⊎ ((answer : Answer T) × (flat_map (act_of p) since ≡ (start, answer) ∷ []))
 
-  -- The calls are those of one object: each that has finished acted at one moment inside it, and no call acts more than once. In
-  -- the order of these moments the object gives these answers, and the history is linearizable.
+  -- The calls are those of one object: each that has finished acted at one moment inside it, and no call acts more than
+  -- once. In the order of these moments the object gives these answers, and the history is linearizable.
   pub record ActAs {State : Type 0} (spec : Specification T State) (events : List (Event T)) : Type 0 where
+    -- each finished call acted once, between its begin and its end
     pub inside : (p : ℕ) (start : Start T) (answer : Answer T) (before : List (Event T))
         → spec.is_call start ≡ true
         → Follows (Finished p start answer) before events
         → ActedOnce p start answer before
+    -- no call acts more than once
     pub once : AtMostOnce events
+    -- in the order of the moments the object gives these answers
     pub answers : IsLegal spec.object (moments events)
     pub linearizable : IsLinearizable spec events

@@ -17,7 +17,7 @@ module _ {T : Type 0} where
   next_of p (Next q) = if q == p then 1 else 0
   next_of p turn = 0
 
-  -- in how many of the turns the party's call goes on
+  -- the number of turns in which the party's call goes on
   abbrev pub nexts_in : ℕ → List (Turn T) → ℕ
   nexts_in p [] = 0
   nexts_in p (turn ∷ turns) = next_of p turn + nexts_in p turns
@@ -32,6 +32,7 @@ module _ {T : Type 0} where
   begins_of_others p [] = 0
   begins_of_others p (turn ∷ turns) = begin_of_other p turn + begins_of_others p turns
 
+  -- 1 for the end of a call of this party
   abbrev pub own_end : ℕ → Event T → ℕ
   own_end p (Finished q start answer) = if q == p then 1 else 0
   own_end p e = 0
@@ -40,8 +41,8 @@ module _ {T : Type 0} where
   abbrev pub own_ends : ℕ → List (Event T) → ℕ
   own_ends p events = sum_by (own_end p) events
 
--- A party with a call under way, that goes on in more turns than the load of the calls that were under way and of those that
--- others begin, ends it.
+-- A party with a call under way, that goes on in more turns than the load of the calls that were under way and of those
+-- that others begin, ends it.
 abbrev pub EndsByTurns : Type 0 → Kind → Bound → Type 0
 EndsByTurns T kind bound =
     (t : Trace T) → t.world.kind ≡ kind → IsReached t → (p : ℕ) → is_some (flight_in t.world p) ≡ true

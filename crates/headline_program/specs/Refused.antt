@@ -8,5 +8,7 @@ pub record IsSameBefore (text whole : List ℕ) : Type 0 where
   pub before : List ℕ
   pub after : List ℕ
   pub rest : List ℕ
+  -- the text tells that memory was refused to a turn
   pub tells : text ≡ before ++ (refusal_text NoMemory ++ after)
+  -- up to there the texts are the same
   pub same : whole ≡ before ++ rest

@@ -24,7 +24,7 @@ begun_as e = None
 abbrev pub AreBelow : {T : Type 0} → ℕ → List (Event T) → Type 0
 AreBelow n events = AllByRecursion (λ e. IfSome (whose e) (λ p. p < n)) events
 
--- no call begins but such ones
+-- each call that begins in these events is one for which `Such` holds
 abbrev pub BeginSuch : {T : Type 0} → (Start T → Type 0) → List (Event T) → Type 0
 BeginSuch Such events = AllByRecursion (λ e. IfSome (begun_as e) Such) events
 
@@ -34,8 +34,8 @@ abbrev pub steps_between : {T : Type 0} (code : Coding T) (kind : Kind) (capacit
 steps_between code kind capacity old new later =
     steps_in (run_of code kind capacity old.turns) later.first.rest
 
--- Of what a pass knew and what it knows later, where the calls that it has seen are of parties below n: in more steps of
--- the table than the bound says for n parties, a call has ended.
+-- For what a pass knew and what it knows later, where the calls that it has seen are of parties below n: in more steps
+-- of the table than the bound says for n parties, a call has ended.
 abbrev pub PassesEnd : Type 0 → Kind → Bound → Type 0
 PassesEnd T kind bound =
     (code : Coding T) (capacity : ℕ) (old new : View T) → Knows code kind capacity old
@@ -43,7 +43,8 @@ PassesEnd T kind bound =
     → bound n capacity code.size < steps_between code kind capacity old new later
     → ends old.seen < ends new.seen
 
--- It goes on so: where k calls have ended meanwhile, the table has taken at most k + 1 times the bound and k steps.
+-- The same as calls go on ending: where k calls have ended meanwhile,
+-- the table has taken at most k + 1 times the bound and k steps.
 abbrev pub PassesKeepEnding : Type 0 → Kind → Bound → Type 0
 PassesKeepEnding T kind bound =
     (code : Coding T) (capacity : ℕ) (old new : View T) → Knows code kind capacity old
@@ -51,7 +52,7 @@ PassesKeepEnding T kind bound =
     → AreWithinEnds (bound n capacity code.size) (steps_between code kind capacity old new later)
     (ends old.seen) (ends new.seen)
 
--- And of all that a pass knows, from the opening of the table on.
+-- The same of all that a pass knows, from the opening of the table on.
 abbrev pub KnownKeepsEnding : Type 0 → Kind → Bound → Type 0
 KnownKeepsEnding T kind bound =
     (code : Coding T) (capacity : ℕ) (v : View T) → Knows code kind capacity v
@@ -61,6 +62,7 @@ KnownKeepsEnding T kind bound =
 
 -- ---- of passes that have seen no call begin but such ones
 
+-- as `PassesEnd`, of passes that have seen only calls begin for which `Such` holds, and by a bound for these
 abbrev pub PassesEndOf : (T : Type 0) → Kind → (Start T → Type 0) → Bound → Type 0
 PassesEndOf T kind Such bound =
     (code : Coding T) (capacity : ℕ) (old new : View T) → Knows code kind capacity old
@@ -68,6 +70,7 @@ PassesEndOf T kind Such bound =
     → bound n capacity code.size < steps_between code kind capacity old new later
     → ends old.seen < ends new.seen
 
+-- as `PassesKeepEnding`, of passes that have seen only calls begin for which `Such` holds
 abbrev pub PassesKeepEndingOf : (T : Type 0) → Kind → (Start T → Type 0) → Bound → Type 0
 PassesKeepEndingOf T kind Such bound =
     (code : Coding T) (capacity : ℕ) (old new : View T) → Knows code kind capacity old
@@ -75,6 +78,7 @@ PassesKeepEndingOf T kind Such bound =
     → AreWithinEnds (bound n capacity code.size) (steps_between code kind capacity old new later)
     (ends old.seen) (ends new.seen)
 
+-- as `KnownKeepsEnding`, of passes that have seen only calls begin for which `Such` holds
 abbrev pub KnownKeepsEndingOf : (T : Type 0) → Kind → (Start T → Type 0) → Bound → Type 0
 KnownKeepsEndingOf T kind Such bound =
     (code : Coding T) (capacity : ℕ) (v : View T) → Knows code kind capacity v
@@ -84,8 +88,8 @@ KnownKeepsEndingOf T kind Such bound =
 
 -- ---- loads
 
--- All steps that the table has taken between what a pass knew and what it knows are at most the load of the calls that had
--- begun and not ended, and of those that have begun since.
+-- All steps that the table has taken between what a pass knew and what it knows are at most the load of the calls that
+-- had begun and not ended, and of those that have begun since.
 abbrev pub PassesEndLoad : Type 0 → Kind → Bound → Type 0
 PassesEndLoad T kind bound =
     (code : Coding T) (capacity : ℕ) (old new : View T) → Knows code kind capacity old
@@ -93,21 +97,22 @@ PassesEndLoad T kind bound =
     → steps_between code kind capacity old new later
     ≤ load (bound n capacity code.size) (begun new.seen - ends old.seen)
 
--- And all that a pass knows of, from the opening of the table on, are at most the load of the calls that have begun.
+-- All steps that a pass knows of, from the opening of the table on, are at most the load of the calls that have begun.
 abbrev pub KnownEndsLoad : Type 0 → Kind → Bound → Type 0
 KnownEndsLoad T kind bound =
     (code : Coding T) (capacity : ℕ) (v : View T) → Knows code kind capacity v
     → (n : ℕ) → AreBelow n v.seen
     → steps_in (opening code kind capacity 0) v.turns ≤ load (bound n capacity code.size) (begun v.seen)
 
--- And so are all operations that a pass has asked for, but those that were aside: splits, joins, looks.
+-- All operations that a pass has asked for are at most that load too,
+-- but for those that were aside: splits, joins, looks.
 abbrev pub KnownAsksLoad : Type 0 → Kind → Bound → Type 0
 KnownAsksLoad T kind bound =
     (code : Coding T) (capacity : ℕ) (v : View T) → Knows code kind capacity v
     → (n : ℕ) → AreBelow n v.seen
     → v.asked ≤ v.aside + load (bound n capacity code.size) (begun v.seen)
 
--- The same of passes that have seen no call begin but such ones.
+-- as `PassesEndLoad`, of passes that have seen only calls begin for which `Such` holds
 abbrev pub PassesEndLoadOf : (T : Type 0) → Kind → (Start T → Type 0) → Bound → Type 0
 PassesEndLoadOf T kind Such bound =
     (code : Coding T) (capacity : ℕ) (old new : View T) → Knows code kind capacity old
@@ -115,20 +120,22 @@ PassesEndLoadOf T kind Such bound =
     → steps_between code kind capacity old new later
     ≤ load (bound n capacity code.size) (begun new.seen - ends old.seen)
 
+-- as `KnownEndsLoad`, of passes that have seen only calls begin for which `Such` holds
 abbrev pub KnownEndsLoadOf : (T : Type 0) → Kind → (Start T → Type 0) → Bound → Type 0
 KnownEndsLoadOf T kind Such bound =
     (code : Coding T) (capacity : ℕ) (v : View T) → Knows code kind capacity v
     → (n : ℕ) → AreBelow n v.seen → BeginSuch Such v.seen
     → steps_in (opening code kind capacity 0) v.turns ≤ load (bound n capacity code.size) (begun v.seen)
 
+-- as `KnownAsksLoad`, of passes that have seen only calls begin for which `Such` holds
 abbrev pub KnownAsksLoadOf : (T : Type 0) → Kind → (Start T → Type 0) → Bound → Type 0
 KnownAsksLoadOf T kind Such bound =
     (code : Coding T) (capacity : ℕ) (v : View T) → Knows code kind capacity v
     → (n : ℕ) → AreBelow n v.seen → BeginSuch Such v.seen
     → v.asked ≤ v.aside + load (bound n capacity code.size) (begun v.seen)
 
--- Cut what the table has done in between into more rounds than that load: a party that takes a step in each, unless it has no
--- call under way as the round begins, has none as one of them begins.
+-- Cut what the table has done in between into more rounds than that load. A party that takes a step in each round,
+-- unless it has no call under way as the round begins, has none as one of them begins.
 abbrev pub PassesRest : Type 0 → Kind → Bound → Type 0
 PassesRest T kind bound =
     (code : Coding T) (capacity : ℕ) (old new : View T) → Knows code kind capacity old
@@ -138,6 +145,7 @@ PassesRest T kind bound =
     → load (bound n capacity code.size) (begun new.seen - ends old.seen) < length rounds
     → RestsInOne p (run_of code kind capacity old.turns) rounds
 
+-- as `PassesRest`, of passes that have seen only calls begin for which `Such` holds
 abbrev pub PassesRestOf : (T : Type 0) → Kind → (Start T → Type 0) → Bound → Type 0
 PassesRestOf T kind Such bound =
     (code : Coding T) (capacity : ℕ) (old new : View T) → Knows code kind capacity old

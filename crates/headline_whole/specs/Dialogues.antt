@@ -36,6 +36,8 @@ pub record Reply (T : Type 0) : Type 0 where
   pub questions : List (Question T)
   pub answer : Answer T
 
+-- A sequential object: its first state, and for each call,
+-- with what its questions are told, the next state and the reply.
 pub record Dialogue (T State : Type 0) : Type 0 where
   pub opening : State
   pub after : State → Request T → State
@@ -82,6 +84,7 @@ module _ {T : Type 0} where
   value_shown code (flights.Container (Recover run)) = Some (read_in code run.room)
   value_shown code flight = None
 
+  -- what a call that waits so is told: its question, with the value that it shows, and the decision; else nothing
   abbrev pub decided_at : Option T → Want (Unit {0}) → Bool → List (Decision T)
   decided_at value (wants.Question question) said =
       record { question = showing value question; yes = said } ∷ []
@@ -92,6 +95,7 @@ module _ {T : Type 0} where
   decided code None said = []
   decided code (Some flight) said = decided_at (value_shown code flight) (want_of code flight) said
 
+  -- what the call under way was told since it began, after a turn that is not refused
   abbrev pub told_after : World T → Turn T → List (Decision T) → List (Decision T)
   told_after w (Begin p start) told = []
   told_after w (Next p) told = told
@@ -102,9 +106,11 @@ module _ {T : Type 0} where
   abbrev pub as_request : ℕ → Start T → List (Decision T) → Request T
   as_request p start told = record { party = p; start = start; decisions = map (λ d. d.yes) told }
 
+  -- a call's reply: the questions that it put while it was told these decisions, and its answer
   abbrev pub as_reply : List (Decision T) → Answer T → Reply T
   as_reply told answer = record { questions = map (λ d. d.question) told; answer = answer }
 
+  -- the call that an event finishes, if it finishes one, with what it was told
   abbrev pub finished_in : List (Decision T) → Event T → List (Request T × Reply T)
   finished_in told (Finished p start answer) =
       (as_request p start told, as_reply told answer) ∷ []
@@ -119,6 +125,7 @@ module _ {T : Type 0} where
             ++ flat_map (finished_in (told_after w turn story.told)) (events_of w turn);
       }
 
+  -- a refused turn leaves the story as it was
   abbrev pub unless_refused : (old new : Story T) → Option Refusal → Story T
   unless_refused old new None = new
   unless_refused old new (Some refusal) = old
@@ -143,6 +150,7 @@ module _ {T : Type 0} where
 
   -- ---- the ends of calls
 
+  -- whether a call ends with the event
   abbrev pub is_end : Event T → Bool
   is_end (Finished p start answer) = true
   is_end e = false

@@ -1,5 +1,5 @@
--- What the main theorem says of each kind: who holds an index, who has to give it back right, what a recovery is, and as which
--- object calls answer that run whole.
+-- What the main theorem says of each kind: who holds an index, who has to give it back right, what a recovery is, and
+-- as which object calls answer that run whole.
 use Rattle.std.specs.Prelude.{List}
 use Rattle.model.specs.declared.event.Event.{Event}
 use Rattle.model.specs.declared.event.Start.{Start}
@@ -40,6 +40,7 @@ module _ {T : Type 0} where
   IsWellFormedFor kinds.Container events = IsWellFormed events
   IsWellFormedFor kind events = Unit {0}
 
+  -- the call is a recovery, which a robust set and a container have
   abbrev pub IsRecovery : Kind → Start T → Type 0
   IsRecovery kinds.Robust (starts.Robust (robust.Recover mode)) = Unit {0}
   IsRecovery kinds.Container (starts.Container (containers.Recover owner mode)) = Unit {0}

@@ -1,5 +1,5 @@
--- The objects as which calls answer that run whole: lists, sets of places, counts, a stack of free indices, and maps from index
--- to owner and value.
+-- The objects as which calls answer that run whole: lists, sets of places, counts, a stack of free indices, and maps
+-- from index to owner and value.
 use Rattle.std.specs.Prelude.{ℕ, ◌==◌, Bool, true, false, not, Option, Some, None, is_some, Result, Ok, Err, List, [], ◌∷◌}
 use Rattle.std.specs.Prelude.{if◌then◌else◌, length, map, slice_get, slice_index, slice_index_or}
 use Rattle.std.specs.List.{count_by}
@@ -59,7 +59,7 @@ visited [] decisions = []
 visited (index ∷ indices) (true ∷ decisions) = index ∷ visited indices decisions
 visited (index ∷ indices) decisions = index ∷ []
 
--- those about which a recovery was told yes
+-- the indices about which a recovery was told yes, with their owners
 abbrev pub agreed : List Owned → List Bool → List Owned
 agreed (o ∷ owned) (true ∷ decisions) = o ∷ agreed owned decisions
 agreed (o ∷ owned) (false ∷ decisions) = agreed owned decisions
@@ -72,6 +72,7 @@ owners_freed s mode decisions = owners.recovered mode s (agreed (owners.to_recov
 module _ {T : Type 0} where
   -- ---- lists: the bounded one and the overflowing one, which also say how many values they have, and the bounded one its oldest
 
+  -- the calls of a queue but those on its roles
   abbrev pub is_list_call : Start T → Bool
   is_list_call (Queues (PushIndex index)) = true
   is_list_call (Queues (Push value)) = true
@@ -82,6 +83,7 @@ module _ {T : Type 0} where
   is_list_call (Queues IsFull) = true
   is_list_call start = false
 
+  -- what a call answers on a list: a peek and the calls on lengths as here, a push and a pop as `list_of` says
   abbrev pub whole_list_answer : QueueKind → ℕ → List (Item T) → Start T → Answer T
   whole_list_answer kind capacity items (Queues Peek) = answer_of_item (slice_get items 0)
   whole_list_answer kind capacity items (Queues Len) = Number (length items)
@@ -89,6 +91,7 @@ module _ {T : Type 0} where
   whole_list_answer kind capacity items (Queues IsFull) = Truth (length items == capacity)
   whole_list_answer kind capacity items start = (list_of kind capacity).answer items start
 
+  -- a queue as an object, for runs in which each call runs whole
   abbrev pub whole_list : QueueKind → ℕ → Specification T (List (Item T))
   whole_list kind capacity =
       record {
@@ -104,22 +107,26 @@ module _ {T : Type 0} where
   -- ---- a set of places, and counts of places
   -- (a reset of all answers `Done`: what its closure hears is in no answer)
 
+  -- the calls of a bit set, and of a counting bit set
   abbrev pub is_places_call : Start T → Bool
   is_places_call (Bits start) = true
   is_places_call start = false
 
+  -- the set of places after a call of a bit set
   abbrev pub places_after : Places → Start T → Places
   places_after s (Bits (bits.Set place)) = places.with_place s place
   places_after s (Bits bits.ResetNext) = places.after_next s
   places_after s (Bits bits.ResetAll) = places.emptied s
   places_after s start = s
 
+  -- what a call of a bit set answers
   abbrev pub places_answer : Places → Start T → Answer T
   places_answer s (Bits (bits.Set place)) = Truth (not (places.has s place))
   places_answer s (Bits bits.ResetNext) = reset_answer (places.next_place s)
   places_answer s (Bits (bits.IsSet place)) = Truth (places.has s place)
   places_answer s start = Done
 
+  -- a bit set as an object, for runs in which each call runs whole
   abbrev pub whole_places : ℕ → Specification T Places
   whole_places capacity =
       record {
@@ -128,16 +135,19 @@ module _ {T : Type 0} where
             record { opening = places.unset capacity; after = places_after; answer = places_answer };
       }
 
+  -- the counts after a call of a counting bit set
   abbrev pub counts_after : ℕ → List ℕ → Start T → List ℕ
   counts_after capacity s (Bits (bits.Set place)) = counts.counted s place
   counts_after capacity s (Bits bits.ResetAll) = counts.uncounted capacity
   counts_after capacity s start = s
 
+  -- what a call of a counting bit set answers: of a set the number before it
   abbrev pub counts_answer : List ℕ → Start T → Answer T
   counts_answer s (Bits (bits.Set place)) = Number (slice_index s place)
   counts_answer s (Bits (bits.Count place)) = Number (slice_index s place)
   counts_answer s start = Done
 
+  -- a counting bit set as an object, for runs in which each call runs whole
   abbrev pub whole_counts : ℕ → Specification T (List ℕ)
   whole_counts capacity =
       record {
@@ -148,16 +158,19 @@ module _ {T : Type 0} where
 
   -- ---- a stack of free indices: an acquire takes the top, and a release puts an index there
 
+  -- the calls of a unique index set
   abbrev pub is_stack_call : Start T → Bool
   is_stack_call (Indices start) = true
   is_stack_call start = false
 
+  -- the stack of free indices after a call of a unique index set
   abbrev pub stack_after : Stack → Start T → Stack
   stack_after s (Indices Acquire) = stacks.after_acquire s
   stack_after s (Indices (Release index Default)) = stacks.released s index
   stack_after s (Indices (Release index LockIfLastIndex)) = stacks.released_or_locked s index
   stack_after s start = s
 
+  -- what a call of a unique index set answers
   abbrev pub stack_answer : Stack → Start T → Answer T
   stack_answer s (Indices Acquire) = acquire_answer (stacks.acquired s)
   stack_answer s (Indices (Release index Default)) = State Unlocked
@@ -166,6 +179,7 @@ module _ {T : Type 0} where
   stack_answer s (Indices IsLocked) = Truth s.locked
   stack_answer s start = Done
 
+  -- a unique index set as an object, for runs in which each call runs whole
   abbrev pub whole_stack : ℕ → Specification T Stack
   whole_stack capacity =
       record {
@@ -176,6 +190,7 @@ module _ {T : Type 0} where
 
   -- ---- a map from index to owner: an acquire takes the lowest index that has none
 
+  -- the map from index to owner after a call of a robust set whose questions were decided so
   abbrev pub owners_after : Owners → Start T → List Bool → Owners
   owners_after s (Robust (robust.Acquire owner)) decisions = owners.after_acquire s owner
   owners_after s (Robust (robust.Release index owner mode)) decisions =
@@ -184,6 +199,7 @@ module _ {T : Type 0} where
   owners_after s (Robust robust.BorrowedIndices) decisions = owners.raised s
   owners_after s start decisions = s
 
+  -- the questions that a call of a robust set puts while it is told these decisions
   abbrev pub owners_questions : Owners → Start T → List Bool → List (Question T)
   owners_questions s (Robust (robust.Find owner)) decisions =
       map (λ index. questions.Index index) (visited (owners.indices_of s owner) decisions)
@@ -191,6 +207,7 @@ module _ {T : Type 0} where
       map (λ (o : Owned). questions.Owned o.owner o.index) (owners.to_recover s)
   owners_questions s start decisions = []
 
+  -- what a call of a robust set answers after these decisions
   abbrev pub owners_answer : Owners → Start T → List Bool → Answer T
   owners_answer s (Robust (robust.Acquire owner)) decisions = acquire_answer (owners.acquired s)
   owners_answer s (Robust (robust.Release index owner mode)) decisions =
@@ -203,6 +220,7 @@ module _ {T : Type 0} where
   owners_answer s (Robust robust.IsLocked) decisions = Truth (owners.is_locked s)
   owners_answer s start decisions = Done
 
+  -- a robust set as an object, for runs in which each call runs whole
   abbrev pub whole_owners : ℕ → Dialogue T Owners
   whole_owners capacity =
       record {
@@ -225,6 +243,7 @@ module _ {T : Type 0} where
   map_freed s owner mode decisions =
       visits.one_change (visits.all_freed mode s (agreed (visits.to_ask s owner) decisions))
 
+  -- the contents of a container after a call whose questions were decided so
   abbrev pub map_after : ℕ → Contents T → Start T → List Bool → Contents T
   map_after capacity s (Container (containers.Add value owner)) decisions =
       contents.after_add s owner value
@@ -238,6 +257,7 @@ module _ {T : Type 0} where
   map_after capacity s (Container containers.IsEmpty) decisions = contents.counted s
   map_after capacity s start decisions = s
 
+  -- the questions that a call of a container puts while it is told these decisions
   abbrev pub map_questions : Contents T → Start T → List Bool → List (Question T)
   map_questions s (Container (containers.Find owner)) decisions =
       map (about s) (visited (owners.indices_of s.owners owner) decisions)
@@ -245,6 +265,7 @@ module _ {T : Type 0} where
       map (λ (o : Owned). about s o.index) (visits.to_ask s owner)
   map_questions s start decisions = []
 
+  -- what an add of the container answers, by what it has ended with
   abbrev pub add_answer : Result ContainerHandle ContainerAddFailure → Answer T
   add_answer (Ok handle) = Index handle.index
   add_answer (Err failure) = NoPlace failure
@@ -261,6 +282,7 @@ module _ {T : Type 0} where
   view_after s (Container containers.UpdateState) view = Some (states.updated s (view_of s view))
   view_after s start view = view
 
+  -- how many values a snapshot shows
   abbrev pub number_shown : Snapshot T → ℕ
   number_shown view = count_by is_some view.values
 
@@ -285,7 +307,7 @@ module _ {T : Type 0} where
   map_answer capacity s view (Container containers.IsLocked) decisions = Truth (contents.is_locked s)
   map_answer capacity s view start decisions = Done
 
-  -- no party has a state yet
+  -- a container as an object, for runs in which each call runs whole; at its opening no party has a state
   abbrev pub whole_map : ℕ → Dialogue T (Viewed T)
   whole_map capacity =
       record {

@@ -24,6 +24,7 @@ module _ {T : Type 0} where
   answer_in is_call (Finished p start answer) = if is_call start then (start, answer) ∷ [] else []
   answer_in is_call e = []
 
+  -- the calls of this kind that have finished, with their answers, in order
   abbrev pub answered : (Start T → Bool) → List (Event T) → List (Start T × Answer T)
   answered is_call events = flat_map (answer_in is_call) events
 

@@ -13,8 +13,8 @@ use Rattle.model.specs.declared.turn.Kind.{Kind}
 use Rattle.model.specs.declared.turn.Kind.TheVariants as kinds
 use Rattle.model.specs.Families.Bits.Reading.{counts}
 
--- What stands in a history to which the silent acts are added: an event, or that a call of this party has acted
--- on this place and left it as it found it.
+-- What stands in a history to which the silent acts are added: an event, or that a call of this party has acted on this
+-- place and left it as it found it.
 pub data Mark (T : Type 0) : Type 0 where
   Happens : (e : Event T) → Mark T
   Leaves : (party place : ℕ) → Mark T
@@ -45,7 +45,7 @@ module _ {T : Type 0} where
 
   -- ---- marks
 
-  -- the history alone
+  -- the history without the silent acts
   abbrev pub told : List (Mark T) → List (Event T)
   told [] = []
   told (Happens e ∷ ms) = e ∷ told ms
@@ -67,8 +67,8 @@ module _ {T : Type 0} where
   number_after b n (TakenOut q c m) = if c == b then 0 else n
   number_after b n e = n
 
-  -- what the event tells of the number that it found: a flag is set where it was clear and cleared where it
-  -- stood, and what is taken out of a count is all of it, and something
+  -- what the event tells of the number that it found: a flag is set where it was clear and cleared where it stood, and
+  -- what is taken out of a count is all of it, and something
   abbrev pub Tells : ℕ → Event T → Type 0
   Tells n (events.Set q c) = n ≡ 0
   Tells n (Cleared q c) = n ≡ 1
@@ -92,8 +92,8 @@ module _ {T : Type 0} where
   Acts kind b n left (Some (start, Some found)) = ⊥
   Acts kind b n left (Some (start, None)) = MayAct b start × (left ≡ left_by kind start n)
 
-  -- What a call that ends has found at the place. A set: what it answers, at its place. A reset of the next place: 1
-  -- at the place that it answers, and it acted on no other; where it answers none, 0 at each place. A reset of all:
+  -- What a call that ends has found at the place. A set: what it answers, at its place. A reset of the next place: 1 at
+  -- the place that it answers, and it acted on no other; where it answers none, 0 at each place. A reset of all:
   -- whatever it found at each place of which it is sure. A look: what it answers, at its place.
   abbrev pub Answers : ℕ → Type 0 → ℕ → Start T → Answer T → Option ℕ → Type 0
   Answers capacity Sure b (Bits (Set place)) (Truth answer) found =
@@ -110,6 +110,8 @@ module _ {T : Type 0} where
       place ≡ b → Found (λ n. number ≡ n) found
   Answers capacity Sure b start answer found = ⊥
 
+  -- How a call that ends has found the place:
+  -- it is the call that the party began, and what it found there fits its answer.
   abbrev pub Ends : ℕ → Type 0 → ℕ → Start T → Answer T → Way T → Type 0
   Ends capacity Sure b start answer None = ⊥
   Ends capacity Sure b start answer (Some call) =
@@ -117,15 +119,20 @@ module _ {T : Type 0} where
 
   -- ---- the marks, one after another
 
+  -- the call under way has found this number at the place
   abbrev pub found_now : ℕ → Way T → Way T
   found_now n None = None
   found_now n (Some call) = Some (call.0, Some n)
 
+  -- What the party's call has found at the place, after an event:
+  -- a begin opens the call, an act of the party there finds the number.
   abbrev pub way_after : ℕ → ℕ → ℕ → Way T → Event T → Way T
   way_after p b n way (Begun q start) = if q == p then Some (start, None) else way
   way_after p b n way (Finished q start answer) = if q == p then None else way
   way_after p b n way e = if does p b e then found_now n way else way
 
+  -- Whether an event of the party is right at the place where it has this number: it begins one call at a time, ends
+  -- with an answer that fits what it found, and acts there at most once.
   abbrev pub IsRightEvent : Kind → ℕ → Type 0 → ℕ → ℕ → ℕ → Way T → Event T → Type 0
   IsRightEvent kind capacity Sure p b n way (Begun q start) = q ≡ p → way ≡ None
   IsRightEvent kind capacity Sure p b n way (Finished q start answer) =
@@ -133,7 +140,7 @@ module _ {T : Type 0} where
   IsRightEvent kind capacity Sure p b n way e =
       does p b e ≡ true → Tells n e × Acts kind b n (number_after b n e) way
 
-  -- from here on, where the place has this number
+  -- the marks are right from here on, where the place has this number and the party's call has come so far
   abbrev pub IsRight : Kind → ℕ → Type 0 → ℕ → ℕ → ℕ → Way T → List (Mark T) → Type 0
   IsRight kind capacity Sure p b n way [] = Unit {0}
   IsRight kind capacity Sure p b n way (Happens e ∷ ms) =
@@ -143,15 +150,15 @@ module _ {T : Type 0} where
       ((q == p && c == b) ≡ true → Acts kind b n n way)
       × IsRight kind capacity Sure p b n (if q == p && c == b then found_now n way else way) ms
 
--- The silent acts can be put between the events of the history, so that for each party and each place all is right: each
--- call acts on single places, on each at most once, between its begin and its end, and in the order of these acts
+-- The silent acts can be put between the events of the history, so that for each party and each place all is right:
+-- each call acts on single places, on each at most once, between its begin and its end, and in the order of these acts
 -- it has found what it answers. A reset of all counts may pass over a place that was counted 2^64 times.
 pub record ActsByPlace {T : Type 0} (kind : Kind) (capacity : ℕ) (history : List (Event T)) : Type 0 where
   pub marks : List (Mark T)
   pub is : told marks ≡ history
   pub right : (p b : ℕ) → IsRight kind capacity (counts b history < 2 ^ 64) p b 0 None marks
 
--- the kinds of which this is said
+-- the kinds of which this is said: bit sets and counting bit sets
 abbrev pub IsSet : Kind → Type 0
 IsSet kinds.Bits = Unit {0}
 IsSet kinds.Counts = Unit {0}

@@ -37,14 +37,16 @@ use Rattle.history.specs.Stages.{Calling}
 -- ---- what a call does to the element at an index
 
 module _ {T : Type 0} where
+  -- the event, if it came
   abbrev pub when : Bool → Event T → List (Event T)
   when did e = if did then e ∷ [] else []
 
-  -- it has hidden what stood there, or found nothing to hide
+  -- after these first events the call has hidden what stood at the index, or found nothing to hide
   abbrev pub HasCleared : (p index : ℕ) → List (Event T) → List (Event T) → Type 0
   HasCleared p index before es = (hid : Bool) × (es ≡ before ++ when hid (Hidden p index))
 
-  -- and has placed its value, unless something stood there by then
+  -- After these first events it has hidden what still showed at the index,
+  -- and placed its value, unless something stood there by then.
   abbrev pub HasPut : (p index : ℕ) → T → List (Event T) → List (Event T) → Type 0
   HasPut p index value before es =
       (hid : Bool) × (put : Bool)
@@ -52,7 +54,7 @@ module _ {T : Type 0} where
 
 -- ---- add
 
--- where it stands on a container of this capacity, whose values have so many words
+-- where an add stands: its index is one of the container, and a word that it stores is one of the value's
 abbrev pub AddIn : (size capacity : ℕ) → AddStage → Type 0
 AddIn size capacity (adds.Acquires stage) = AcquireIn capacity stage
 AddIn size capacity (adds.LoadsCount index) = index < capacity
@@ -62,10 +64,11 @@ AddIn size capacity (adds.AddsCount index) = index < capacity
 AddIn size capacity (adds.AddsChange index) = index < capacity
 
 module _ {T : Type 0} where
+  -- what an add has written that has acquired the index
   abbrev pub taken : (p index owner : ℕ) → List (Event T)
   taken p index owner = Filled p index owner ∷ Granted p index owner ∷ []
 
-  -- what it has written at this stage
+  -- which events an add has written, at each stage, since its begin
   abbrev pub AddedAt : ℕ → Owned T → AddStage → List (Event T) → Type 0
   AddedAt p given (adds.Acquires stage) es = es ≡ filled_at p given.owner stage
   AddedAt p given (adds.LoadsCount index) es = es ≡ taken p index given.owner
@@ -77,7 +80,8 @@ module _ {T : Type 0} where
   AddedAt p given (adds.AddsChange index) es =
       HasPut p index given.value (taken p index given.owner) es
 
-  -- and in all: one that met the lock may have filled an index, which keeps its owner
+  -- What an add with this answer has written in all:
+  -- one that met the lock may have filled an index, which keeps its owner.
   abbrev pub HasAdded : (capacity p : ℕ) → Owned T → Added → List (Event T) → Type 0
   HasAdded capacity p given (Ok index) es =
       (index < capacity) × HasPut p index given.value (taken p index given.owner) es
@@ -85,6 +89,8 @@ module _ {T : Type 0} where
       (es ≡ []) ⊎ ((index : ℕ) × (index < capacity) × (es ≡ Filled p index given.owner ∷ []))
   HasAdded capacity p given (Err failures.OutOfSpace) es = es ≡ []
 
+  -- An add of a value of `size` words for an owner, by the party that the pass has been, if it has been one. It ends
+  -- with the index or why there is none, and writes what each stage has done.
   abbrev pub adds_value : ℕ → Owned T → Calling T (Adding T) (Unit {0}) Added
   adds_value size given =
       record {
@@ -95,15 +101,17 @@ module _ {T : Type 0} where
             flights.Container
             (calls.Add (record { call = c; given = given; room = m }));
         answer = λ e m. added e;
+        -- no word that it loads ends it outside the history
         skips = λ c n. false;
         left = λ e. ⊥;
+        -- what was written is known only where the pass has seen the call begin
         wrote = λ capacity p from c m es. from ≡ None → AddedAt p given c.stage es;
         wrote_all = λ capacity p from e m es. from ≡ None → HasAdded capacity p given e es;
       }
 
 -- ---- remove
 
--- of an index of the container
+-- where a remove stands: it does not refuse, and its release is of an index of the container
 abbrev pub RemoveIn : ℕ → ReleaseMode → RemoveStage → Type 0
 RemoveIn capacity mode removes.Refuses = ⊥
 RemoveIn capacity mode removes.LoadsCount = Unit {0}
@@ -112,12 +120,13 @@ RemoveIn capacity mode (removes.Hides count state) = Unit {0}
 RemoveIn capacity mode (removes.AddsChange state) = Unit {0}
 
 module _ {T : Type 0} where
-  -- it has released the index, and hidden what stood there, or found nothing to hide
+  -- the remove has released the index, and hidden what stood there, or found nothing to hide
   abbrev pub HasRemovedIt : ℕ → GiveBack → ReleaseState → List (Event T) → Type 0
   HasRemovedIt p given state es =
       (before : List (Event T)) × ReleaseWrote p given (Ok state) before
       × HasCleared p given.index before es
 
+  -- which events a remove has written, at each stage, since its begin
   abbrev pub RemovedAt : ℕ → GiveBack → RemoveStage → List (Event T) → Type 0
   RemovedAt p given removes.Refuses es = es ≡ []
   RemovedAt p given removes.LoadsCount es = es ≡ []
@@ -125,11 +134,13 @@ module _ {T : Type 0} where
   RemovedAt p given (removes.Hides count state) es = ReleaseWrote p given (Ok state) es
   RemovedAt p given (removes.AddsChange state) es = HasRemovedIt p given state es
 
-  -- and in all: nothing where another owner had the index, or none
+  -- what a remove with this answer has written in all: nothing where another owner had the index, or none
   abbrev pub HasRemoved : ℕ → GiveBack → Removed → List (Event T) → Type 0
   HasRemoved p given (Ok state) es = HasRemovedIt p given state es
   HasRemoved p given (Err failure) es = es ≡ []
 
+  -- A remove of the value at an index for its owner, by the party that the pass has been, if it has been one. It ends
+  -- with the state of the container or why nothing was removed.
   abbrev pub removes_value : GiveBack → Calling T Removing (Unit {0}) Removed
   removes_value given =
       record {
@@ -141,14 +152,17 @@ module _ {T : Type 0} where
             flights.Container
             (calls.Remove (record { call = c; given = given; room = m }));
         answer = λ e m. removed e;
+        -- no word that it loads ends it outside the history
         skips = λ c n. false;
         left = λ e. ⊥;
+        -- what was written is known only where the pass has seen the call begin
         wrote = λ capacity p from c m es. from ≡ None → RemovedAt p given c.stage es;
         wrote_all = λ capacity p from e m es. from ≡ None → HasRemoved p given e es;
       }
 
 -- ---- replace
 
+-- where a replace stands: it does not refuse, and a word that it stores is one of the value's
 abbrev pub ReplaceIn : ℕ → ReplaceStage → Type 0
 ReplaceIn size replaces.Refuses = ⊥
 ReplaceIn size replaces.LoadsCell = Unit {0}
@@ -159,6 +173,7 @@ ReplaceIn size replaces.AddsCount = Unit {0}
 ReplaceIn size replaces.AddsChange = Unit {0}
 
 module _ {T : Type 0} where
+  -- which events a replace has written, at each stage, since its begin
   abbrev pub ReplacedAt : ℕ → Replacement T → ReplaceStage → List (Event T) → Type 0
   ReplacedAt p given replaces.Refuses es = es ≡ []
   ReplacedAt p given replaces.LoadsCell es = es ≡ []
@@ -168,11 +183,13 @@ module _ {T : Type 0} where
   ReplacedAt p given replaces.AddsCount es = HasCleared p given.index [] es
   ReplacedAt p given replaces.AddsChange es = HasPut p given.index given.value [] es
 
-  -- and in all: nothing where another owner had the index, or none
+  -- what a replace with this answer has written in all: nothing where another owner had the index, or none
   abbrev pub HasReplaced : ℕ → Replacement T → Replaced → List (Event T) → Type 0
   HasReplaced p given (Ok done) es = HasPut p given.index given.value [] es
   HasReplaced p given (Err failure) es = es ≡ []
 
+  -- A replace of the value at an index by another of `size` words for its owner, by the party that the pass has been,
+  -- if it has been one. It ends with whether it replaced it or why not.
   abbrev pub replaces_value : ℕ → Replacement T → Calling T (Replacing T) (Unit {0}) Replaced
   replaces_value size given =
       record {
@@ -184,8 +201,10 @@ module _ {T : Type 0} where
             flights.Container
             (calls.Replace (record { call = c; given = given; room = m }));
         answer = λ e m. replaced e;
+        -- no word that it loads ends it outside the history
         skips = λ c n. false;
         left = λ e. ⊥;
+        -- what was written is known only where the pass has seen the call begin
         wrote = λ capacity p from c m es. from ≡ None → ReplacedAt p given c.stage es;
         wrote_all = λ capacity p from e m es. from ≡ None → HasReplaced p given e es;
       }
@@ -193,11 +212,13 @@ module _ {T : Type 0} where
 -- ---- looks
 
 module _ {T : Type 0} where
+  -- the model's call that tells the length, or whether it is 0
   abbrev pub count_start : CountOf → ContainerStart T
   count_start counts.Len = Len
   count_start counts.IsEmpty = IsEmpty
 
-  -- how many indices are filled, or whether none is
+  -- A call that counts the filled indices. It ends with their number, or whether that is 0, and writes nothing between
+  -- its begin and its end.
   abbrev pub counts_values : CountOf → Calling T Counting (Unit {0}) ℕ
   counts_values which =
       record {
@@ -208,12 +229,15 @@ module _ {T : Type 0} where
             flights.Container
             (calls.Count which (record { call = c; given = tt; room = m }));
         answer = λ n m. counted which n;
+        -- no word that it loads ends it outside the history
         skips = λ c n. false;
         left = λ e. ⊥;
+        -- under way it has written nothing yet
         wrote = λ capacity p from c m es. es ≡ [];
         wrote_all = λ capacity p from n m es. es ≡ [];
       }
 
+  -- A call that tells whether the container is locked. It writes nothing between its begin and its end.
   abbrev pub sees_lock : Calling T Looking (Unit {0}) Bool
   sees_lock =
       record {
@@ -224,8 +248,10 @@ module _ {T : Type 0} where
             flights.Container
             (calls.IsLocked (record { call = c; given = tt; room = m }));
         answer = λ b m. Truth b;
+        -- no word that it loads ends it outside the history
         skips = λ c n. false;
         left = λ e. ⊥;
+        -- under way it has written nothing yet
         wrote = λ capacity p from c m es. es ≡ [];
         wrote_all = λ capacity p from b m es. es ≡ [];
       }

@@ -16,7 +16,7 @@ use Rattle.history.specs.Rooms.{room_of}
 use Rattle.history.specs.Stages.{Calling}
 use Rattle.history.specs.Value.{value_of_room}
 
--- where it stands on a container of this capacity, whose values have so many words
+-- where a find stands: its index is one of the container, and a word that it loads is one of the value's
 abbrev pub FindIn : (size capacity : ℕ) → FindStage → Type 0
 FindIn size capacity (finds.LoadsCell index found) = index < capacity
 FindIn size capacity (finds.LoadsCount index found) = index < capacity
@@ -27,7 +27,7 @@ FindIn size capacity (finds.Asks index found) = index < capacity
 -- ---- what it has copied: values at indices
 
 module _ {T : Type 0} where
-  -- of so many indices from this one on it has copied some, each once, ascending
+  -- of so many indices from this one on the find has copied some, each once, ascending
   abbrev pub HasCopied : ℕ → ℕ → ℕ → List (Event T) → Type 0
   HasCopied p from zero es = es ≡ []
   HasCopied p from (suc number) es =
@@ -35,10 +35,12 @@ module _ {T : Type 0} where
       ⊎ ((before : List (Event T)) × (value : T) × HasCopied p from number before
       × (es ≡ before ++ Copied p (from + number) value ∷ []))
 
+  -- the events by which a party's find tells these copies
   abbrev pub copies_of : ℕ → List (ℕ × T) → List (Event T)
   copies_of p copies = map (λ (c : ℕ × T). Copied p c.0 c.1) copies
 
-  -- after a step at this stage, with this value in its room: one more where the number is the same still
+  -- The copies after a step at this stage:
+  -- one more where the element's number is the same still, of the value in the room.
   abbrev pub copies_after : FindStage → ℕ → T → List (ℕ × T) → List (ℕ × T)
   copies_after (finds.ChecksCount index found count) old value copies =
       if old == count then copies ++ (index, value) ∷ [] else copies
@@ -47,14 +49,18 @@ module _ {T : Type 0} where
   copies_after (finds.LoadsWord index found count at) old value copies = copies
   copies_after (finds.Asks index found) old value copies = copies
 
--- beside its room, which the program has, it keeps what it has copied, for the proofs alone
+-- Beside its room, which the program has, a find keeps what it has copied, for the proofs alone.
 module _ {T R : Type 0} (code : Coding T) (words_in : R → List ℕ) where
+  -- The room of a find after a step that was handed this old value:
+  -- the words that it copies, and the values copied so far.
   abbrev pub find_copies : (R → ℕ → ℕ → R) → Finding T R → R × List (ℕ × T) → ℕ → R × List (ℕ × T)
   find_copies with_word c m old = (
     find_kept with_word c m.0 old,
     copies_after c.stage old (value_of_room code words_in m.0) m.1,
   )
 
+  -- A find of an owner's values, by the party that the pass has been, if it has been one. It ends with how many there
+  -- are, and writes a copy of each value that it showed.
   abbrev pub finds_values : ℕ → Calling T (Finding T R) (R × List (ℕ × T)) ℕ
   finds_values owner =
       record {
@@ -70,8 +76,10 @@ module _ {T R : Type 0} (code : Coding T) (words_in : R → List ℕ) where
               room = room_of code.size (words_in m.0);
             }));
         answer = λ n m. Number n;
+        -- no word that it loads ends it outside the history
         skips = λ c n. false;
         left = λ e. ⊥;
+        -- what was written is known only where the pass has seen the call begin
         wrote = λ capacity p from c m es. from ≡ None → es ≡ copies_of p m.1;
         wrote_all = λ capacity p from n m es. from ≡ None → es ≡ copies_of p m.1;
       }

@@ -25,8 +25,8 @@ use Rattle.history.specs.Rooms.{room_of}
 use Rattle.history.specs.Stages.{Calling}
 use Rattle.history.specs.ValueQueue.{value_there}
 
--- where it stands on a container of this capacity, whose values have so many words: it copies an
--- element under an odd number
+-- Where a recovery stands: its index is one of the container, a word that it loads is one of the value's, and it copies
+-- an element under an odd number.
 abbrev pub RecoverIn : (size capacity : ℕ) → ReleaseMode → RecoverStage → Type 0
 RecoverIn size capacity mode recovers.LoadsCounter = Unit {0}
 RecoverIn size capacity mode (recovers.LoadsCell index) = index < capacity
@@ -45,27 +45,28 @@ RecoverIn size capacity mode (recovers.Locks index lock) =
 RecoverIn size capacity mode recovers.LoadsCounterAgain = Unit {0}
 RecoverIn size capacity mode (recovers.AddsChange state) = Unit {0}
 
--- How far it came with an index of the owner: it asked about the value that it had copied; it found
--- that nothing stood there, or was told to free it with the value; it freed it, and has hidden the
--- value, and locked the set.
+-- How far a recovery came with an index of the owner: it asked about the value
+-- that it had copied; it found that nothing stood there, or was told to free it
+-- with the value; it freed it, and has hidden the value, and locked the container.
 pub data Came (T : Type 0) : Type 0 where
   HasAsked : T → Came T
   HasFound : Option T → Came T
   HasFreed : Option T → (hid locked : Bool) → Came T
 
 module _ {T : Type 0} where
-  -- it hides nothing where nothing stood, and locks in the mode for that alone
+  -- a recovery hides nothing where nothing stood, and locks in the mode that locks alone
   abbrev pub MayCome : ReleaseMode → Came T → Type 0
   MayCome mode (HasAsked value) = Unit {0}
   MayCome mode (HasFound found) = Unit {0}
   MayCome mode (HasFreed found hid locked) = (found ≡ None → hid ≡ false) × (locked ≡ true → mode ≡ LockIfLastIndex)
 
+  -- what a recovery writes of an index up to its answer: the value there, copied and asked about, or that there is none
   abbrev pub wrote_found : (p owner index : ℕ) → Option T → List (Event T)
   wrote_found p owner index None = Shown p index ∷ []
   wrote_found p owner index (Some value) =
       Copied p index value ∷ Asked p index owner ∷ Told p index owner ∷ []
 
-  -- what it wrote of such an index
+  -- what a recovery wrote of an index with which it came so far
   abbrev pub wrote_of : (p owner index : ℕ) → Came T → List (Event T)
   wrote_of p owner index (HasAsked value) = Copied p index value ∷ Asked p index owner ∷ []
   wrote_of p owner index (HasFound found) = wrote_found p owner index found
@@ -73,47 +74,53 @@ module _ {T : Type 0} where
       wrote_found p owner index found
       ++ FreedOf p index owner ∷ (when hid (Hidden p index) ++ when locked (Locked p))
 
-  -- what it wrote of these indices, of which the last comes first
+  -- what a recovery wrote of these indices, of which the last comes first
   abbrev pub wrote_visits : (p owner : ℕ) → List (ℕ × Came T) → List (Event T)
   wrote_visits p owner [] = []
   wrote_visits p owner (visit ∷ before) = wrote_visits p owner before ++ wrote_of p owner visit.0 visit.1
 
   -- ---- how they go on with a step: it comes further with the last of them
 
+  -- the visits with the last one changed
   abbrev pub with_last : (Came T → Came T) → List (ℕ × Came T) → List (ℕ × Came T)
   with_last on [] = []
   with_last on (visit ∷ before) = (visit.0, on visit.1) ∷ before
 
+  -- the visit after a yes to its question: it has found the value that it asked about
   abbrev pub told : Came T → Came T
   told (HasAsked value) = HasFound (Some value)
   told (HasFound found) = HasFound found
   told (HasFreed found hid locked) = HasFreed found hid locked
 
+  -- the visit after its cell was emptied: nothing is hidden or locked yet
   abbrev pub freed : Came T → Came T
   freed (HasAsked value) = HasFreed (Some value) false false
   freed (HasFound found) = HasFreed found false false
   freed (HasFreed found hid locked) = HasFreed found hid locked
 
+  -- whether the visit, once its cell is empty, has also hidden the value
   abbrev pub hides : Bool → Came T → Came T
   hides now (HasAsked value) = HasAsked value
   hides now (HasFound found) = HasFound found
   hides now (HasFreed found hid locked) = HasFreed found now locked
 
+  -- the visit after its lock, once its cell is empty
   abbrev pub came_locked : Came T → Came T
   came_locked (HasAsked value) = HasAsked value
   came_locked (HasFound found) = HasFound found
   came_locked (HasFreed found hid locked) = HasFreed found hid true
 
-  -- under an even number nothing stands
+  -- the visits once the number of an element was loaded: under an even number nothing stands
   abbrev pub seen_under : (index count : ℕ) → List (ℕ × Came T) → List (ℕ × Came T)
   seen_under index count visits = if is_even count then (index, HasFound None) ∷ visits else visits
 
+  -- the visits after a step of the lock: where the counter was exchanged, the last visit has locked the container
   abbrev pub locked_with : Lock → ℕ → List (ℕ × Came T) → List (ℕ × Came T)
   locked_with (locks.Counts count) old visits = visits
   locked_with (locks.ExchangesCounter counter) old visits =
       if old == counter then with_last came_locked visits else visits
 
-  -- with this value in its room
+  -- the visits after a step that was handed this old value, where the words in the room make this value
   abbrev pub visits_after : ℕ → RecoverStage → ℕ → T → List (ℕ × Came T) → List (ℕ × Came T)
   visits_after owner recovers.LoadsCounter old value visits = visits
   visits_after owner (recovers.LoadsCell index) old value visits = visits
@@ -132,18 +139,20 @@ module _ {T : Type 0} where
 
   -- ---- which they are at a stage
 
-  -- it is to be freed under this number: of a yes only the call knows as yet
+  -- the index is to be freed under this number: of a yes only the call knows as yet
   abbrev pub IsToFree : ℕ → Came T → Type 0
   IsToFree count (HasAsked value) = is_even count ≡ false
   IsToFree count (HasFound None) = is_even count ≡ true
   IsToFree count (HasFound (Some value)) = ⊥
   IsToFree count (HasFreed found hid locked) = ⊥
 
+  -- the last visit is of this index and has emptied its cell but not locked; a value is hidden only where one was found
   abbrev pub IsFreed : ℕ → List (ℕ × Came T) → Type 0
   IsFreed index visits =
       (found : Option T) × (hid : Bool) × (before : List (ℕ × Came T))
       × (visits ≡ (index, HasFreed found hid false) ∷ before) × (found ≡ None → hid ≡ false)
 
+  -- what the last visit has come to at each stage of a recovery, where the words that it has copied make this value
   abbrev pub VisitsAt : RecoverStage → T → List (ℕ × Came T) → Type 0
   VisitsAt recovers.LoadsCounter value visits = visits ≡ []
   VisitsAt (recovers.LoadsCell index) value visits = Unit {0}
@@ -161,7 +170,7 @@ module _ {T : Type 0} where
   VisitsAt recovers.LoadsCounterAgain value visits = Unit {0}
   VisitsAt (recovers.AddsChange state) value visits = Unit {0}
 
-  -- a yes that it has heard
+  -- the event of a yes that the recovery has heard, and that its next step writes
   abbrev pub told_yet : (p owner : ℕ) → RecoverStage → List (Event T)
   told_yet p owner recovers.LoadsCounter = []
   told_yet p owner (recovers.LoadsCell index) = []
@@ -177,8 +186,9 @@ module _ {T : Type 0} where
   told_yet p owner recovers.LoadsCounterAgain = []
   told_yet p owner (recovers.AddsChange state) = []
 
--- it copies by way of a room that has these words, and beside it keeps what it did, for the proofs alone
+-- A recovery copies by way of a room that has these words, and beside it keeps what it did, for the proofs alone.
 module _ {T R : Type 0} (code : Coding T) (words_in : R → List ℕ) where
+  -- the room and the visits of a recovery after a step that was handed this old value
   abbrev pub recover_visits : (R → ℕ → ℕ → R) → DeadOwner → Recovering T R → R × List (ℕ × Came T) → ℕ
       → R × List (ℕ × Came T)
   recover_visits with_word given c m old = (
@@ -186,6 +196,8 @@ module _ {T R : Type 0} (code : Coding T) (words_in : R → List ℕ) where
     visits_after given.owner c.stage old (value_there code words_in m.0) m.1,
   )
 
+  -- A recovery of a dead owner's values, by the party that the pass has been, if it has been one. It ends with the
+  -- state of the container, and its visits, which are beside its room, tell what it has written.
   abbrev pub recovers_values : DeadOwner → Calling T (Recovering T R) (R × List (ℕ × Came T)) ReleaseState
   recovers_values given =
       record {
@@ -201,8 +213,10 @@ module _ {T R : Type 0} (code : Coding T) (words_in : R → List ℕ) where
               room = room_of code.size (words_in m.0);
             }));
         answer = λ e m. State e;
+        -- no word that it loads ends it outside the history
         skips = λ c n. false;
         left = λ e. ⊥;
+        -- what was written is known only where the pass has seen the call begin
         wrote = λ capacity p from c m es. from ≡ None
             → VisitsAt c.stage (value_there code words_in m.0) m.1
             × (es ≡ wrote_visits p given.owner m.1 ++ told_yet p given.owner c.stage);

@@ -1,13 +1,14 @@
--- What a find on a robust index set tells of the history. It only looks, so it is no call of it: others go on between its
--- looks.
+-- What a find on a robust index set tells of the history.
+-- It only looks, so it is no call of the history: others go on between its looks.
 use Rattle.std.specs.Prelude.{◌≡◌, ◌≢◌, ℕ, ◌<◌, Some, List, All, Contains}
 use Rattle.model.specs.declared.event.Event.{Event}
 use Rattle.model.specs.Families.Indices.Robust.Reading.{filled_of}
 use Rattle.history.specs.History.{IsBeginning}
 
 module _ {T : Type 0} where
-  -- so it was at a moment from the one history to the other
+  -- it held at a moment from the one history to the other
   pub record HeldBetween (P : List (Event T) → Type 0) (old new : List (Event T)) : Type 0 where
+    -- the history at that moment
     pub moment : List (Event T)
     pub later : IsBeginning old moment
     pub before : IsBeginning moment new

@@ -35,17 +35,19 @@ use Rattle.threaded.specs.Shares.{IsAll}
 use Rattle.history.specs.Known.{Known, events_by, by_party, owned}
 use Rattle.history.specs.declared.view.View.{View}
 
--- a part of the whole
+-- the share is a part of the whole, and not nothing
 abbrev pub IsPart : Share → Type 0
 IsPart s = (0 < s.parts) × (s.part ≤ s.parts)
 
 module _ {T : Type 0} where
   -- ---- where a party's call stands
 
+  -- the call that a party does, if it is not over
   abbrev pub call_at : Start T → Doing T → Option (Start T × Flight T)
   call_at start (Going flight since) = Some (start, flight)
   call_at start (Over others) = None
 
+  -- the call under way of a party that has had one
   abbrev pub call_of : Option (Party T) → Option (Start T × Flight T)
   call_of None = None
   call_of (Some x) = call_at x.start x.doing
@@ -54,27 +56,31 @@ module _ {T : Type 0} where
   abbrev pub call_in : World T → ℕ → Option (Start T × Flight T)
   call_in w p = call_of (party_of p w.latest)
 
-  -- of a party's latest call: how many steps it has taken, and as what it began
+  -- how many steps a party's latest call has taken; 0 before its first
   abbrev pub steps_of : Option (Party T) → ℕ
   steps_of None = 0
   steps_of (Some x) = x.steps
 
+  -- the start of a party's latest call, if it has had one
   abbrev pub started : Option (Party T) → Option (Start T)
   started None = None
   started (Some x) = Some x.start
 
+  -- how many steps the party's latest call has taken
   abbrev pub steps_in : World T → ℕ → ℕ
   steps_in w p = steps_of (party_of p w.latest)
 
-  -- and how many changes of words others made while it was under way, where words were changed so often; 0 before the first
+  -- How many changes of words others made while the party's latest call was under way, where words were changed so
+  -- often by now; 0 before its first call.
   abbrev pub others_so : ℕ → Option (Party T) → ℕ
   others_so changes None = 0
   others_so changes (Some x) = others_of changes x.doing
 
+  -- how many changes of words others made while the party's latest call was under way
   abbrev pub others_in : World T → ℕ → ℕ
   others_in w p = others_so w.changes (party_of p w.latest)
 
-  -- the same of a pass, by its party
+  -- how many changes of words others made while the latest call of the pass's party was under way
   abbrev pub others_by : World T → Option ℕ → ℕ
   others_by w None = 0
   others_by w (Some p) = others_in w p
@@ -95,10 +101,12 @@ module _ {T : Type 0} where
       AllByRecursion (λ (e : Event T). (p : ℕ) × (e ≡ Acted p start PoppedNone)) late
   MayBeLate (start, flight) late = late ≡ []
 
+  -- these events may come late for this call under way: only acts of a push that overflows do
   abbrev pub IsLateFor : Option (Start T × Flight T) → List (Event T) → Type 0
   IsLateFor None late = late ≡ []
   IsLateFor (Some call) late = MayBeLate call late
 
+  -- these events may have come late; only in an overflowing queue any do
   abbrev pub IsLate : Kind → Option (Start T × Flight T) → List (Event T) → Type 0
   IsLate kinds.Overflow going late = IsLateFor going late
   IsLate kind going late = late ≡ []
@@ -130,8 +138,8 @@ module _ {T : Type 0} where
     pub made : (f : Event T → ℕ)
         → sum_by f v.made + sum_by f late ≡ sum_by (owned owner j f) t.events
 
-  -- A machine lets a recovery free what a dead owner has; a thread claims a death, and cannot prove it. So a robust set of
-  -- threads, or a container, is reached by an open run: nobody dies, and neither a yes nor a recovery is refused.
+  -- A machine lets a recovery free what a dead owner has; a thread claims a death, and cannot prove it. So a robust set
+  -- of threads, or a container, is reached by an open run: nobody dies, and neither a yes nor a recovery is refused.
   abbrev pub IsReachedAs : Kind → Trace T → Type 0
   IsReachedAs kinds.Robust t = IsReachedOpen t
   IsReachedAs kinds.Container t = IsReachedOpen t
@@ -145,10 +153,12 @@ module _ {T : Type 0} where
 
   -- a reached machine of this kind and capacity, in which no push found the last position, and no store the last version
   pub record IsRun (code : Coding T) (kind : Kind) (capacity : ℕ) (t : Trace T) : Type 0 where
+    -- turns lead here from an opening
     pub reached : IsReachedAs kind t
     pub coded : t.world.coding ≡ code
     pub of_kind : t.world.kind ≡ kind
     pub sized : t.world.capacity ≡ capacity
+    -- no push found the last position, and no store the last version
     pub fresh : IsFreshAs kind t
 
   -- what refuses a turn of such a machine
@@ -163,7 +173,7 @@ module _ {T : Type 0} where
   abbrev pub run_of : Coding T → Kind → ℕ → List (Turn T) → Trace T
   run_of code kind capacity turns = after_turns (opening code kind capacity 0) turns
 
-  -- of these turns, from here on, no push finds the last position, and no store the last version
+  -- none of these turns, from here on, is one in which a push finds the last position or a store the last version
   abbrev pub AreFresh : Trace T → List (Turn T) → Type 0
   AreFresh t [] = Unit {0}
   AreFresh t (turn ∷ turns) = IsFreshTurn t turn × AreFresh (after_turn t turn) turns
@@ -178,13 +188,16 @@ module _ {T : Type 0} where
     pub mine : AreFirst v.turns turns
     pub theirs : AreFirst v.other_turns turns
 
-  -- One list of turns, none of them refused, leads from the opening to this machine. A step of the table can only add to it,
-  -- and each seat knows its first ones.
+  -- One list of turns, none of them refused, leads from the opening to this machine. A step of the table can only add
+  -- to it, and each seat knows its first ones.
   pub record OneRun (code : Coding T) (kind : Kind) (capacity : ℕ) (views : List (View T)) (t : Trace T) : Type 0 where
     pub turns : List (Turn T)
+    -- none of them is refused
     pub allowed : AreAllowedBy (refusal_as kind) (opening code kind capacity 0) turns
+    -- none is a push that finds the last position, or a store that finds the last version
     pub fresh : AreFresh (opening code kind capacity 0) turns
     pub is : t ≡ run_of code kind capacity turns
+    -- each seat knows the first of them
     pub knew : (j : ℕ) (v : View T) → get_elem? views j ≡ some v → Knew turns v
 
   -- ---- what was asked for
@@ -205,8 +218,8 @@ module _ {T : Type 0} where
     pub most : v.asked ≤ v.aside + steps
     pub all : IsAll v.share → v.asked ≡ v.aside + steps
 
-  -- What the seats have asked for together is what was aside and these steps. Of no seat more was aside than it asked for, and
-  -- a seat without a share asked for nothing else.
+  -- What the seats have asked for together is what was aside and these steps. Of no seat more was aside than it asked
+  -- for, and a seat without a share asked for nothing else.
   pub record HaveAsked (views : List (View T)) (steps : ℕ) : Type 0 where
     pub sum : sum_by (λ (v : View T). v.asked) views ≡ sum_by (λ (v : View T). v.aside) views + steps
     pub each : (j : ℕ) (v : View T) → get_elem? views j ≡ some v → v.aside ≤ v.asked
@@ -243,16 +256,21 @@ module _ {T : Type 0} where
     pub run : IsRun code kind capacity trace
     pub is : events ≡ trace.events
 
-  -- What the pass has seen are the events of its turns. None of them is refused, so they make a run of a machine of this
-  -- kind and capacity. There others have changed words so often while the latest call of its party was under way. What the pass
-  -- asked for is bounded by the steps of the run.
+  -- What the pass has seen are the events of its turns. None of them is refused, so they make a run of a machine of
+  -- this kind and capacity. There others have changed words so often while the latest call of its party was under way.
+  -- What the pass asked for is bounded by the steps of the run.
   pub record Knows (code : Coding T) (kind : Kind) (capacity : ℕ) (v : View T) : Type 0 where
     pub coded : IsCoding code
     pub admitted : capacity_error kind capacity ≡ None
+    -- none of the turns that it knows is refused
     pub allowed : AreAllowedBy (refusal_as kind) (opening code kind capacity 0) v.turns
+    -- none is a push that finds the last position, or a store that finds the last version
     pub fresh : AreFresh (opening code kind capacity 0) v.turns
+    -- what it has seen are the events of these turns
     pub is : v.seen ≡ (run_of code kind capacity v.turns).events
+    -- others changed words so often while its party's latest call was under way
     pub others : v.others ≡ others_by (run_of code kind capacity v.turns).world v.party
+    -- it asked for no more operations than the run has steps, but for those aside
     pub asked : HasAsked v (steps_of_run code kind capacity v.turns)
 
   -- the run that it knew goes on to the one that it knows
@@ -260,7 +278,7 @@ module _ {T : Type 0} where
     pub first : AreFirst old.turns new.turns
     pub knows : Knows code kind capacity new
 
-  -- the same, of a machine on which the party's call stands so
+  -- the events are those of a run after which the party's call under way is `flight`, begun by `start`
   pub record HasStood (code : Coding T) (kind : Kind) (capacity p : ℕ) (start : Start T)
       (flight : Flight T) (events : List (Event T)) : Type 0 where
     pub trace : Trace T
@@ -273,21 +291,28 @@ module _ {T : Type 0} where
       (events : List (Event T)) : Type 0 where
     pub old : Trace T
     pub run : IsRun code kind capacity old
+    -- a step of the party is not refused on it
     pub free : refusal_as kind old.world (Next p) ≡ None
+    -- what the step wrote before its last event
     pub wrote : List (Event T)
     pub writes : events_of old.world (Next p) ≡ wrote ++ last ∷ []
     pub is : events ≡ (after_turn old (Next p)).events
 
-  -- A pass that knew `old` made one call and knows `new`. After what it had seen come the doings
-  -- of others, none where it had the whole; then the call begins, things happen, among them what
-  -- the call wrote, and it ends with this answer, the last that was seen.
+  -- A pass that knew `old` made one call and knows `new`. After what it had seen come the doings of others, none where
+  -- it had the whole; then the call begins, things happen, among them what the call wrote, and it ends with this
+  -- answer, the last that was seen.
   pub record Called (p : ℕ) (start : Start T) (answer : Answer T) (wrote : List (Event T))
       (old new : View T) : Type 0 where
+    -- what others did before the call began
     pub others : List (Event T)
+    -- what happened between its begin and its end
     pub during : List (Event T)
     pub is : new.seen
         ≡ (old.seen ++ others) ++ Begun p start ∷ (during ++ Finished p start answer ∷ [])
+    -- with the whole share nobody else did anything
     pub alone : IsAll old.share → others ≡ []
+    -- the party did nothing before it began
     pub others_own : events_by p others ≡ []
+    -- what the party wrote during the call
     pub during_own : events_by p during ≡ wrote
     pub made : new.made ≡ old.made ++ Begun p start ∷ (wrote ++ Finished p start answer ∷ [])

@@ -25,6 +25,7 @@ use Rattle.model.specs.declared.families.indices.calls.IndexFlight.TheVariants a
 use Rattle.model.specs.Families.Indices.Calls.{acquire_answer}
 use Rattle.history.specs.Stages.{Calling}
 
+-- where an acquire is about to follow or to claim an index, it is one of the set's
 abbrev pub StandsIn : ℕ → AcquireStage → Type 0
 StandsIn capacity acquires.LoadsHead = Unit {0}
 StandsIn capacity (acquires.LoadsNext head) = proposed head < capacity
@@ -33,10 +34,13 @@ StandsIn capacity (acquires.Claims index) = index < capacity
 StandsIn capacity (acquires.Scans index) = index < capacity
 
 module _ {T : Type 0} where
+  -- what an acquire with this answer has written
   abbrev pub claimed_by : ℕ → Acquired → List (Event T)
   claimed_by p (Ok index) = Claimed p index ∷ []
   claimed_by p (Err failure) = []
 
+  -- An acquire of an index by the party that the pass has been, if it has been one. It ends with the index or why there
+  -- is none, and writes its claim as it ends.
   abbrev pub takes_index : Calling T Acquiring (Unit {0}) Acquired
   takes_index =
       record {
@@ -47,8 +51,10 @@ module _ {T : Type 0} where
             flights.Indices
             (calls.Acquire (record { call = c; given = tt; room = m }));
         answer = λ e m. acquire_answer e;
+        -- no word that it loads ends it outside the history
         skips = λ c n. false;
         left = λ e. ⊥;
+        -- under way it has written nothing yet
         wrote = λ capacity p from c m es. es ≡ [];
         wrote_all = λ capacity p from e m es. es ≡ claimed_by p e;
       }
@@ -58,6 +64,8 @@ module _ {T : Type 0} where
   freed_at p index releases.ClearsFlag = []
   freed_at p index stage = Freed p index ∷ []
 
+  -- A release of this index in the default mode, by any party. It ends with the state of the set, and writes that the
+  -- index is free with its first step.
   abbrev pub gives_index : ℕ → Calling T (Releasing DefaultMode) (Unit {0}) ReleaseState
   gives_index index =
       record {
@@ -68,9 +76,10 @@ module _ {T : Type 0} where
             flights.Indices
             (calls.ReleaseDefault (record { call = c; given = index; room = m }));
         answer = λ e m. State e;
+        -- no word that it loads ends it outside the history
         skips = λ c n. false;
         left = λ e. ⊥;
-        -- of a call that is told of from its begin on
+        -- what was written is told only of a call whose begin the pass has seen
         wrote = λ capacity p from c m es. from ≡ None → es ≡ freed_at p index c.stage;
         wrote_all = λ capacity p from e m es. from ≡ None → es ≡ Freed p index ∷ [];
       }
@@ -80,6 +89,8 @@ module _ {T : Type 0} where
   given_by p index states.Unlocked = Freed p index ∷ []
   given_by p index states.Locked = Freed p index ∷ Locked p ∷ []
 
+  -- A release of this index in the mode that locks the set with the last index, by any party. It ends with the state of
+  -- the set, and writes that the index is free with its first step.
   abbrev pub gives_or_locks : ℕ → Calling T (Releasing LockMode) (Unit {0}) ReleaseState
   gives_or_locks index =
       record {
@@ -90,12 +101,15 @@ module _ {T : Type 0} where
             flights.Indices
             (calls.ReleaseLock (record { call = c; given = index; room = m }));
         answer = λ e m. State e;
+        -- no word that it loads ends it outside the history
         skips = λ c n. false;
         left = λ e. ⊥;
+        -- what was written is known only where the pass has seen the call begin
         wrote = λ capacity p from c m es. from ≡ None → es ≡ freed_at p index c.stage;
         wrote_all = λ capacity p from e m es. from ≡ None → es ≡ given_by p index e;
       }
 
+  -- A call that tells how many indices are borrowed. It writes nothing between its begin and its end.
   abbrev pub counts_out : Calling T Counting (Unit {0}) ℕ
   counts_out =
       record {
@@ -106,12 +120,15 @@ module _ {T : Type 0} where
             flights.Indices
             (calls.BorrowedIndices (record { call = c; given = tt; room = m }));
         answer = λ n m. Number n;
+        -- no word that it loads ends it outside the history
         skips = λ c n. false;
         left = λ e. ⊥;
+        -- under way it has written nothing yet
         wrote = λ capacity p from c m es. es ≡ [];
         wrote_all = λ capacity p from n m es. es ≡ [];
       }
 
+  -- A call that tells whether the set is locked. It writes nothing between its begin and its end.
   abbrev pub looks_locked : Calling T Looking (Unit {0}) Bool
   looks_locked =
       record {
@@ -122,8 +139,10 @@ module _ {T : Type 0} where
             flights.Indices
             (calls.IsLocked (record { call = c; given = tt; room = m }));
         answer = λ b m. Truth b;
+        -- no word that it loads ends it outside the history
         skips = λ c n. false;
         left = λ e. ⊥;
+        -- under way it has written nothing yet
         wrote = λ capacity p from c m es. es ≡ [];
         wrote_all = λ capacity p from b m es. es ≡ [];
       }

@@ -12,12 +12,13 @@ abbrev pub if_owned : (ℕ → ℕ) → ℕ → Option ℕ → ℕ → ℕ
 if_owned owner j None n = 0
 if_owned owner j (Some p) n = if owner p == j then n else 0
 
--- 1 of nobody
+-- 1 where there is no party, and 0 where there is one
 abbrev pub of_none : Option ℕ → ℕ
 of_none None = 1
 of_none (Some p) = 0
 
 module _ {T : Type 0} where
+  -- the event, if it is the party's
   abbrev pub own_of : ℕ → Event T → List (Event T)
   own_of p e = if is_party p (whose e) then e ∷ [] else []
 
@@ -35,17 +36,22 @@ module _ {T : Type 0} where
   abbrev pub owned : (ℕ → ℕ) → ℕ → (Event T → ℕ) → Event T → ℕ
   owned owner j f e = if_owned owner j (whose e) (f e)
 
+  -- the pass knows these events: as what it has seen itself, or as what the pass had seen that it took over
   abbrev pub HasSeen : View T → List (Event T) → Type 0
   HasSeen v events = (v.seen ≡ events) ⊎ (v.other ≡ events)
 
   -- the shares make the whole, some seat with a share has seen all, and each event is some party's
   pub record Known (views : List (View T)) (events : List (Event T)) : Type 0 where
     pub shares : Shares (λ (v : View T). v.share) views
+    -- the number of a seat with a share
     pub by : ℕ
     pub last : View T
     pub at : get_elem? views by ≡ some last
     pub any : 0 < last.share.part
+    -- that seat has seen all events
     pub all : HasSeen last events
+    -- each event is some party's
     pub someone : sum_by (λ e. of_none (whose e)) events ≡ 0
+    -- a seat without a share made nothing and has no call under way
     pub spent : (j : ℕ) (v : View T) → get_elem? views j ≡ some v → v.share.part ≡ 0
         → (v.made ≡ []) × (v.going ≡ None)

@@ -9,20 +9,23 @@ use Rattle.model.specs.Linearizable.{Call, calls_of}
 use Rattle.history.specs.declared.view.View.{View}
 
 module _ {T : Type 0} where
-  -- a call of this party stands in the history with this answer: behind all that its pass had seen, and its end is
-  -- in what its pass has seen now
+  -- a call of this party stands in the history with this answer: behind all that its pass had seen, and its end is in
+  -- what its pass has seen now
   pub record StandsIn (p : ℕ) (start : Start T) (answer : Answer T) (old new : View T)
       (history : List (Event T)) : Type 0 where
     pub call : Call T
     pub there : Contains (calls_of history) call
     pub party : call.party ≡ p
     pub named : call.start ≡ start
+    -- where its response stands
     pub ends : ℕ
     pub answered : call.response ≡ Some (record { place = ends; answer = answer })
+    -- it began after all that had been seen
     pub after : length old.seen ≤ call.place
+    -- its end is in what is seen now
     pub before : ends < length new.seen
 
-  -- none of these is an end of a call of this party
+  -- none of these events ends a call of this party
   abbrev pub EndsNone : ℕ → List (Event T) → Type 0
   EndsNone p [] = Unit {0}
   EndsNone p (Finished q start answer ∷ es) = (q ≢ p) × EndsNone p es

@@ -26,26 +26,28 @@ use Rattle.model.specs.Reading.{Span, longer, own_after}
 use Rattle.history.specs.Queues.{pop_wrote}
 use Rattle.history.specs.Stages.{Calling}
 
--- without capacity no word is asked for, and no such call is driven
+-- the push has found the last write position, and ends without a trace
 abbrev pub over_push_skips : PushStage → ℕ → Bool
 over_push_skips pushes.LoadsWrite n = n == 2 ^ 64 - 1
 over_push_skips stage n = false
 
+-- the push has a word to ask for at this stage: without capacity it has none, and no such push is driven
 abbrev pub HasPushWord : PushStage → Type 0
 HasPushWord pushes.HandsBack = ⊥
 HasPushWord stage = Unit {0}
 
--- a push that ended so is a call of the history; where its own number comes back, it is none
+-- a push that ended so is a call of the history; one whose own number comes back is none
 abbrev pub HasActed : PushEnd → Type 0
 HasActed Own = ⊥
 HasActed end = Unit {0}
 
+-- the pop has a word to ask for at this stage
 abbrev pub HasPopWord : PopStage → Type 0
 HasPopWord pops.FindsNone = ⊥
 HasPopWord stage = Unit {0}
 
 module _ {T : Type 0} where
-  -- an event within a call: none begins or ends there
+  -- the event is within a call: none begins or ends with it
   abbrev pub IsWithin : Event T → Type 0
   IsWithin e = (span : Span T) → own_after span e ≡ longer span e
 
@@ -60,6 +62,8 @@ module _ {T : Type 0} where
       ∷ Acted p (Queues (PushIndex v)) (PoppedIndex oldest)
       ∷ []
 
+  -- A push of this index, by any party. It ends with whether it was added alone, took the oldest index out, or was
+  -- handed back, and an index taken out is then in its room. A push that was handed back is none of the history.
   abbrev pub pushes_over : ℕ → Calling T Pushing OneWord PushEnd
   pushes_over v =
       record {
@@ -69,12 +73,16 @@ module _ {T : Type 0} where
         flight = λ c m. flights.Queues (Overflow (overflows.Push
             (record { call = c; given = v; room = m })));
         answer = λ e m. popped (push_answer v m.0 e);
+        -- loading the last position or version ends it outside the history
         skips = λ c n. over_push_skips c.stage n;
         left = λ e. e ≡ Own;
+        -- the pass has seen its begin, and under way it has written only events within the call
         wrote = λ capacity p from c m es. (from ≡ None) × AllByRecursion IsWithin es;
         wrote_all = λ capacity p from e m es. HasActed e × (es ≡ over_push_wrote p v m.0 e);
       }
 
+  -- A pop of an index, by any party. It ends with whether it took an index out, which is then in its room, and writes
+  -- its events as it ends.
   abbrev pub pops_over : Calling T Popping OneWord Bool
   pops_over =
       record {
@@ -84,14 +92,16 @@ module _ {T : Type 0} where
         flight = λ c m. flights.Queues (Overflow (overflows.Pop
             (record { call = c; given = tt; room = m })));
         answer = λ e m. popped (pop_answer m.0 e);
+        -- no word that it loads ends it outside the history
         skips = λ c n. false;
         left = λ e. ⊥;
+        -- under way it has written nothing yet
         wrote = λ capacity p from c m es. es ≡ [];
         wrote_all = λ capacity p from e m es. es ≡ pop_wrote p m.0 e;
       }
 
-  -- who publishes, or acts by a push, holds the producer's role, and who acts by a pop the consumer's; who takes out a
-  -- value holds either
+  -- who publishes, or acts by a push, holds the producer's role,
+  -- and who acts by a pop the consumer's; who takes out a value holds either
   abbrev pub ByOverHolder : List (Event T) → Event T → Type 0
   ByOverHolder before (Published p item) = producer_of before ≡ Some p
   ByOverHolder before (HandedOut p item) =

@@ -14,8 +14,11 @@ module _ {T : Type 0} where
   -- machine of its kind is a law of each pass. Who has the whole share misses nothing.
   pub record Goes (old new : View T) : Type 0 where
     pub share : new.share ≡ old.share
+    -- what had been seen is a beginning of what is seen
     pub since : IsBeginning old.seen new.seen
+    -- the turns that were known are the first of those that are
     pub first : AreFirst old.turns new.turns
+    -- with the whole share nothing is missing
     pub all : MissesNothing new
 
   -- a new pass has seen the same, made nothing and is no party yet; the share is halved
@@ -38,7 +41,7 @@ module _ {T : Type 0} where
     pub share : left.share ≡ half_of old.share
     pub right_share : right.share ≡ half_of old.share
 
-  -- what both had seen are beginnings of one history; who has the whole share then had seen all of it
+  -- what both had seen are beginnings of one history; if both shares together are the whole, one of them had seen all of it
   pub record HasJoined (mine theirs new : View T) : Type 0 where
     pub made : new.made ≡ mine.made ++ theirs.made
     pub party : new.party ≡ mine.party

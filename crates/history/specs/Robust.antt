@@ -35,24 +35,28 @@ use Rattle.history.specs.Stages.{Calling}
 
 -- ---- where a call stands in a set of this capacity: each index that it is at is one of the set
 
+-- where a count stands at an index, that is one of the set's
 abbrev pub CountIn : ℕ → Count → Type 0
 CountIn capacity (counts.LoadsCell counter index filled) = index < capacity
 CountIn capacity count = Unit {0}
 
+-- where a lock counts, its index is one of the set's
 abbrev pub LockIn : ℕ → Lock → Type 0
 LockIn capacity (locks.Counts count) = CountIn capacity count
 LockIn capacity lock = Unit {0}
 
+-- where an acquire stands at an index, that index is one of the set's
 abbrev pub AcquireIn : ℕ → AcquireStage → Type 0
 AcquireIn capacity (acquires.FillsCell counter index) = index < capacity
 AcquireIn capacity (acquires.Raises index raise) = index < capacity
 AcquireIn capacity stage = Unit {0}
 
--- it locks in the mode for that alone
+-- where a release stands: it locks in the mode that locks alone
 abbrev pub ReleaseIn : ℕ → ReleaseMode → ReleaseStage → Type 0
 ReleaseIn capacity mode (releases.Locks lock) = (mode ≡ LockIfLastIndex) × LockIn capacity lock
 ReleaseIn capacity mode stage = Unit {0}
 
+-- where a recovery stands at an index, that index is one of the set's, and it locks only in the mode that locks
 abbrev pub RecoverIn : ℕ → ReleaseMode → RecoverStage → Type 0
 RecoverIn capacity mode (recovers.LoadsCell index) = index < capacity
 RecoverIn capacity mode (recovers.Asks index owner) = index < capacity
@@ -70,7 +74,8 @@ module _ {T : Type 0} where
   filled_at p owner (acquires.Raises index raise) = Filled p index owner ∷ []
   filled_at p owner stage = []
 
-  -- and in all: one that met the lock may have filled an index, which keeps its owner
+  -- What an acquire with this answer has written in all:
+  -- one that met the lock may have filled an index, which keeps its owner.
   abbrev pub AcquireWrote : (capacity p owner : ℕ) → Acquired → List (Event T) → Type 0
   AcquireWrote capacity p owner (Ok index) es =
       (index < capacity) × (es ≡ Filled p index owner ∷ Granted p index owner ∷ [])
@@ -78,7 +83,8 @@ module _ {T : Type 0} where
       (es ≡ []) ⊎ ((index : ℕ) × (index < capacity) × (es ≡ Filled p index owner ∷ []))
   AcquireWrote capacity p owner (Err failures.OutOfIndices) es = es ≡ []
 
-  -- of a call that is told of from its begin on
+  -- An acquire of an index for this owner, by the party that the pass has been, if it has been one. It ends with the
+  -- index or why there is none; what it has written is told of a call whose begin the pass has seen.
   abbrev pub takes_owned : ℕ → Calling T Acquiring (Unit {0}) Acquired
   takes_owned owner =
       record {
@@ -89,8 +95,10 @@ module _ {T : Type 0} where
             flights.Robust
             (calls.Acquire (record { call = c; given = owner; room = m }));
         answer = λ e m. acquire_answer e;
+        -- no word that it loads ends it outside the history
         skips = λ c n. false;
         left = λ e. ⊥;
+        -- what was written is known only where the pass has seen the call begin
         wrote = λ capacity p from c m es. from ≡ None → es ≡ filled_at p owner c.stage;
         wrote_all = λ capacity p from e m es. from ≡ None → AcquireWrote capacity p owner e es;
       }
@@ -102,7 +110,8 @@ module _ {T : Type 0} where
   freed_at p given releases.EmptiesCell = []
   freed_at p given stage = FreedOf p given.index given.owner ∷ []
 
-  -- and in all: nothing where another owner had the index, or none; it answers that the set is locked by whom it may
+  -- What a release with this answer has written in all: nothing where the index was not its owner's, that the index is
+  -- free, and, where it locked the set, that too.
   abbrev pub ReleaseWrote : ℕ → GiveBack → Released → List (Event T) → Type 0
   ReleaseWrote p given (Err failure) es = es ≡ []
   ReleaseWrote p given (Ok states.Unlocked) es = es ≡ FreedOf p given.index given.owner ∷ []
@@ -111,6 +120,8 @@ module _ {T : Type 0} where
       × ((es ≡ FreedOf p given.index given.owner ∷ [])
       ⊎ (es ≡ FreedOf p given.index given.owner ∷ Locked p ∷ []))
 
+  -- A release of an index for its owner, by the party that the pass has been, if it has been one. It writes that the
+  -- index is free where it empties the cell, and what stands in `ReleaseWrote` by its end.
   abbrev pub gives_owned : GiveBack → Calling T Releasing (Unit {0}) Released
   gives_owned given =
       record {
@@ -122,53 +133,58 @@ module _ {T : Type 0} where
             flights.Robust
             (calls.Release (record { call = c; given = given; room = m }));
         answer = λ e m. release_answer e;
+        -- no word that it loads ends it outside the history
         skips = λ c n. false;
         left = λ e. ⊥;
+        -- what was written is known only where the pass has seen the call begin
         wrote = λ capacity p from c m es. from ≡ None → es ≡ freed_at p given c.stage;
         wrote_all = λ capacity p from e m es. from ≡ None → ReleaseWrote p given e es;
       }
 
 -- ---- recovery
 
--- how far it came with an index that had an owner: it asked about it, was told to free it, has freed it, and locked the set
+-- How far a recovery came with an index that had an owner:
+-- it asked about it, was told to free it, has freed it, and locked the set.
 pub data Came : Type 0 where
   HasAsked : Came
   WasTold : Came
   HasFreed : Came
   HasLocked : Came
 
+-- a visit may have locked the set only in the mode that locks
 abbrev pub MayCome : ReleaseMode → Came → Type 0
 MayCome mode HasLocked = mode ≡ LockIfLastIndex
 MayCome mode came = Unit {0}
 
--- such an index, with its owner
+-- an index with its owner, and how far the recovery came with it
 pub record Visit : Type 0 where
   pub index : ℕ
   pub owner : ℕ
   pub came : Came
 
--- each is below this index, and above the one before
+-- the visits are of ascending indices below this one, and locks are in the mode that locks alone
 abbrev pub AreVisits : ReleaseMode → ℕ → List Visit → Type 0
 AreVisits mode bound visits =
     AllPairs (λ (x y : Visit). x.index < y.index) visits
     × All (λ (v : Visit). (v.index < bound) × MayCome mode v.came) visits
 
+-- a visit of an index of this owner that has come so far
 abbrev pub visit : (index owner : ℕ) → Came → Visit
 visit index owner came = record { index = index; owner = owner; came = came }
 
--- it came so far with the last one
+-- the visits, of which the last has come so far
 abbrev pub came_to : Came → List Visit → List Visit
 came_to came [] = []
 came_to came (v ∷ []) = visit v.index v.owner came ∷ []
 came_to came (v ∷ w ∷ visits) = v ∷ came_to came (w ∷ visits)
 
--- it came so far with this index, as the last one
+-- the last visit is of this index, and the recovery came so far with it
 pub record HasCome (mode : ReleaseMode) (index : ℕ) (came : Came) (owner : ℕ) (visits : List Visit) : Type 0 where
   pub before : List Visit
   pub passed : AreVisits mode index before
   pub is : visits ≡ before ++ visit index owner came ∷ []
 
--- the visits of a recovery at this stage: that which it asks about is one when it has the answer
+-- the visits of a recovery at this stage: the index that it asks about is one of them once it has the answer
 abbrev pub VisitsAt : ℕ → ReleaseMode → RecoverStage → List Visit → Type 0
 VisitsAt capacity mode recovers.LoadsCounter visits = visits ≡ []
 VisitsAt capacity mode (recovers.LoadsCell index) visits = AreVisits mode index visits
@@ -181,12 +197,13 @@ VisitsAt capacity mode (recovers.Locks index lock) visits =
     (owner : ℕ) × HasCome mode index HasFreed owner visits
 VisitsAt capacity mode recovers.LoadsCounterAgain visits = AreVisits mode capacity visits
 
+-- the visits of a recovery after a step of its lock: where the counter was exchanged, the last visit has locked the set
 abbrev pub visits_locked : Lock → List Visit → ℕ → List Visit
 visits_locked (locks.Counts count) visits old = visits
 visits_locked (locks.ExchangesCounter counter) visits old =
     if old == counter then came_to HasLocked visits else visits
 
--- and those after it, by what it has heard there
+-- the visits of a recovery after a step that was handed this old value
 abbrev pub visits_taken : RecoverStage → List Visit → ℕ → List Visit
 visits_taken recovers.LoadsCounter visits old = visits
 visits_taken (recovers.LoadsCell index) visits old = visits
@@ -197,11 +214,12 @@ visits_taken (recovers.Raises index raise) visits old = visits
 visits_taken (recovers.Locks index lock) visits old = visits_locked lock visits old
 visits_taken recovers.LoadsCounterAgain visits old = visits
 
+-- the visits after a step of the recovery that was handed this old value
 abbrev pub visits_after : Recovering → List Visit → ℕ → List Visit
 visits_after call visits old = visits_taken call.stage visits old
 
 module _ {T : Type 0} where
-  -- what it writes of such an index
+  -- what a recovery writes of an index with which it came so far
   abbrev pub wrote_to : (p index owner : ℕ) → Came → List (Event T)
   wrote_to p index owner HasAsked = Asked p index owner ∷ []
   wrote_to p index owner WasTold = Asked p index owner ∷ Told p index owner ∷ []
@@ -210,14 +228,15 @@ module _ {T : Type 0} where
   wrote_to p index owner HasLocked =
       Asked p index owner ∷ Told p index owner ∷ FreedOf p index owner ∷ Locked p ∷ []
 
+  -- what the recovery has written of a visit
   abbrev pub wrote_of : ℕ → Visit → List (Event T)
   wrote_of p v = wrote_to p v.index v.owner v.came
 
-  -- and of all in turn
+  -- what a recovery has written at these visits, in turn
   abbrev pub wrote_by : ℕ → List Visit → List (Event T)
   wrote_by p visits = flat_map (wrote_of p) visits
 
-  -- at this stage it has written so much more: the question, and a yes, which its next step tells
+  -- what a recovery has written at this stage beside that: its question, or a yes, which its next step tells
   abbrev pub wrote_now : ℕ → RecoverStage → List (Event T)
   wrote_now p recovers.LoadsCounter = []
   wrote_now p (recovers.LoadsCell index) = []
@@ -227,7 +246,8 @@ module _ {T : Type 0} where
   wrote_now p (recovers.Locks index lock) = []
   wrote_now p recovers.LoadsCounterAgain = []
 
-  -- its room is the list of its visits, which the set does not know of
+  -- A recovery in this mode, by the party that the pass has been, if it has been one. It ends with the state of the
+  -- set. Its room is the list of its visits, which the set does not know of.
   abbrev pub recovers_owned : ReleaseMode → Calling T Recovering (List Visit) ReleaseState
   recovers_owned mode =
       record {
@@ -238,8 +258,10 @@ module _ {T : Type 0} where
             flights.Robust
             (calls.Recover (record { call = c; given = mode; room = tt }));
         answer = λ e visits. State e;
+        -- no word that it loads ends it outside the history
         skips = λ c n. false;
         left = λ e. ⊥;
+        -- what was written is known only where the pass has seen the call begin
         wrote = λ capacity p from c visits es. from ≡ None
             → VisitsAt capacity mode c.stage visits × (es ≡ wrote_by p visits ++ wrote_now p c.stage);
         wrote_all = λ capacity p from e visits es. from ≡ None
@@ -248,6 +270,8 @@ module _ {T : Type 0} where
 
   -- ---- looks
 
+  -- A call that counts the borrowed indices.
+  -- It ends with their number, and writes nothing between its begin and its end.
   abbrev pub counts_owned : Calling T Counting (Unit {0}) ℕ
   counts_owned =
       record {
@@ -258,12 +282,15 @@ module _ {T : Type 0} where
             flights.Robust
             (calls.BorrowedIndices (record { call = c; given = tt; room = m }));
         answer = λ n m. Number n;
+        -- no word that it loads ends it outside the history
         skips = λ c n. false;
         left = λ e. ⊥;
+        -- under way it has written nothing yet
         wrote = λ capacity p from c m es. es ≡ [];
         wrote_all = λ capacity p from n m es. es ≡ [];
       }
 
+  -- A call that tells whether the set is locked. It writes nothing between its begin and its end.
   abbrev pub looks_owned : Calling T Looking (Unit {0}) Bool
   looks_owned =
       record {
@@ -274,8 +301,10 @@ module _ {T : Type 0} where
             flights.Robust
             (calls.IsLocked (record { call = c; given = tt; room = m }));
         answer = λ b m. Truth b;
+        -- no word that it loads ends it outside the history
         skips = λ c n. false;
         left = λ e. ⊥;
+        -- under way it has written nothing yet
         wrote = λ capacity p from c m es. es ≡ [];
         wrote_all = λ capacity p from b m es. es ≡ [];
       }

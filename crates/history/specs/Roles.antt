@@ -14,49 +14,55 @@ use Rattle.model.specs.declared.families.queues.QueueStart.TheVariants.{Push, Po
 use Rattle.model.specs.declared.families.queues.Roles.{Roles}
 use Rattle.model.specs.Families.Queues.Reading.{publishes, hands_out, producer_after, consumer_after, producer_of, consumer_of}
 
+-- the place of the word of a role, which is 1 while the role is free
 abbrev pub role_word : Role → ℕ
 role_word Producer = 2
 role_word Consumer = 3
 
--- who holds it, by what a machine keeps
+-- who holds the role, by what a machine keeps
 abbrev pub holder : Role → Roles → Option ℕ
 holder Producer roles = roles.producer
 holder Consumer roles = roles.consumer
 
 module _ {T : Type 0} where
+  -- the model's call that acquires the role
   abbrev pub acquire_start : Role → QueueStart T
   acquire_start Producer = AcquireProducer
   acquire_start Consumer = AcquireConsumer
 
+  -- the model's call that gives the role back
   abbrev pub release_start : Role → QueueStart T
   release_start Producer = ReleaseProducer
   release_start Consumer = ReleaseConsumer
 
+  -- the model's call that asks whether somebody has the role
   abbrev pub look_start : Role → QueueStart T
   look_start Producer = HasProducer
   look_start Consumer = HasConsumer
 
-  -- an acquire that answers true
+  -- 1 for an event that ends an acquire of the role with true, and 0 for each other
   abbrev pub takes : Role → Event T → ℕ
   takes Producer (Finished p (Queues AcquireProducer) (Truth true)) = 1
   takes Consumer (Finished p (Queues AcquireConsumer) (Truth true)) = 1
   takes role e = 0
 
+  -- 1 for an event that ends a release of the role, and 0 for each other
   abbrev pub gives : Role → Event T → ℕ
   gives Producer (Finished p (Queues ReleaseProducer) answer) = 1
   gives Consumer (Finished p (Queues ReleaseConsumer) answer) = 1
   gives role e = 0
 
+  -- who has the role after an event, where this party, or nobody, had it before
   abbrev pub role_after : Role → Option ℕ → Event T → Option ℕ
   role_after Producer = producer_after
   role_after Consumer = consumer_after
 
-  -- who holds it after these events
+  -- who holds the role after these events
   abbrev pub holder_by : Role → List (Event T) → Option ℕ
   holder_by Producer events = producer_of events
   holder_by Consumer events = consumer_of events
 
-  -- what the holder of the role alone writes
+  -- the item that the event publishes or hands out, which the holder of the role alone writes
   abbrev pub marks : Role → Event T → List (Item T)
   marks Producer = publishes
   marks Consumer = hands_out

@@ -1,5 +1,5 @@
--- A call that an answer may end takes no step behind it, so its party stands at the question until the pass takes a step
--- again. The machine is handed the answer then, before anything else: the call has ended.
+-- A call that an answer may end takes no step behind it, so its party stands at the question until the pass takes a
+-- step again. The machine is handed the answer then, before anything else: the call has ended.
 use Rattle.std.specs.Prelude.{Bool, ◌≡◌, ◌⊎◌, ℕ, ◌<◌, ◌≤◌, ◌+◌, true, false, None, Some, List, [], ◌∷◌, ◌++◌, sum_by}
 use Rattle.steps.specs.declared.ask.After.{After}
 use Rattle.steps.specs.declared.ask.After.TheVariants.{Done}
@@ -20,20 +20,24 @@ use Rattle.history.specs.History.{IsHistory, Continues, IsOfParties}
 use Rattle.history.specs.Stages.{Calling, IsUnderWay, Ends}
 
 module _ {T : Type 0} (code : Coding T) where
-  -- it stands at a question, which a no ends
+  -- the pass's call stands at a question, and a no ends it there
   pub record IsResting (v : View T) : Type 0 where
     pub party : ℕ
     pub mine : v.party ≡ Some party
     pub start : Start T
     pub flight : Flight T
     pub going : v.going ≡ Some (start, flight)
+    -- the call under way is at a question
     pub asks : is_question (want_of code flight) ≡ true
     pub answer : Answer T
+    -- a no ends it with this answer
     pub ends : (kept : Registry T) → goes_of code party flight (number_of false) kept ≡ Done answer
+    -- the pass knows one history alone
     pub alone : v.other ≡ []
+    -- the pass has a share
     pub some : 0 < v.share.part
 
-  -- its call has ended since, and the pass did nothing else
+  -- the pass's call has ended since, and the pass did nothing else
   pub record Settles (kind : Kind) (old new : View T) : Type 0 where
     pub resting : IsResting old
     pub capacity : new.capacity ≡ old.capacity
@@ -60,54 +64,61 @@ module _ {T : Type 0} (code : Coding T) where
   abbrev pub SettledFrom : Kind → (old new : View T) → Type 0
   SettledFrom kind old new = ((new ≡ old) × (old.going ≡ None)) ⊎ Settles kind old new
 
--- of a call that stands so at each stage, and ends so, and that a pass may begin whose last one rests
+-- A pass may begin a call while its last one still rests at a question. `at` says how a call stands at each stage,
+-- `ends` how it ends.
 module _ {T : Type 0} (code : Coding T) (kind : Kind) where
-  -- it has not begun
+  -- the call has not begun
   pub record Waits {C M : Type 0} (begins : View T → C → M → Type 0) (base v : View T) (c : C) (m : M)
       : Type 0 where
     pub is : v ≡ base
     pub resting : IsResting code base
     pub first : begins base c m
 
-  -- it stands so from where the one before it had ended
+  -- the call is where `at` says, counted from the view in which the one before it had ended
   pub record AtSettled {C M : Type 0} (at : View T → View T → C → M → Type 0) (base v : View T) (c : C)
       (m : M) : Type 0 where
     pub from : View T
     pub settled : SettledFrom code kind base from
     pub stage : at from v c m
 
+  -- the call has ended as `ends` says, counted from the view in which the one before it had ended
   pub record EndsSettled {E M : Type 0} (ends : View T → E → M → View T → Type 0) (base : View T) (e : E)
       (m : M) (w : View T) : Type 0 where
     pub from : View T
     pub settled : SettledFrom code kind base from
     pub over : ends from e m w
 
-  -- of one whose begin hangs on all that the pass knows
+  -- the call has not begun yet, which depends on all that the pass knows, or it is where `at` says
   abbrev pub AtWaiting : {C M : Type 0} → (View T → C → M → Type 0) → (View T → View T → C → M → Type 0)
       → View T → View T → C → M → Type 0
   AtWaiting begins at base v c m = AtSettled at base v c m ⊎ Waits begins base v c m
 
--- and of one whose begin hangs on the capacity
+-- the same of a call whose begin depends on the capacity alone
 module _ {T C M E : Type 0} (code : Coding T) (kind : Kind) (begins : ℕ → C → M → Type 0)
     (at : View T → View T → C → M → Type 0) (ends : View T → E → M → View T → Type 0) where
+  -- the call has not begun yet, or it is where `at` says
   abbrev pub AtRested : View T → View T → C → M → Type 0
   AtRested = AtWaiting code kind (λ base. begins base.capacity) at
 
+  -- the call has ended as `ends` says
   abbrev pub EndsRested : View T → E → M → View T → Type 0
   EndsRested = EndsSettled code kind ends
 
--- of a call that puts questions, and goes on so
+-- A call that puts questions: an answer has ended it, or it goes on from one.
 module _ {T C M E : Type 0} (code : Coding T) (kind : Kind) (after : C → ℕ → After C E) (kept : C → M → ℕ → M)
     (call : Calling T C M E) where
-  -- it stands at a question still, and an answer has ended it
+  -- the call stands at a question still, and an answer has ended it
   pub record RestsAt (base v : View T) (e : E) (m : M) : Type 0 where
+    -- the question's stage
     pub asking : C
     pub before : IsUnderWay code kind call base v asking m
     pub asks : is_question (want_of code (call.flight asking m)) ≡ true
+    -- the answer that ended the call
     pub said : Bool
     pub goes : after asking (number_of said) ≡ Done e
+    -- the answer left its room as it was
     pub keeps : kept asking m (number_of said) ≡ m
 
-  -- it has ended so, or with a step
+  -- the call has ended with an answer, or with a step
   abbrev pub EndsAsked : View T → E → M → View T → Type 0
   EndsAsked base e m w = Ends code kind call base e m w ⊎ RestsAt base w e m

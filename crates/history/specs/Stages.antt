@@ -29,30 +29,31 @@ use Rattle.history.specs.Known.{events_by, owned}
 use Rattle.history.specs.History.{IsHistory, Continues, IsOfParties, IsRun, LastStep, HasStood, started, steps_in, run_of}
 use Rattle.history.specs.Views.{Looks}
 
--- A call of the driver as a call of the model.
+-- How a call of the driver is read as a call of the model on values of type T: C is the call, M its room, E its end.
 pub record Calling (T C M E : Type 0) : Type 1 where
   pub start : Start T
-  -- as which of its parties a pass makes it that was this one last
+  -- the parties as which a pass may make the call, given the party that the pass was last, if it has been one
   pub by : Option ℕ → ℕ → Type 0
-  -- what is so of it on a structure of this capacity
+  -- what holds of the call between two steps on a structure of this capacity
   pub stands : ℕ → C → Type 0
   pub flight : C → M → Flight T
   pub answer : E → M → Answer T
-  -- its first load of this word ends it, and it is no call of the history: the last position
+  -- whether loading this word ends the call without a trace in the history: it is the last position or version
   pub skips : C → ℕ → Bool
-  -- what it answers then
+  -- the end of a call that ended so
   pub left : E → Type 0
-  -- what the party's call wrote there since it stood at this place, or since it began
+  -- The events that the party's call has written where it stands,
+  -- since the given place of the call, or else since its begin.
   pub wrote : ℕ → ℕ → Option (Start T × Flight T) → C → M → List (Event T) → Type 0
   pub wrote_all : ℕ → ℕ → Option (Start T × Flight T) → E → M → List (Event T) → Type 0
 
--- a look of a state, which alone changes what its party has
+-- whether the call is a look of a state, which alone changes the state that its party has
 abbrev pub is_state_look : {T : Type 0} → Start T → Bool
 is_state_look (Container GetState) = true
 is_state_look (Container UpdateState) = true
 is_state_look start = false
 
--- the call is none, wherever it stands
+-- the call is no look of a state, wherever it stands
 pub record LeavesState {T C M E : Type 0} (call : Calling T C M E) : Type 0 where
   pub start : is_state_look call.start ≡ false
   pub flight : (c : C) (m : M) → is_looking (Some (call.flight c m)) ≡ false
@@ -67,21 +68,25 @@ module _ {T : Type 0} where
   abbrev pub StepsOnly : (base v : View T) → Type 0
   StepsOnly base v = v.asked + taken_by base.going base.taken ≤ base.asked + v.taken
 
-  -- a call that was not under way began
+  -- the begin of a call, unless it was under way already
   abbrev pub opened : ℕ → Start T → Option (Start T × Flight T) → List (Event T)
   opened p start None = Begun p start ∷ []
   opened p start (Some at) = []
 
-  -- from the one view to the other the party's call began, or went on, and wrote this, and then
-  -- these events came
+  -- from the one view to the other the party's call began, or went on, and wrote this, and then these events came
   pub record Since (p : ℕ) (start : Start T) (wrote last : List (Event T)) (base v : View T)
       : Type 0 where
+    -- what others did before the call began or went on
     pub others : List (Event T)
+    -- what happened since it began or went on
     pub during : List (Event T)
     pub is : v.seen
         ≡ (base.seen ++ others) ++ (opened p start base.going ++ (during ++ last))
+    -- with the whole share nobody else did anything
     pub alone : IsAll base.share → others ≡ []
+    -- the party did nothing before that
     pub others_own : events_by p others ≡ []
+    -- what the party wrote since
     pub during_own : events_by p during ≡ wrote
     pub made : v.made ≡ base.made ++ (opened p start base.going ++ (wrote ++ last))
 
@@ -95,27 +100,37 @@ module _ {T C M E : Type 0} (code : Coding T) (kind : Kind) (call : Calling T C 
   -- on this machine a party of the seat may begin the call
   pub record Starts (base : View T) (c : C) (m : M) (t : Trace T) (owner : ℕ → ℕ) (j : ℕ) : Type 0 where
     pub party : ℕ
+    -- it is a party of this seat
     pub mine : owner party ≡ j
+    -- the pass may make the call as that party
     pub by : call.by base.party party
+    -- on this machine the call begins so
     pub first : first_of kind base.capacity call.start t.world.kept ≡ Some (call.flight c m)
+    -- nothing that is tested of the begin refuses it
     pub may : first_row (rows_as kind base.capacity t.world.kept party call.start) ≡ None
 
   -- the call is about to begin, as one that its family has and does not refuse
   pub record IsFirst (base v : View T) (c : C) (m : M) : Type 0 where
     pub is : v ≡ base
+    -- the party has no call under way
     pub idle : base.going ≡ None
+    -- the pass knows one history alone
     pub fresh : base.other ≡ []
     pub standing : call.stands base.capacity c
+    -- the pass has a share
     pub some : 0 < base.share.part
+    -- the call begins so in a structure of this kind
     pub first : first_of kind base.capacity call.start ((opening_of kind).kept base.capacity)
         ≡ Some (call.flight c m)
+    -- on each machine that fits what the pass made, a party of its seat may begin it
     pub starts : (t : Trace T) (owner : ℕ → ℕ) (j : ℕ) → IsRun code kind base.capacity t → owner j ≡ j
         → IfSome base.party (λ p. owner p ≡ j)
         → ((f : Event T → ℕ) → sum_by f base.made ≡ sum_by (owned owner j f) t.events)
         → Starts base c m t owner j
+    -- it has written nothing yet
     pub wrote : (p : ℕ) → call.wrote base.capacity p None c m []
 
-  -- it is under way
+  -- the call is under way
   pub record IsUnderWay (base v : View T) (c : C) (m : M) : Type 0 where
     pub capacity : v.capacity ≡ base.capacity
     pub standing : call.stands base.capacity c
@@ -140,10 +155,11 @@ module _ {T C M E : Type 0} (code : Coding T) (kind : Kind) (call : Calling T C 
     pub all : IsAll base.share → (f : Event T → ℕ) → sum_by f v.seen ≡ sum_by f v.made
     pub parties : IsOfParties v
 
+  -- the call is about to begin, or under way
   abbrev pub At : (base v : View T) → C → M → Type 0
   At base v c m = IsFirst base v c m ⊎ IsUnderWay base v c m
 
-  -- it was a look, at a word where it is no call
+  -- the call ended with a look at a word, and is none of the history
   pub record LeftOut (base : View T) (e : E) (m : M) (w : View T) : Type 0 where
     pub looked : Looks code kind base.capacity base w
     pub asked : w.asked ≡ base.asked + 1
@@ -160,7 +176,7 @@ module _ {T C M E : Type 0} (code : Coding T) (kind : Kind) (call : Calling T C 
     pub seen : w.seen ≡ trace.events
     pub found : slice_index trace.world.words ask.word ≡ word
 
-  -- it has ended with a step of its own
+  -- the call has ended with a step of its own
   pub record Ends (base : View T) (e : E) (m : M) (w : View T) : Type 0 where
     pub capacity : w.capacity ≡ base.capacity
     pub share : w.share ≡ base.share
@@ -178,8 +194,8 @@ module _ {T C M E : Type 0} (code : Coding T) (kind : Kind) (call : Calling T C 
     pub ran : Continues code kind base.capacity base w
     pub last : LastStep code kind base.capacity party
         (Finished party call.start (call.answer e m)) w.seen
-    -- the party's latest call in the machine is this one; each operation was one of its steps, or it needed none and was
-    -- one look
+    -- the party's latest call in the machine is this one;
+    -- each operation was one of its steps, or it needed none and was one look
     pub named : started (party_of party (run_of code kind base.capacity w.turns).world.latest) ≡ Some call.start
     pub counted : steps_in (run_of code kind base.capacity w.turns).world party ≡ w.taken
     pub took : StepsOnly base w ⊎ (w.asked ≤ base.asked + 1)
@@ -188,21 +204,25 @@ module _ {T C M E : Type 0} (code : Coding T) (kind : Kind) (call : Calling T C 
     pub all : IsAll base.share → (f : Event T → ℕ) → sum_by f w.seen ≡ sum_by f w.made
     pub parties : IsOfParties w
 
-  -- it has ended, or was a look
+  -- the call has ended, or was a look and none of the history
   abbrev pub Over : View T → E → M → View T → Type 0
   Over base e m w = Ends base e m w ⊎ LeftOut base e m w
 
--- of a call that puts questions, and goes on so
+-- A call that puts questions, and that goes on by `after` from what it is answered.
 module _ {T C M E : Type 0} (code : Coding T) (kind : Kind) (after : C → ℕ → After C E) (kept : C → M → ℕ → M) (call : Calling T C M E) where
   -- It stood at a question, and has taken an answer since. The machine is handed that with the call's next step.
   pub record HasHeard (base v : View T) (c : C) (m : M) : Type 0 where
+    -- the question's stage
     pub asking : C
     pub room : M
     pub before : IsUnderWay code kind call base v asking room
     pub asks : is_question (want_of code (call.flight asking room)) ≡ true
+    -- the answer that it has taken
     pub said : Bool
     pub goes : after asking (number_of said) ≡ GoOn c
+    -- what the answer left in its room
     pub keeps : m ≡ kept asking room (number_of said)
 
+  -- the call is about to begin or under way, or has taken an answer that the machine is handed with its next step
   abbrev pub AtAsked : (base v : View T) → C → M → Type 0
   AtAsked base v c m = At code kind call base v c m ⊎ HasHeard base v c m

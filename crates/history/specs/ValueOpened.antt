@@ -19,29 +19,35 @@ first_stores (suc zero) = 1
 first_stores (suc (suc more)) = suc more
 
 module _ {T : Type 0} (value : T) where
+  -- the events of one store of the value by party 0
   abbrev pub stored_once : List (Event T)
   stored_once =
       Begun 0 (Atomic (Store value)) ∷ Acted 0 (Atomic (Store value)) (Truth true)
       ∷ Finished 0 (Atomic (Store value)) (Truth true) ∷ []
 
+  -- party 0 takes the role and stores the value so many times
   abbrev pub stored_times : ℕ → List (Event T)
   stored_times zero =
       Begun 0 (Atomic AcquireProducer) ∷ Finished 0 (Atomic AcquireProducer) (Truth true) ∷ []
   stored_times (suc n) = stored_times n ++ stored_once
 
+  -- the history with which a value opens: party 0 takes the role, stores so many times, and gives the role back
   abbrev pub opened : ℕ → List (Event T)
   opened stores =
       stored_times stores
       ++ Begun 0 (Atomic ReleaseProducer) ∷ Finished 0 (Atomic ReleaseProducer) Done ∷ []
 
-  -- the turns that it takes for that, where a value has so many words: a store loads the version, stores the words, and adds to it
+  -- The turns of one store by party 0, where a value has so many words: it loads the version, stores the words, and
+  -- adds 1 to the version.
   abbrev pub store_turns : ℕ → List (Turn T)
   store_turns size = Begin 0 (Atomic (Store value)) ∷ Next 0 ∷ (replicate (suc (size - 1)) (Next 0) ++ Next 0 ∷ [])
 
+  -- the turns in which party 0 takes the role and stores so many times, where a value has so many words
   abbrev pub stored_turns : ℕ → ℕ → List (Turn T)
   stored_turns size zero = Begin 0 (Atomic AcquireProducer) ∷ Next 0 ∷ []
   stored_turns size (suc n) = stored_turns size n ++ store_turns size
 
+  -- the turns with which a value opens: those, and the two in which the role is given back
   abbrev pub opened_turns : (size stores : ℕ) → List (Turn T)
   opened_turns size stores = stored_turns size stores ++ Begin 0 (Atomic ReleaseProducer) ∷ Next 0 ∷ []
 

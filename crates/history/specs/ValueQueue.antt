@@ -26,21 +26,24 @@ use Rattle.history.specs.Queues.{push_skips}
 use Rattle.history.specs.Rooms.{room_of}
 use Rattle.history.specs.Stages.{Calling}
 
--- a word of the cell of a position
+-- the place `at` of this cell is that of a word of the position's cell
 abbrev pub IsWordOf : (size capacity position cell at : ℕ) → Type 0
 IsWordOf size capacity position cell at =
     (0 < capacity) × (cell ≡ cell_word capacity size position) × (at < size)
 
+-- a push that stores a word stores it to its place in the cell of the write position
 abbrev pub PushPlace : (size capacity : ℕ) → PushStage → Type 0
 PushPlace size capacity (pushes.StoresCell write cell at) =
     IsWordOf size capacity write cell at
 PushPlace size capacity stage = Unit {0}
 
+-- a pop that loads a word loads it from its place in the cell of the read position
 abbrev pub PopPlace : (size capacity : ℕ) → PopStage → Type 0
 PopPlace size capacity (pops.LoadsCell read cell at) =
     IsWordOf size capacity read cell at
 PopPlace size capacity stage = Unit {0}
 
+-- a peek that loads a word loads it from its place in the cell of a position
 abbrev pub PeekPlace : (size capacity : ℕ) → PeekStage → Type 0
 PeekPlace size capacity (peeks.LoadsCell cell at) = (position : ℕ) × IsWordOf size capacity position cell at
 PeekPlace size capacity stage = Unit {0}
@@ -52,11 +55,14 @@ module _ {T : Type 0} where
       Published p (Value v) ∷ Acted p (Queues (Push v)) (Truth true) ∷ []
   value_push_wrote p v false = Acted p (Queues (Push v)) (Truth false) ∷ []
 
+  -- what a pop has written once it has ended, with this value or none
   abbrev pub value_pop_wrote : ℕ → T → Bool → List (Event T)
   value_pop_wrote p v true = HandedOut p (Value v) ∷ Acted p (Queues Pop) (Popped v) ∷ []
   value_pop_wrote p v false = Acted p (Queues Pop) PoppedNone ∷ []
 
 module _ {T : Type 0} (code : Coding T) where
+  -- A push of this value, by any party. It ends with whether there was room, and writes its events as it ends. A push
+  -- that loads the last write position answers false, and is none of the history.
   abbrev pub pushes_value : T → Calling T (Pushing T) (Unit {0}) Bool
   pushes_value v =
       record {
@@ -64,20 +70,25 @@ module _ {T : Type 0} (code : Coding T) where
         by = λ was p. Unit {0};
         stands = λ capacity c.
             (capacity < 2 ^ 32) × (c.capacity ≡ capacity) × PushPlace code.size capacity c.stage;
+        -- loading the last position or version ends it outside the history
         skips = λ c n. push_skips c.stage n;
         left = λ e. e ≡ false;
         flight = λ c m. flights.Queues
             (Values (rings.Push (record { call = c; given = v; room = m })));
         answer = λ e m. Truth e;
+        -- under way it has written nothing yet
         wrote = λ capacity p from c m es. es ≡ [];
         wrote_all = λ capacity p from e m es. es ≡ value_push_wrote p v e;
       }
 
--- a pop and a peek read by way of a room that has these words
+-- A pop and a peek read by way of a room that has these words.
 module _ {T R : Type 0} (code : Coding T) (words_in : R → List ℕ) where
+  -- the value that the words in the room make
   abbrev pub value_there : R → T
   value_there room = value_in code.value_of code.size (words_in room)
 
+  -- A pop of a value, by any party. It ends with whether it took a value out, whose words are then in its room, and
+  -- writes its events as it ends.
   abbrev pub pops_value : Calling T (Popping T R) R Bool
   pops_value =
       record {
@@ -85,6 +96,7 @@ module _ {T R : Type 0} (code : Coding T) (words_in : R → List ℕ) where
         by = λ was p. Unit {0};
         stands = λ capacity c.
             (capacity < 2 ^ 32) × (c.capacity ≡ capacity) × PopPlace code.size capacity c.stage;
+        -- no word that it loads ends it outside the history
         skips = λ c n. false;
         left = λ e. ⊥;
         flight = λ c m. flights.Queues
@@ -95,11 +107,13 @@ module _ {T R : Type 0} (code : Coding T) (words_in : R → List ℕ) where
               room = room_of code.size (words_in m);
             })));
         answer = λ e m. popped_value (pop_answer (value_there m) e);
+        -- under way it has written nothing yet
         wrote = λ capacity p from c m es. es ≡ [];
         wrote_all = λ capacity p from e m es. es ≡ value_pop_wrote p (value_there m) e;
       }
 
-  -- a peek writes nothing
+  -- A peek at a value, by the party that the pass has been, if it has been one. It ends with whether there was one,
+  -- whose words are then in its room, and writes nothing between its begin and its end.
   abbrev pub peeks_value : Calling T (Peeking T R) R Bool
   peeks_value =
       record {
@@ -107,6 +121,7 @@ module _ {T R : Type 0} (code : Coding T) (words_in : R → List ℕ) where
         by = λ was p. Unit {0};
         stands = λ capacity c.
             (capacity < 2 ^ 32) × (c.capacity ≡ capacity) × PeekPlace code.size capacity c.stage;
+        -- no word that it loads ends it outside the history
         skips = λ c n. false;
         left = λ e. ⊥;
         flight = λ c m. flights.Queues
@@ -117,6 +132,7 @@ module _ {T R : Type 0} (code : Coding T) (words_in : R → List ℕ) where
               room = room_of code.size (words_in m);
             })));
         answer = λ e m. popped_value (pop_answer (value_there m) e);
+        -- under way it has written nothing yet
         wrote = λ capacity p from c m es. es ≡ [];
         wrote_all = λ capacity p from e m es. es ≡ [];
       }

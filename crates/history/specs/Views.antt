@@ -13,7 +13,7 @@ use Rattle.history.specs.Known.{events_by}
 use Rattle.history.specs.History.{IsBeginning, IsHistory, IsOfParties, IsRun, AreFirst, Continues}
 
 module _ {T : Type 0} where
-  -- the first seat is the party 0
+  -- the view with which a structure opens: the first seat is party 0, has the whole share, and knows nothing
   abbrev pub first_view : ℕ → View T
   first_view capacity =
       record {
@@ -33,7 +33,9 @@ module _ {T : Type 0} where
         others = 0;
       }
 
-  -- the split is one operation of the pass that is split, and the join one of the pass that takes in, with those of the other
+  -- The view of the pass that a split makes: it has half of the share, has seen
+  -- the same, and has made nothing. The split is one operation of the pass that is
+  -- split, and the join one of the pass that takes in, with those of the other.
   abbrev pub right_view : View T → View T
   right_view v =
       record {
@@ -53,9 +55,13 @@ module _ {T : Type 0} where
         others = 0;
       }
 
+  -- The view of a pass that was cut: half of its share is left,
+  -- and it asked for one word more, which is no step of a call.
   abbrev pub left_view : View T → View T
   left_view v = record v { share = half_of v.share; asked = v.asked + 1; aside = v.aside + 1 }
 
+  -- The view of a pass into which another is put: its share is both shares together, it made what both made, and it
+  -- goes on as the first. The join itself asked for one word, which is no step of a call.
   abbrev pub joined_view : View T → View T → View T
   joined_view v w =
       record {
@@ -75,6 +81,7 @@ module _ {T : Type 0} where
         others = v.others;
       }
 
+  -- the view of the pass that was put into another: it has no share, and knows nothing
   abbrev pub spent_view : View T
   spent_view =
       record {
@@ -119,16 +126,18 @@ module _ {T : Type 0} where
     pub apart : v.other ≡ [] → 0 < v.share.part → (p : ℕ) → parties.owner p ≡ parties.seat
         → events_by p mine.rest ≡ []
 
-  -- the same, where the look is one operation
+  -- `Looks`, where the look is one operation
   abbrev pub LooksOnce : Coding T → Kind → ℕ → View T → View T → Type 0
   LooksOnce code kind size v w = Looks code kind size v w × (w.asked ≡ v.asked + 1)
 
   -- a look at this word, and what the machine had there
   pub record LooksAt (code : Coding T) (kind : Kind) (size word : ℕ) (v : View T) (found : ℕ) (w : View T) : Type 0 where
     pub looks : Looks code kind size v w
+    -- the machine that it looked at
     pub trace : Trace T
     pub run : IsRun code kind size trace
     pub seen : w.seen ≡ trace.events
+    -- its word had this value
     pub word_is : word < length trace.world.words → found ≡ slice_index trace.world.words word
 
   -- Where another may write for a call under way, of which the look would not know that it has seen it, nothing is

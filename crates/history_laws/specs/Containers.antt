@@ -24,7 +24,7 @@ module _ {T : Type 0} where
   is_for owner (Container (Replace index value o)) = o == owner
   is_for owner start = false
 
-  -- such a call is under way
+  -- whether a call that adds, removes or replaces for this owner is under way
   abbrev pub is_acting : ℕ → Span T → Bool
   is_acting owner (Open start wrote) = is_for owner start
   is_acting owner span = false
@@ -35,6 +35,7 @@ module _ {T : Type 0} where
   BeginsRight before (Begun p start) = (owner : ℕ) → is_for owner start ≡ true → is_gone Word owner before ≡ false
   BeginsRight before e = Unit {0}
 
+  -- each call of the run begins when it may
   abbrev pub IsFaithful : List (Event T) → Type 0
   IsFaithful events = Each BeginsRight events
 
@@ -51,8 +52,8 @@ module _ {T : Type 0} where
 
   -- ---- no number comes round
 
-  -- By how much the numbers of elements, and the number of changes, go up at most: a call that places a value counts
-  -- it and the change, one that hides some counts the change, and each that is hidden counts once.
+  -- By how much the numbers of elements, and the number of changes, go up at most: a call that places a value counts it
+  -- and the change, one that hides some counts the change, and each that is hidden counts once.
   abbrev pub rise : Event T → ℕ
   rise (Begun p (Container (Add value owner))) = 2
   rise (Begun p (Container (Replace index value owner))) = 2
@@ -61,10 +62,11 @@ module _ {T : Type 0} where
   rise (Hidden p index) = 1
   rise e = 0
 
+  -- by how much the numbers went up at most in these events
   abbrev pub rises : List (Event T) → ℕ
   rises events = sum_by rise events
 
-  -- neither these nor the counter of its set can have come round
+  -- neither the numbers of the container nor the counter of its set can have come round
   abbrev pub IsYoung : List (Event T) → Type 0
   IsYoung events = 3 * changes events + rises events < 2 ^ 64 - 3
 
@@ -73,18 +75,26 @@ module _ {T : Type 0} where
   -- Each acts for owners who are there, and on what is his; no two calls that may lock overlap, each of which could
   -- make the other raise the counter any number of times; and no number has come round.
   pub record IsOrderly (events : List (Event T)) : Type 0 where
+    -- each gives back and replaces what is his
     pub well_formed : IsWellFormed events
+    -- nobody acts for an owner who is gone
     pub faithful : IsFaithful events
+    -- no two calls that may lock overlap
     pub apart : LocksApart events
+    -- no number can have come round
     pub young : IsYoung events
 
   -- No index is granted that is held. A value is placed where nothing stands, and hidden where something does; what is
   -- copied stands there, whole. An add or a replace that succeeded has placed its value, and what stood at an index
   -- that a call has freed is hidden before that call ends.
   pub record IsContained (events : List (Event T)) : Type 0 where
+    -- no index is granted that is held
     pub holders : Each HoldsRight events
+    -- values are placed, hidden and copied right
     pub contents : Each ContainsRight events
+    -- an add or a replace that succeeded has placed its value
     pub placed : Each PlacesRight events
+    -- what stood at an index that was freed is hidden
     pub hidden : Each HidesRight events
 
   -- ---- histories in which little can go wrong
@@ -96,6 +106,7 @@ module _ {T : Type 0} where
   recovery (Begun p (Container (Recover owner mode))) = 1
   recovery e = 0
 
+  -- how many of these events tell that an owner is gone
   abbrev pub recoveries : List (Event T) → ℕ
   recoveries events = sum_by recovery events
 
@@ -106,5 +117,6 @@ module _ {T : Type 0} where
   removal (Finished p (Container (Replace index value owner)) answer) = 1
   removal e = 0
 
+  -- how many of these events free an index, or begin or end a replace
   abbrev pub removals : List (Event T) → ℕ
   removals events = sum_by removal events

@@ -9,11 +9,12 @@ use Rattle.model.specs.Families.Indices.Robust.Promises.{MayGiveBack}
 use Rattle.model.specs.Families.Indices.Robust.Reading.{SetAct, Fills, set_acts, holder_of}
 use Rattle.model.specs.Reading.{Each, Span, Open, span_of}
 
--- it has filled the index first of all
+-- whether the call has filled the index first of all
 abbrev pub has_filled : ℕ → List SetAct → Bool
 has_filled i (Fills index owner ∷ rest) = index == i
 has_filled i all = false
 
+-- whether a call has done nothing to the set
 abbrev pub has_done_nothing : List SetAct → Bool
 has_done_nothing [] = true
 has_done_nothing all = false
@@ -36,18 +37,21 @@ module _ {T : Type 0} where
       (q : ℕ) → is_at index (span_of q before) ≡ false
   MayFree p index before span = MayGiveBack p index before span
 
+  -- where an event frees the index, the call might free it
   abbrev pub FreesRightAt : ℕ → List (Event T) → Event T → Type 0
   FreesRightAt i before (FreedOf p index owner) = index ≡ i → MayFree p index before (span_of p before)
   FreesRightAt i before e = Unit {0}
 
+  -- each event that frees the index is of a call that might
   abbrev pub IsFreedRight : ℕ → List (Event T) → Type 0
   IsFreedRight i events = Each (FreesRightAt i) events
 
-  -- how often the index was freed
+  -- 1 for an event that frees the index
   abbrev pub freeing : ℕ → Event T → ℕ
   freeing i (FreedOf p index owner) = if index == i then 1 else 0
   freeing i e = 0
 
+  -- how often the index was freed
   abbrev pub times_freed : ℕ → List (Event T) → ℕ
   times_freed i events = sum_by (freeing i) events
 
@@ -56,5 +60,6 @@ module _ {T : Type 0} where
   GrantsRightAt i before (Granted p index owner) = index ≡ i → holder_of index before ≡ None
   GrantsRightAt i before e = Unit {0}
 
+  -- the index is granted only while nobody holds it
   abbrev pub IsHeldByOne : ℕ → List (Event T) → Type 0
   IsHeldByOne i events = Each (GrantsRightAt i) events

@@ -24,11 +24,13 @@ module _ {T : Type 0} where
     pub before : List (Event T)
     pub since : List (Event T)
     pub is : events ≡ before ++ Begun p (Indices start) ∷ since
+    -- the party has begun no call since
     pub within : BeginsNone p since
+    -- what it did to the set since is so
     pub did : IsSo (set_acts (events_by p since))
 
-  -- A call that ends has done what its answer says, and nothing else: one that answers an index has claimed it, one that
-  -- answers none has claimed nothing, and a release has freed its index and locked the set where it says so.
+  -- A call that ends has done what its answer says, and nothing else: one that answers an index has claimed it, one
+  -- that answers none has claimed nothing, and a release has freed its index and locked the set where it says so.
   abbrev pub DidAsAnswered : List (Event T) → Event T → Type 0
   DidAsAnswered before (Finished p (Indices start) answer) =
       HasDone p start (λ acts. done_by start answer ≡ Some acts) before

@@ -1,5 +1,5 @@
--- What a turn of a container tells, and what of it where something more holds of the run: that it is well-formed, or well-formed and
--- faithful.
+-- What a turn of a container tells, and what of it where something more holds of the run:
+-- that it is well-formed, or well-formed and faithful.
 use Rattle.std.specs.Prelude.{◌≡◌, ◌≢◌, ℕ, ◌+◌, false, Some, List, ◌∷◌, [], ◌++◌}
 use Rattle.steps.specs.declared.container.state.ContainerState.{ContainerState}
 use Rattle.model.specs.declared.event.Answer.{Answer}
@@ -20,34 +20,38 @@ use Rattle.model.specs.Families.Indices.Robust.Promises.{IsFilledWith, IsCount, 
 use Rattle.model.specs.World.{Trace}
 
 module _ {T : Type 0} (well_formed : Type 0) where
-  -- the indices below the bound that a find has counted
+  -- the indices below the bound that a find has counted, and, in a well-formed run, the values there that it has copied
   abbrev pub CountsIf : (p owner bound number : ℕ) → List (Event T) → Type 0
   CountsIf p owner bound number events =
       IsCount p (IsFilledWith owner) bound number events
       × (well_formed → IsFoundWhole p owner bound number events)
 
+  -- a find that ends in a turn, other than a no to its party, has counted the indices of the whole container
   abbrev pub FindsAllIf : Trace T → Turn T → Trace T → Type 0
   FindsAllIf old turn new =
       (p owner number : ℕ) (ends : EndsFind p owner number old new)
       → turn ≢ Decide p false
       → CountsIf p owner old.world.capacity number (old.events ++ ends.wrote)
 
-  -- a find that a no has ended has come to those up to the one that it asked about
+  -- a find that its caller has ended with the decision no came to the indices up to the one that it asked about
   pub record StoppedIf (p owner : ℕ) (old new : Trace T) : Type 0 where
+    -- the index that it asked about
     pub index : ℕ
     pub value : T
     pub number : ℕ
     pub asked : question_at old p ≡ Some (index, value)
     pub ends : new.events
         ≡ old.events ++ Finished p (Container (Find owner)) (Number number) ∷ []
+    -- it has counted the indices up to that one
     pub counts : CountsIf p owner (index + 1) number old.events
 
+  -- a find that its caller ends with the decision no has counted the indices up to the one that it asked about
   abbrev pub FindsUpToIf : Trace T → Turn T → Trace T → Type 0
   FindsUpToIf old turn new =
       (p owner : ℕ) → turn ≡ Decide p false → IsIn p (Container (Find owner)) old
       → StoppedIf p owner old new
 
-  -- a look that ends: its state by its answer, and by what stands
+  -- what holds of the state that a look leaves: by its answer, and in a well-formed run by what stands
   abbrev pub LooksRightIf : Trace T → Turn T → Trace T → Type 0
   LooksRightIf old turn new =
       (p : ℕ) (start : ContainerStart T) (answer : Answer T) (state : ContainerState T)
@@ -58,11 +62,20 @@ module _ {T : Type 0} (well_formed : Type 0) where
       → IsCurrent p old.world.capacity state new.events
       × MomentsOfState p old.world.capacity start answer state new.events)
 
+  -- What a turn of a container tells: of finds and looks that end, of questions, of the parties' states, and of the
+  -- indices that a recovery visits. Some parts hold only where the run is well-formed.
   pub record TellsIf (old : Trace T) (turn : Turn T) (new : Trace T) : Type 0 where
+    -- a find that ends in a turn other than the decision no has counted all
     pub finds : FindsAllIf old turn new
+    -- a find that the decision no ends has counted up to its question
     pub finds_up_to : FindsUpToIf old turn new
+    -- which questions are put, and what a decision does
     pub questions : QuestionsRight old turn new
+    -- a look that ends has left the right state
     pub looks : LooksRightIf old turn new
+    -- a look that ends leaves a state
     pub leaves : LeavesState old turn new
+    -- no other turn changes a party's state
     pub states : KeepsStates old turn new
+    -- a recovery that began after the lock comes to no index
     pub visits : VisitsUnlocked old new

@@ -1,5 +1,5 @@
--- What holds of a container's recoveries and answers, by what an owner is gone: by his death, or by the word that the begin
--- of a recovery is.
+-- What holds of a container's recoveries and answers, by what an owner is gone: by his death, or by the word that the
+-- begin of a recovery is.
 use Rattle.std.specs.Prelude.{◌≡◌, ◌≢◌, ◌⊎◌, ℕ, ◌<◌, Bool, true, false, Some, List}
 use Rattle.steps.specs.declared.container.enums.ContainerAddFailure.TheVariants as failures
 use Rattle.steps.specs.declared.indices.enums.ReleaseMode.{ReleaseMode}
@@ -23,8 +23,8 @@ use Rattle.laws_robust.specs.Gone.{GoneBy, is_gone, IsHonestBy}
 module _ {T : Type 0} where
   -- ---- recovery
 
-  -- The recovery's owner is gone. It asks about an index that he filled at a moment of the call, and nothing if it began
-  -- after the lock.
+  -- The recovery's owner is gone. It asks about an index that he filled at a moment of the call, and nothing if it
+  -- began after the lock.
   abbrev pub AsksBy : GoneBy → List (Event T) → Event T → Type 0
   AsksBy by before (Asked p index owner) =
       HeldSometime p (IsFilledWith owner index) before × HeldSometime p IsUnlocked before
@@ -39,12 +39,14 @@ module _ {T : Type 0} where
       × (IsOneOf (Yes index owner) (set_acts_of p before) ⊎ WasShown p index before)
   FreedBy by p index owner before span = Unit {0}
 
+  -- An index that a recovery frees, it frees for an owner who is gone,
+  -- and was told so or shown that nothing stood there.
   abbrev pub RecoversBy : GoneBy → List (Event T) → Event T → Type 0
   RecoversBy by before (FreedOf p index owner) = FreedBy by p index owner before (span_of p before)
   RecoversBy by before e = Unit {0}
 
-  -- It asked about each index that was filled with its owner through the whole call, until the call itself freed it, or
-  -- was shown it; and in an honest run none that it was told to free, or was shown, has that owner.
+  -- The recovery asked about each index that was filled with its owner through the whole call, until the call itself
+  -- freed it, or was shown it. In an honest run no index that it was told to free, or was shown, has that owner.
   pub record HasRecoveredBy (by : GoneBy) (p owner : ℕ) (events : List (Event T)) : Type 0 where
     pub gone : IsHonestBy by events → (index : ℕ)
         → IsOneOf (Yes index owner) (set_acts_of p events) ⊎ WasShown p index events
@@ -54,15 +56,15 @@ module _ {T : Type 0} where
 
   -- ---- answers
 
-  -- in the mode that locks, some index was filled after each that it freed
+  -- in the mode that locks, some index was filled after each that the recovery freed, unless the counter may be worn
   abbrev pub FilledSinceEachBy : Type 0 → ReleaseMode → (p owner : ℕ) → List (Event T) → Type 0
   FilledSinceEachBy worn LockIfLastIndex p owner events =
       (index : ℕ) → IsOneOf (Frees index owner) (set_acts_of p events)
       → worn ⊎ FilledSinceFreed p owner index events
   FilledSinceEachBy worn Default p owner events = Unit {0}
 
-  -- What an answer says; where the counter may be worn, at its end by now, an add that found no place and a lock that was
-  -- not made say no more than that it is.
+  -- What an answer says; where the counter may be worn, at its end by now, an add that found no place and a lock that
+  -- was not made say no more than that it is.
   abbrev pub AnswersBy : GoneBy → Type 0 → ℕ → List (Event T) → Event T → Type 0
   AnswersBy by worn capacity before (Finished p (Container (Add value owner)) (NoPlace failures.OutOfSpace)) =
       IsUnlocked before

@@ -21,44 +21,60 @@ use Rattle.laws_container.specs.Gone.{AsksBy, RecoversBy, AnswersBy, acts_for_go
 module _ {T : Type 0} where
   -- ---- a faithful run: nobody takes a step for an owner who is gone
 
+  -- whether the call under way acts for an owner who is gone
   abbrev pub is_for_gone : List (Event T) → Option (Flight T) → Bool
   is_for_gone events (Some (flights.Container flight)) = acts_for_gone Word events flight
   is_for_gone events flight = false
 
+  -- whether the turn is a step for an owner who is gone
   abbrev pub steps_for_gone : Trace T → Turn T → Bool
   steps_for_gone t (Next p) = is_for_gone t.events (flight_in t.world p)
   steps_for_gone t turn = false
 
+  -- whether none of these turns is a step for an owner who is gone
   abbrev pub is_faithful : List (Turn T) → Trace T → Bool
   is_faithful [] t = true
   is_faithful (turn ∷ turns) t = not (steps_for_gone t turn) && is_faithful turns (attempt_open t turn)
 
+  -- no turn of the run is a step for an owner who is gone
   abbrev pub IsFaithful : (t : Trace T) → IsReachedOpen t → Type 0
   IsFaithful t r =
       is_faithful r.turns (opening t.world.coding t.world.kind t.world.capacity t.world.parties) ≡ true
 
-  -- it is, and of so few turns that no number of an element has come round
+  -- the run is faithful, and of so few turns that no number of an element has come round
   pub record IsFaithfulRun (t : Trace T) (r : IsReachedOpen t) : Type 0 where
     pub faithful : IsFaithful t r
     pub few : t.world.turns < 2 ^ 64 - 2
 
   -- ---- what holds of the machine
 
-  -- What its cells hold and whether it is locked, by its events; what each event says; that nobody has died; what is asked
-  -- and what a state at rest shows was copied. Who holds an index, in a run that is well-formed and honest, as a faithful one is;
-  -- and what its elements hold, in one that is well-formed, faithful and of few turns.
+  -- What its cells hold and whether it is locked, by its events; what each event says; that nobody has died; what is
+  -- asked and what a state at rest shows was copied. Who holds an index, in a run that is well-formed and honest, as a
+  -- faithful one is; and what its elements hold, in one that is well-formed, faithful and of few turns.
   pub record IsOpenContainer (t : Trace T) (r : IsReachedOpen t) : Type 0 where
+    -- indices are filled, granted, freed and locked right
     pub does : Each (SetDoes t.world.capacity) t.events
+    -- recoveries ask right
     pub asks : Each (AsksBy Word) t.events
+    -- recoveries free right
     pub recovers : Each (RecoversBy Word) t.events
+    -- each answer is right
     pub answers : Each (AnswersBy Word (slice_index t.world.words 0 ≡ greatest) t.world.capacity) t.events
+    -- each cell says for whom its index is filled
     pub cells : (index : ℕ) → index < t.world.capacity
         → slice_index t.world.words (cell_word index) ≡ cell_of (filled_of index t.events)
+    -- the counter says whether the container is locked
     pub lock : (slice_index t.world.words 0 == locked) ≡ is_locked t.events
+    -- nobody has died
     pub lives : (owner : ℕ) → is_dead owner t.events ≡ false
     pub dead : KeepsDead t.world.kept t.events
+    -- each question is about the value that was copied last
     pub questions : AsksCopies t
+    -- each state shows what its party has copied
     pub states : ShowsCopies t.world t.events
+    -- in a well-formed and honest run no index is granted that is held
     pub holds : IsWellFormed t.events → IsHonest t.events → Each HoldsRight t.events
+    -- a faithful run is honest
     pub honest : IsFaithful t r → IsHonest t.events
+    -- what holds in a well-formed and faithful run beside that
     pub contained : IsWellFormedRun t → IsFaithfulRun t r → IsContained t

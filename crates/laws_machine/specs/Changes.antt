@@ -15,6 +15,7 @@ pub record Seen : Type 0 where
   pub least : ℕ  -- when the look began that last brought its state up to date
   pub most : ℕ  -- when that look ended
 
+-- what a party's looks have met once one has brought its state up to date
 abbrev pub up_to_date : Seen → Seen
 up_to_date s = record s { least = s.begun; most = s.changes }
 
@@ -27,15 +28,18 @@ module _ {T : Type 0} where
   change_in (Finished p (Container (Recover owner mode)) (State state)) = 1
   change_in e = 0
 
+  -- how many changes these events made
   abbrev pub changes_of : List (Event T) → ℕ
   changes_of events = fold (λ n e. n + change_in e) 0 events
 
-  -- so many says the container's number of changes
+  -- the container's number of changes is that of the changes in the events
   abbrev pub CountsChanges : Trace T → Type 0
   CountsChanges t = slice_index t.world.words (change_word t.world.capacity) ≡ changes_of t.events
 
   -- ---- what a look has met
 
+  -- What the party's looks have met, after an event. `begun` is the number of changes as its last look began; a look
+  -- that brings its state up to date sets `least` to that number, and `most` to the number of changes as it ends.
   abbrev pub seen_after : ℕ → Seen → Event T → Seen
   seen_after p s (Begun q (Container GetState)) =
       if q == p then record s { begun = s.changes } else s
@@ -47,12 +51,13 @@ module _ {T : Type 0} where
       if q == p then up_to_date s else s
   seen_after p s e = record s { changes = s.changes + change_in e }
 
+  -- what the party's looks have met in these events
   abbrev pub seen_by : ℕ → List (Event T) → Seen
   seen_by p events =
       fold (seen_after p) (record { changes = 0; begun = 0; least = 0; most = 0 }) events
 
-  -- The look meant is the party's last that brought its state up to date. An update that answers true has met a
-  -- change that ended after that look began. Where one answers false, no change has ended since that look did.
+  -- The look meant is the party's last that brought its state up to date. An update that answers true has met a change
+  -- that ended after that look began. Where one answers false, no change has ended since that look did.
   abbrev pub MeetsChanges : List (Event T) → Event T → Type 0
   MeetsChanges before (Finished p (Container UpdateState) (Truth true)) =
       (seen_by p before).least < changes_of before

@@ -16,5 +16,6 @@ module _ {T : Type 0} where
   queue_in (registries.Loan book) = Some book.queue
   queue_in kept = None
 
+  -- the submission queue keeps its capacity
   abbrev pub KeepsQueue : (old new : World T) → Type 0
   KeepsQueue old new = queue_in new.kept ≡ queue_in old.kept

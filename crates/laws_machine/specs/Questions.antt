@@ -22,6 +22,7 @@ abbrev pub index_if : (owner index : ℕ) → Option ℕ → Option ℕ
 index_if owner index None = None
 index_if owner index (Some other) = if other == owner then Some index else None
 
+-- the load of the cell of the index
 abbrev pub loads_cell : ℕ → Ask
 loads_cell index = record { word = cell_word index; op = Load }
 
@@ -44,6 +45,7 @@ module _ {T : Type 0} where
       owned_of new.coding (flight_in new p) ≡ Some (index, owner)
   AsksIt new e = Unit {0}
 
+  -- what a turn writes that a party asks, it asks on the machine that the turn leaves
   abbrev pub AsksAtOnce : (old new : Trace T) → Type 0
   AsksAtOnce old new =
       (wrote : List (Event T)) → new.events ≡ old.events ++ wrote

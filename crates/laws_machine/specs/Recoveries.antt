@@ -17,7 +17,8 @@ module _ {T : Type 0} where
       (index owner : ℕ) → IsOneOf (Frees index owner) (set_acts_of p events)
       → FilledSinceFreed p owner index events
 
-  -- so it was of a recovery in the mode that locks, which answers that it is not locked
+  -- Where a recovery in the mode that locks answers that the set is not locked,
+  -- some index was filled after each that it freed.
   abbrev pub LocksRight : List (Event T) → Event T → Type 0
   LocksRight before (Finished p (Robust (Recover LockIfLastIndex)) (State Unlocked)) =
       FilledSinceEach p before

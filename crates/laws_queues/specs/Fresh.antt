@@ -24,7 +24,7 @@ abbrev pub IsFresh : ℕ → pushes.PushStage → Type 0
 IsFresh write pushes.TheVariants.LoadsWrite = write < 2 ^ 64 - 1
 IsFresh write stage = Unit {0}
 
--- the same of an overflowing queue
+-- a push of an overflowing queue that is to load the write position does not find the last
 abbrev pub IsFreshOver : ℕ → PushStage → Type 0
 IsFreshOver write overflow_pushes.LoadsWrite = write < 2 ^ 64 - 1
 IsFreshOver write stage = Unit {0}
@@ -35,34 +35,35 @@ IsFreshStore version stores.LoadsVersion = version < 2 ^ 64 - 1
 IsFreshStore version stage = Unit {0}
 
 module _ {T : Type 0} where
-  -- of any call of a queue, which has found this
+  -- a call of a queue whose word has this old value is no push that finds the last position
   abbrev pub IsFreshAt : ℕ → QueueFlight T → Type 0
   IsFreshAt found (Indices (rings.Push run)) = IsFresh found run.call.stage
   IsFreshAt found (Values (rings.Push run)) = IsFresh found run.call.stage
   IsFreshAt found (Overflow (overflows.Push run)) = IsFreshOver found run.call.stage
   IsFreshAt found flight = Unit {0}
 
-  -- of any call of a machine
+  -- A call whose word has this old value is no push that finds the last position,
+  -- and no store that finds the last version.
   abbrev pub IsFreshCall : ℕ → Flight T → Type 0
   IsFreshCall found (flights.Queues flight) = IsFreshAt found flight
   IsFreshCall found (flights.Atomic (values.Store run)) =
       IsFreshStore found run.call.stage
   IsFreshCall found flight = Unit {0}
 
-  -- the turn is no such push, and no such store
+  -- the turn is no step of a push that finds the last position, nor of a store that finds the last version
   abbrev pub IsFreshTurn : Trace T → Turn T → Type 0
   IsFreshTurn t (Next p) =
       (flight : Flight T) → flight_in t.world p ≡ Some flight
       → IsFreshCall (old_of t.world.words (ask_of (want_of t.world.coding flight))) flight
   IsFreshTurn t turn = Unit {0}
 
-  -- each of these turns that is taken from here may be so
+  -- each of these turns that is not refused, from here on, is such a turn
   abbrev pub AllMay : (Trace T → Turn T → Type 0) → List (Turn T) → Trace T → Type 0
   AllMay May [] t = Unit {0}
   AllMay May (turn ∷ turns) t =
       (call_refusal t.world turn ≡ None → May t turn) × AllMay May turns (attempt_on t turn)
 
--- such turns lead here from the opening
+-- turns of which none finds the last position or the last version lead here from the opening
 pub record IsFreshRun {T : Type 0} (t : Trace T) : Type 0 where
   pub turns : List (Turn T)
   pub is : t

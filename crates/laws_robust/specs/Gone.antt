@@ -1,6 +1,6 @@
 -- Who is gone, and what nobody does for him. Where owners die, gone are the dead. Where nobody sees a death, as between
--- threads, gone are also those of whom a recovery was told to free an index, and those for whom a container's recovery was
--- begun: its yes, or its begin, is the word that they are.
+-- threads, gone are also those of whom a recovery was told to free an index, and those for whom a container's recovery
+-- was begun: its yes, or its begin, is the word that they are.
 use Rattle.std.specs.Prelude.{◌≡◌, ◌≢◌, ◌⊎◌, ℕ, ◌<◌, ◌==◌, ◌||◌, Bool, true, false, Some, List, fold}
 use Rattle.steps.specs.declared.indices.enums.ReleaseMode.TheVariants.{LockIfLastIndex}
 use Rattle.steps.specs.declared.indices.enums.ReleaseState.TheVariants.{Unlocked}
@@ -17,13 +17,14 @@ use Rattle.model.specs.Families.Indices.Robust.Reading.{Asks, Yes, filled_of, is
 use Rattle.model.specs.Moments.{HeldSometime}
 use Rattle.model.specs.Reading.{Each, Span, Open, span_of}
 
--- by what an owner is gone
+-- what makes an owner gone: that he has died, or that a recovery was told so
 pub data GoneBy : Type 0 where
   Death : GoneBy
   Word : GoneBy
 
 module _ {T : Type 0} where
-  -- he has died, a recovery was told to free an index of his, or a container's recovery was begun for him
+  -- Whether the owner is gone after an event: he has died, a recovery was told to free an index of his, or a
+  -- container's recovery was begun for him.
   abbrev pub gone_after : ℕ → Bool → Event T → Bool
   gone_after owner gone (Died o) = (o == owner) || gone
   gone_after owner gone (Told p index o) = (o == owner) || gone
@@ -31,12 +32,14 @@ module _ {T : Type 0} where
       (o == owner) || gone
   gone_after owner gone e = gone
 
+  -- whether the owner is gone after these events
   abbrev pub is_gone : GoneBy → ℕ → List (Event T) → Bool
   is_gone Death owner events = is_dead owner events
   is_gone Word owner events = fold (gone_after owner) false events
 
   -- ---- an honest run: nobody acts for an owner who is gone
 
+  -- where the party's call under way is a release or a remove, its owner is not gone
   abbrev pub GivesBackRight : ℕ → List (Event T) → Span T → Type 0
   GivesBackRight owner before (Open (Robust (Release i o mode)) wrote) =
       is_gone Word owner before ≡ false
@@ -44,7 +47,7 @@ module _ {T : Type 0} where
       is_gone Word owner before ≡ false
   GivesBackRight owner before span = Unit {0}
 
-  -- no index is filled or granted for him, or given back, and no add for him ends with one
+  -- no index is filled, granted or given back for an owner who is gone, and no add for him ends with one
   abbrev pub ActsForRight : List (Event T) → Event T → Type 0
   ActsForRight before (Filled p index owner) = is_gone Word owner before ≡ false
   ActsForRight before (Granted p index owner) = is_gone Word owner before ≡ false
@@ -53,39 +56,41 @@ module _ {T : Type 0} where
       is_gone Word owner before ≡ false
   ActsForRight before e = Unit {0}
 
+  -- nobody acts for an owner who is gone
   abbrev pub IsHonest : List (Event T) → Type 0
   IsHonest events = Each ActsForRight events
 
-  -- where owners die the machine refuses what is not
+  -- a run is honest; where owners die this asks for nothing, since the machine refuses what is not
   abbrev pub IsHonestBy : GoneBy → List (Event T) → Type 0
   IsHonestBy Death events = Unit {0}
   IsHonestBy Word events = IsHonest events
 
-  -- of whom holds an index is spoken in a run that is well-formed too
+  -- a run is well-formed and honest: of such runs it is said who holds an index
   abbrev pub IsCalm : GoneBy → List (Event T) → Type 0
   IsCalm by events = IsWellFormed events × IsHonestBy by events
 
   -- ---- what a recovery is told, and how it answers
 
-  -- where owners die it is told to free an index of a dead one
+  -- a recovery may be told to free an index of this owner: where owners die, of one who is dead
   abbrev pub MayBeTold : GoneBy → ℕ → List (Event T) → Type 0
   MayBeTold Death owner before = is_dead owner before ≡ true
   MayBeTold Word owner before = Unit {0}
 
+  -- a recovery asks right, and is told to free only indices of owners who are gone where that is known
   abbrev pub AsksBy : GoneBy → List (Event T) → Event T → Type 0
   AsksBy by before (Told p index owner) = MayBeTold by owner before
   AsksBy by before e = AsksRight before e
 
-  -- It asked about each index that was filled with one owner through the whole call, until the call itself freed it; and
-  -- in an honest run none that it was told to free has that owner.
+  -- The recovery asked about each index that was filled with one owner through the whole call, until the call itself
+  -- freed it. In an honest run no index that it was told to free has that owner.
   pub record HasRecoveredBy (by : GoneBy) (p : ℕ) (events : List (Event T)) : Type 0 where
     pub asked : (index owner : ℕ) → HeldThroughout p (StillToFree p owner index) events
         → IsOneOf (Asks index owner) (set_acts_of p events)
     pub gone : IsHonestBy by events → (index owner : ℕ) → IsOneOf (Yes index owner) (set_acts_of p events)
         → filled_of index events ≢ Some owner
 
-  -- What an answer says; where the counter may be worn, at its end by now, an acquire that was granted no index and a lock
-  -- that was not made say no more than that it is.
+  -- What an answer says; where the counter may be worn, at its end by now, an acquire that was granted no index and a
+  -- lock that was not made say no more than that it is.
   abbrev pub AnswersBy : GoneBy → Type 0 → ℕ → List (Event T) → Event T → Type 0
   AnswersBy by worn capacity before (Finished p (Robust (Acquire owner)) (NoIndex OutOfIndices)) =
       IsUnlocked before

@@ -1,6 +1,6 @@
 -- Runs of a robust index set, or of a container, where nobody sees an owner die, as between threads: no owner dies, and
--- neither a yes of a recovery nor the begin of a container's is refused; and neither turns nor parties have a bound. And
--- what holds of a robust index set that such a run leads to.
+-- neither a yes of a recovery nor the begin of a container's is refused; and neither turns nor parties have a bound.
+-- And what holds of a robust index set that such a run leads to.
 use Rattle.std.specs.Prelude.{◌≡◌, ℕ, ◌<◌, ◌==◌, Bool, true, false, not, Option, is_some, is_none, List, [], ◌∷◌, slice_index}
 use Rattle.steps.specs.Indices.Robust.Parts.{cell_word, locked, greatest}
 use Rattle.model.specs.declared.event.Start.TheVariants.{Container}
@@ -34,28 +34,38 @@ module _ {T : Type 0} where
       ∷ []
   open_rows w turn = call_rows w turn
 
+  -- why a turn is refused, if it is
   abbrev pub open_refusal : World T → Turn T → Option Refusal
   open_refusal w turn = first_row (open_rows w turn)
 
+  -- a turn, which changes nothing where it is refused
   abbrev pub attempt_open : Trace T → Turn T → Trace T
   attempt_open = attempt_by open_refusal
 
+  -- turns one after another, of which refused ones change nothing
   abbrev pub run_open : List (Turn T) → Trace T → Trace T
   run_open = run_by open_refusal
 
-  -- such a run leads here from the opening
+  -- an open run leads here from the opening
   abbrev pub IsReachedOpen : Trace T → Type 0
   IsReachedOpen = IsReachedBy open_refusal
 
   -- what its cells hold and whether it is locked, by its events; what each event says; and who holds an index, in a run
   -- that is well-formed and honest
   pub record IsOpenSet (t : Trace T) : Type 0 where
+    -- indices are filled, granted, freed and locked right
     pub does : Each (SetDoes t.world.capacity) t.events
+    -- recoveries ask right
     pub asks : Each (AsksBy Word) t.events
+    -- each answer is right
     pub answers : Each (AnswersBy Word (slice_index t.world.words 0 ≡ greatest) t.world.capacity) t.events
+    -- in a well-formed and honest run no index is granted that is held
     pub holds : IsWellFormed t.events → IsHonest t.events → Each HoldsRight t.events
+    -- each cell says for whom its index is filled
     pub cells : (index : ℕ) → index < t.world.capacity
         → slice_index t.world.words (cell_word index) ≡ cell_of (filled_of index t.events)
+    -- the counter says whether the set is locked
     pub lock : (slice_index t.world.words 0 == locked) ≡ is_locked t.events
+    -- nobody has died
     pub lives : (owner : ℕ) → is_dead owner t.events ≡ false
     pub dead : KeepsDead t.world.kept t.events

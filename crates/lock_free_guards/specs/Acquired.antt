@@ -5,14 +5,17 @@ use Rattle.history.specs.declared.view.View.{View}
 use Rattle.lock_free_owners.specs.Robust.Contracts.{HasTaken, WasFilled, WasGranted, WasRefused}
 use Rattle.lock_free_guards.specs.Held.{HoldsFor}
 
--- it took this index, which had no owner and was granted to this one, who holds it since by what the pass made
+-- the acquire took this index, which had no owner and was granted to this one, who holds it since by what the pass made
 pub record HasAcquired (owner index : ℕ) (old new : View ℕ) : Type 0 where
   pub taken : HasTaken owner (Ok index) old new
+  -- the index had no owner before
   pub filled : WasFilled index owner old new
+  -- it was granted to this owner
   pub granted : WasGranted index owner old new
+  -- by the events that the pass has made, this owner holds the index
   pub holds : HoldsFor owner index new.made
 
--- it took none, for this cause
+-- the acquire took no index, for this cause
 pub record HasFailed (owner : ℕ) (failure : UniqueIndexSetAcquireFailure) (old new : View ℕ) : Type 0 where
   pub taken : HasTaken owner (Err failure) old new
   pub refused : WasRefused owner failure old new

@@ -8,6 +8,7 @@ use Rattle.model.specs.Families.Indices.Robust.Reading.{holder_of}
 abbrev pub HoldsFor : (owner index : ℕ) → List (Event ℕ) → Type 0
 HoldsFor owner index made = holder_of index made ≡ Some owner
 
+-- 1 for an event that frees an index of this owner
 abbrev pub frees_of : ℕ → Event ℕ → ℕ
 frees_of owner (FreedOf p index o) = if o == owner then 1 else 0
 frees_of owner e = 0

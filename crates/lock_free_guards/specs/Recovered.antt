@@ -17,23 +17,26 @@ use Rattle.history.specs.Robust.{Visit, AreVisits, wrote_by}
 use Rattle.lock_free_owners.specs.Robust.Callable.{was_told}
 use Rattle.lock_free_owners.specs.Robust.Contracts.{Answered}
 
--- it said yes about the index just if this owner had it
+-- the closure said yes about the index just if this owner had it
 abbrev pub IsToldFor : ℕ → Visit → Type 0
 IsToldFor owner v = was_told v.came ≡ (v.owner == owner)
 
--- It is one call of the history. It came to each of these visits in turn, and was told to free those of this owner alone.
--- Where the lock had been seen before there is none.
+-- The recovery is one call of the history. It came to each of these visits in turn, and was told to free those of this
+-- owner alone. Where the lock had been seen before there is no such call.
 pub record HasRecoveredOwner (owner : ℕ) (mode : ReleaseMode) (state : ReleaseState) (old new : View ℕ) : Type 0 where
   pub by : ℕ
   pub mine : new.party ≡ Some by
   pub visits : List Visit
+  -- the visits are of ascending indices
   pub ascend : AreVisits mode old.capacity visits
+  -- it was told to free those of this owner alone
   pub told : All (IsToldFor owner) visits
   pub called : Called by (Robust (Recover mode)) (State state) (wrote_by by visits) old new
+  -- after the lock it came to none
   pub nothing : is_locked old.seen ≡ true → visits ≡ []
 
--- Of the indices that were this owner's through the whole call, until the call freed them: it was told to free each. Where
--- nobody acts for an owner who is gone, it has freed each, and none is his by now.
+-- Of the indices that were this owner's through the whole call, until the call freed them, the recovery was told to
+-- free each. Where nobody acts for an owner who is gone, it has freed each, and none is his by now.
 pub record LeavesNone (owner p : ℕ) (events : List (Event ℕ)) : Type 0 where
   pub told : (index : ℕ) → HeldThroughout p (StillToFree p owner index) events → IsOneOf (Yes index owner) (set_acts_of p events)
   pub freed : IsHonest events → (index : ℕ) → HeldThroughout p (StillToFree p owner index) events
@@ -46,5 +49,6 @@ abbrev pub RecoversOwner : ℕ → ReleaseState → ℕ → List (Event ℕ) →
 RecoversOwner owner Locked p before = is_locked before ≡ true
 RecoversOwner owner Unlocked p before = IsUnlocked before × LeavesNone owner p before
 
+-- a recovery of this owner has ended in this mode with this state, and did what it answers
 abbrev pub IsRightOwnerRecovery : ℕ → ReleaseMode → ReleaseState → View ℕ → View ℕ → Type 0
 IsRightOwnerRecovery owner mode state = Answered (Recover mode) (State state) (RecoversOwner owner state)

@@ -8,13 +8,15 @@ use Rattle.lock_free_value.specs.declared.spmc.unrestricted_atomic.handles.Handl
 use Rattle.lock_free_value.specs.Calls.{view, SamePass}
 
 module _ {T : Type 0} {words : Ghosts T} where
+  -- the value of a handle
   abbrev pub value_in : Handle T words → UnrestrictedAtomic T
   value_in h = h.value.now
 
+  -- the pass of a handle
   abbrev pub pass_in : Handle T words → Pass T words
   pass_in h = h.pass
 
-  -- all that its pass knows
+  -- all that the pass of the handle knows
   abbrev pub knows : Handle T words → View T
   knows h = view h.pass
 

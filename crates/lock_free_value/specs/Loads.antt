@@ -16,12 +16,14 @@ abbrev pub IsBoard : {T K Q : Type 0} → ℕ → Seated (View T) K Q → Type 0
 IsBoard size s = ((table_of s).words ≡ 2 + size * 2 + 1) × ((seen s).capacity ≡ 1)
 
 module _ {T R : Type 0} (code : Coding T) (words_in : R → List ℕ) where
+  -- the load is about to begin or under way
   abbrev pub LoadAt : View T → View T → Load T R → R → Type 0
   LoadAt = At code kinds.Atomic (loads_value code words_in)
 
+  -- the load has ended
   abbrev pub LoadEnds : View T → Unit {0} → R → View T → Type 0
   LoadEnds = Ends code kinds.Atomic (loads_value code words_in)
 
-  -- it has gone on, or ended
+  -- the load has gone on, or ended
   abbrev pub LoadNext : View T → After (Load T R) (Unit {0}) → R → View T → Type 0
   LoadNext = Next (λ (v : View T). v.capacity) LoadAt LoadEnds

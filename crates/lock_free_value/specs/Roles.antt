@@ -4,11 +4,11 @@ use Rattle.model.specs.declared.event.Event.{Event}
 use Rattle.history.specs.Value.{takes_producer, gives_producer}
 
 module _ {T : Type 0} where
-  -- it gave back each time what it had acquired
+  -- the pass that made these events lacks the producer's role: it gave back each time what it had acquired
   abbrev pub LacksProducer : List (Event T) → Type 0
   LacksProducer made = sum_by takes_producer made ≡ sum_by gives_producer made
 
-  -- what was made since added so much to what was acquired and given back
+  -- what was made since added so many acquires of the producer's role, and so many releases
   pub record Moved (taken given : ℕ) (old new : List (Event T)) : Type 0 where
     pub takes : sum_by takes_producer new ≡ sum_by takes_producer old + taken
     pub gives : sum_by gives_producer new ≡ sum_by gives_producer old + given

@@ -15,11 +15,13 @@ pub use Rattle.history.specs.Passes.{HasSplit, HasJoined}
 use Rattle.history.specs.Value.{IsLast}
 
 module _ {T : Type 0} where
+  -- the acquire of the producer's role has answered whether it took the role, and written nothing beside
   pub record HasAcquired (taken : Bool) (old new : View T) : Type 0 where
     pub by : ℕ
     pub mine : new.party ≡ Some by
     pub called : Called by (Atomic AcquireProducer) (Truth taken) [] old new
 
+  -- the release of the producer's role has ended, and nothing was stored since the view before
   pub record HasReleased (old new : View T) : Type 0 where
     pub by : ℕ
     pub mine : new.party ≡ Some by
@@ -39,7 +41,7 @@ module _ {T : Type 0} where
     pub next : stored before ≡ stored old.seen  -- none came between
     pub list : stored new.seen ≡ stored old.seen ++ x ∷ []  -- nor after
 
-  -- at its moment, after all that had been seen, it was the last value that was stored
+  -- at a moment after all that had been seen, this was the last value that was stored
   pub record HasLoaded (x : T) (old new : View T) : Type 0 where
     pub by : ℕ
     pub mine : new.party ≡ Some by
@@ -47,7 +49,9 @@ module _ {T : Type 0} where
     pub before : List (Event T)
     pub after : List (Event T)
     pub is : new.seen ≡ before ++ Acted by (Atomic Load) (Loaded x) ∷ after
+    -- all that had been seen came before
     pub since : IsBeginning old.seen before
+    -- it was the last value stored by then
     pub last : IsLast x (stored before)
 
   -- the call changed nothing, and answered whether a party had the role as it ended
@@ -55,6 +59,7 @@ module _ {T : Type 0} where
     pub by : ℕ
     pub mine : new.party ≡ Some by
     pub called : Called by (Atomic HasProducer) (Truth taken) [] old new
+    -- whether somebody holds the role as the call ends
     pub holder : taken ≡ not (is_none (holder_of new.seen))
 
   -- the call changed nothing, and answered 1 more than the number of the values that were stored as it ended
@@ -62,4 +67,5 @@ module _ {T : Type 0} where
     pub by : ℕ
     pub mine : new.party ≡ Some by
     pub called : Called by (Atomic Version) (Number version) [] old new
+    -- one more than the stores that are seen
     pub count : version ≡ length (stored new.seen) + 1

@@ -18,6 +18,7 @@ module _ {T : Type 0} where
     pub before : List (Event T)
     pub after : List (Event T)
     pub is : events ≡ before ++ Acted p (Atomic (Store x)) (Truth true) ∷ after
+    -- its version is two more than the stores before
     pub rank : version ≡ length (stored before) + 2
 
   -- the party loaded this value at this version
@@ -25,11 +26,11 @@ module _ {T : Type 0} where
     pub before : List (Event T)
     pub after : List (Event T)
     pub is : events ≡ before ++ Acted p (Atomic Load) (Loaded x) ∷ after
+    -- its version is one more than the stores before
     pub rank : version ≡ length (stored before) + 1
 
-  -- what every history of a value says of itself: a load answers the value that stands, an acquire
-  -- whether nobody holds the role, a look whether somebody holds it, or the version, and who stores
-  -- holds the role
+  -- what every history of a value says of itself: a load answers the value that stands, an acquire whether nobody holds
+  -- the role, a look whether somebody holds it, or the version, and who stores holds the role
   pub record IsSound (code : Coding T) (events : List (Event T)) : Type 0 where
     pub answers : Each (AnswersRight code) events
     pub roles : Each GrantsRight events

@@ -2,12 +2,13 @@
 use Rattle.std.specs.Prelude.{◌≡◌, ◌≤◌, ℕ, List, [], ◌∷◌, length, slice_index}
 use Rattle.steps.specs.declared.words.Words.{Ghosts}
 
+-- how values of type T are written in words
 pub record Coding (T : Type 0) : Type 0 where
   pub size : ℕ  -- how many words a value has
   pub words_of : T → List ℕ
   pub value_of : List ℕ → T
 
--- the coding by these
+-- the coding of values of so many words, that are written and read by these
 abbrev pub coding_of : {T : Type 0} → ℕ → (T → List ℕ) → (List ℕ → T) → Coding T
 coding_of size words_of value_of =
     record { size = size; words_of = words_of; value_of = value_of }

@@ -14,17 +14,19 @@ use Rattle.model.specs.Loads.{begin_in, begins_in, pending, load}
 module _ {T : Type 0} where
   -- ---- the steps of one party
 
+  -- the steps that a turn is of the party: 1 for its `Next` that asks for a word
   abbrev pub own_step : ℕ → World T → Turn T → ℕ
   own_step p w (Next q) = if q == p then steps_of w (Next q) else 0
   own_step p w turn = 0
 
+  -- how many steps the party takes in these turns
   abbrev pub own_steps : ℕ → Trace T → List (Turn T) → ℕ
   own_steps p t [] = 0
   own_steps p t (turn ∷ turns) = own_step p t.world turn + own_steps p (after_turn t turn) turns
 
   -- ---- rounds, each a list of turns
 
-  -- all their turns
+  -- all turns of these rounds, in order
   abbrev pub turns_of : List (List (Turn T)) → List (Turn T)
   turns_of [] = []
   turns_of (round ∷ rounds) = round ++ turns_of rounds
@@ -35,19 +37,19 @@ module _ {T : Type 0} where
   StepsInEach p t (round ∷ rounds) =
       ((flight_in t.world p ≡ None) ⊎ (0 < own_steps p t round)) × StepsInEach p (after_turns t round) rounds
 
-  -- as one of the rounds begins it has none
+  -- the party has no call under way as one of these rounds begins
   abbrev pub RestsInOne : ℕ → Trace T → List (List (Turn T)) → Type 0
   RestsInOne p t [] = ⊥
   RestsInOne p t (round ∷ rounds) = (flight_in t.world p ≡ None) ⊎ RestsInOne p (after_turns t round) rounds
 
   -- ---- an endless schedule
 
-  -- after its first k turns
+  -- the machine and its events after the first k turns of an endless schedule
   abbrev pub moment : Trace T → (ℕ → Turn T) → ℕ → Trace T
   moment t turns zero = t
   moment t turns (suc k) = after_turn (moment t turns k) (turns k)
 
-  -- how many calls begin in its first k turns
+  -- how many calls begin in the first k turns of an endless schedule
   abbrev pub begins_by : (ℕ → Turn T) → ℕ → ℕ
   begins_by turns zero = 0
   begins_by turns (suc k) = begins_by turns k + begin_in (turns k)
@@ -59,8 +61,8 @@ module _ {T : Type 0} where
     pub goes : (k : ℕ) → (flight_in (moment t turns (at k)).world p ≡ None)
         ⊎ (own_step p (moment t turns (at k)).world (turns (at k)) ≡ 1)
 
--- In more rounds than the load of the calls that were under way and of those that begin, each party that takes a step in each
--- has ended its call.
+-- In more rounds than the load of the calls that were under way and of those that begin, each party that takes a step
+-- in each has ended its call.
 abbrev pub EndsInRounds : Type 0 → Kind → Bound → Type 0
 EndsInRounds T kind bound =
     (t : Trace T) → t.world.kind ≡ kind → IsReachedOn t → (n p : ℕ) (rounds : List (List (Turn T)))
@@ -69,7 +71,7 @@ EndsInRounds T kind bound =
     → load (bound n t.world.capacity t.world.coding.size) (pending n t.world + begins_in (turns_of rounds)) < length rounds
     → RestsInOne p t rounds
 
--- The same of runs in which no call begins but such ones.
+-- the same of runs in which `Such` holds for each call that begins
 abbrev pub EndsInRoundsOf : (T : Type 0) → Kind → (Start T → Type 0) → Bound → Type 0
 EndsInRoundsOf T kind Such bound =
     (t : Trace T) → t.world.kind ≡ kind → (r : IsReachedOn t) → AllByRecursion (BeginsSuch Such) r.turns
@@ -80,7 +82,7 @@ EndsInRoundsOf T kind Such bound =
     → load (bound n t.world.capacity t.world.coding.size) (pending n t.world + begins_in (turns_of rounds)) < length rounds
     → RestsInOne p t rounds
 
--- And of machines as they run.
+-- The same of machines as they run, with all their parties.
 abbrev pub EndsInRoundsRuns : Type 0 → Kind → Bound → Type 0
 EndsInRoundsRuns T kind bound =
     (t : Trace T) → t.world.kind ≡ kind → IsReached t → (p : ℕ) (rounds : List (List (Turn T)))
@@ -90,8 +92,8 @@ EndsInRoundsRuns T kind bound =
     (pending t.world.parties t.world + begins_in (turns_of rounds)) < length rounds
     → RestsInOne p t rounds
 
--- Whatever endless schedule n parties follow in which at most so many calls begin: each party to which it is fair comes to a
--- moment at which it has no call under way.
+-- Whatever endless schedule n parties follow in which at most so many calls begin: each party to which it is fair comes
+-- to a moment at which it has no call under way.
 abbrev pub EndsIfFair : Type 0 → Kind → Bound → Type 0
 EndsIfFair T kind bound =
     (t : Trace T) → t.world.kind ≡ kind → IsReachedOn t → (n calls : ℕ) (turns : ℕ → Turn T)

@@ -53,6 +53,7 @@ use Rattle.model.specs.Families.Queues.Steps as queue_steps
 
 -- ---- the opening
 
+-- how a structure of each kind opens
 abbrev pub opening_of : Kind → Opening
 opening_of IndexQueue = queue_opening.opening queue_kinds.IndexQueue
 opening_of Overflow = queue_opening.opening queue_kinds.Overflow
@@ -68,6 +69,7 @@ opening_of kinds.Loan = loan_opening.opening
 -- ---- a call begins
 
 module _ {T : Type 0} where
+  -- how a call begins on a machine of this kind and capacity, if the kind has it, and what is tested before
   abbrev pub begin_of : Kind → ℕ → Start T → Beginning (Flight T) (Registry T)
   begin_of kind capacity (starts.Queues start) =
       queue_opening.begin kind capacity start
@@ -101,18 +103,20 @@ module _ {T : Type 0} where
 
 -- ---- a call goes on
 
--- the operation that it asks for, if any
+-- the operation on a word that a call asks for, if any
 abbrev pub ask_of : Want (Unit {0}) → Option Ask
 ask_of (wants.Ask ask) = Some ask
 ask_of (wants.Question question) = None
 ask_of wants.Nothing = None
 
+-- whether what a call waits for is a decision, and not an operation on a word
 abbrev pub is_question : Want (Unit {0}) → Bool
 is_question (wants.Ask ask) = false
 is_question (wants.Question question) = true
 is_question wants.Nothing = false
 
 module _ {T : Type 0} where
+  -- what a call under way wants, what is tested before it goes on, and how it does
   abbrev pub going_of : Coding T → Flight T → Going (Flight T) T
   going_of code (flights.Queues flight) = queue_calls.going code flight
   going_of code (flights.Atomic flight) = atomic_calls.going code flight
@@ -126,18 +130,19 @@ module _ {T : Type 0} where
   abbrev pub want_of : Coding T → Flight T → Want (Unit {0})
   want_of code flight = (going_of code flight).want
 
-  -- how it goes on from the old value of its word
+  -- how a call under way goes on from the old value of its word
   abbrev pub after_of : Coding T → Flight T → ℕ → After (Flight T) (Answer T)
   after_of code flight old = (going_of code flight).after old
 
-  -- and how a party's call goes on where this is kept: a look from what the party's state has seen
+  -- How a party's call goes on where the family keeps this:
+  -- a look from what the party's state has seen, a reclaim by the sender's table.
   abbrev pub goes_of : Coding T → ℕ → Flight T → ℕ → Registry T → After (Flight T) (Answer T)
   goes_of code p (flights.Container flight) old kept =
       container_calls.goes code p flight old kept
   goes_of code p (flights.Loan flight) old kept = loan_calls.goes flight old kept
   goes_of code p flight old kept = after_of code flight old
 
-  -- how many events its next step writes at most, apart from the end of the call
+  -- how many events the next step of a call writes at most, apart from the end of the call
   abbrev pub most_of : Coding T → Flight T → ℕ
   most_of code flight = (going_of code flight).most
 
@@ -154,8 +159,8 @@ module _ {T : Type 0} where
   beside_of words (registries.Loan book) latest p = loan_steps.beside book words latest p
   beside_of words kept latest p = None
 
-  -- What the step of a call comes to, in these words and from this old value of its word. Where the
-  -- name, the call and what is kept are not of one family, nothing happens.
+  -- What the step of a call comes to, in these words and from this old value of its word. Where the name, the call and
+  -- what is kept are not of one family, nothing happens.
   abbrev pub step_of : Coding T → List ℕ → Option (ℕ × ℕ) → ℕ → Start T → Flight T → ℕ → Registry T
       → Step (Flight T) (Registry T) T
   step_of code words beside p (starts.Queues start) (flights.Queues flight)

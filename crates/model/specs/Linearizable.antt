@@ -7,6 +7,7 @@ use Rattle.model.specs.declared.event.Event.{Event}
 use Rattle.model.specs.declared.event.Event.TheVariants.{Begun, Finished}
 use Rattle.model.specs.Objects.{Object, IsLegal}
 
+-- a response, with its place in the history
 pub record Response (T : Type 0) : Type 0 where
   pub place : ℕ  -- where it stands in the history
   pub answer : Answer T
@@ -30,6 +31,7 @@ module _ {T : Type 0} where
       else response_in p es (place + 1)
   response_in p (e ∷ es) place = response_in p es (place + 1)
 
+  -- the calls that begin among these events, of which the first stands at this place of the history
   abbrev pub calls_from : List (Event T) → ℕ → List (Call T)
   calls_from [] place = []
   calls_from (Begun p start ∷ es) place =
@@ -43,6 +45,7 @@ module _ {T : Type 0} where
 
   -- ---- the real-time order
 
+  -- there is a response, and it stands before this place
   abbrev pub StandsBefore : Option (Response T) → ℕ → Type 0
   StandsBefore None place = ⊥
   StandsBefore (Some response) place = response.place < place
@@ -56,8 +59,10 @@ pub record Specification (T State : Type 0) : Type 0 where
   pub is_call : Start T → Bool
   pub object : Object T State
 
--- There is a legal sequential history of the object's completed calls, with the answers that they gave, and of some of its
--- pending ones, with answers that they may yet give, in an order that keeps the real-time order.
+-- There is a legal sequential history of the object's completed calls, with the answers that they gave, and of some of
+-- its pending ones, with answers that they may yet give, in an order that keeps the real-time order.
+-- In this order the object gives the answers. Each call of it was invoked in the history, each completed call is in it,
+-- none is in it twice, and none comes before one that had responded as it was invoked.
 pub record IsLinearizable {T State : Type 0} (spec : Specification T State) (history : List (Event T))
     : Type 0 where
   pub sequential : List (Call T × Answer T)

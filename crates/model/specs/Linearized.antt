@@ -16,6 +16,7 @@ use Rattle.model.specs.Linearizable.{Specification, IsLinearizable}
 use Rattle.model.specs.World.{Trace}
 
 module _ {T : Type 0} where
+  -- the calls of a queue that are linearizable
   abbrev pub is_push_or_pop : Start T → Bool
   is_push_or_pop (starts.Queues (PushIndex index)) = true
   is_push_or_pop (starts.Queues (Push value)) = true
@@ -26,6 +27,7 @@ module _ {T : Type 0} where
   abbrev pub as_list : QueueKind → ℕ → Specification T (List (Item T))
   as_list kind capacity = record { is_call = is_push_or_pop; object = list_of kind capacity }
 
+  -- the calls of the single value that are linearizable
   abbrev pub is_store_or_load : Start T → Bool
   is_store_or_load (starts.Atomic (Store value)) = true
   is_store_or_load (starts.Atomic Load) = true
@@ -35,7 +37,7 @@ module _ {T : Type 0} where
   abbrev pub as_value : Coding T → Specification T T
   as_value code = record { is_call = is_store_or_load; object = value_of_zeros code }
 
-  -- pushes and pops are, and stores and loads; of the other kinds nothing is said
+  -- pushes and pops are linearizable, and stores and loads; of the other kinds nothing is said
   abbrev pub IsLinearized : Kind → Trace T → Type 0
   IsLinearized IndexQueue t =
       IsLinearizable (as_list queue_kinds.IndexQueue t.world.capacity) t.events
@@ -46,5 +48,6 @@ module _ {T : Type 0} where
   IsLinearized Atomic t = IsLinearizable (as_value t.world.coding) t.events
   IsLinearized kind t = Unit {0}
 
+  -- the run is linearizable, where its kind is a queue or the single value
   abbrev pub IsLinearizableRun : Trace T → Type 0
   IsLinearizableRun t = IsLinearized t.world.kind t

@@ -22,7 +22,7 @@ module _ {T : Type 0} where
   begins_in [] = 0
   begins_in (turn ∷ turns) = begin_in turn + begins_in turns
 
-  -- a call that begins writes one
+  -- 1 for an event that begins a call
   abbrev pub begun_of : Event T → ℕ
   begun_of (Begun p start) = 1
   begun_of e = 0
@@ -40,8 +40,8 @@ module _ {T : Type 0} where
 abbrev pub load : (bound calls : ℕ) → ℕ
 load bound calls = calls * (bound + 1)
 
--- Wherever turns have led, and whatever turns n parties take from there: all their steps together are at most the load of
--- the calls that were under way and of those that begin.
+-- Wherever turns have led, and whatever turns n parties take from there: all their steps together are at most the load
+-- of the calls that were under way and of those that begin.
 abbrev pub EndsLoad : Type 0 → Kind → Bound → Type 0
 EndsLoad T kind bound =
     (t : Trace T) → t.world.kind ≡ kind → IsReachedOn t → (n : ℕ) (turns : List (Turn T))
@@ -49,7 +49,7 @@ EndsLoad T kind bound =
     → steps_in t turns
     ≤ load (bound n t.world.capacity t.world.coding.size) (pending n t.world + begins_in turns)
 
--- The same of runs in which no call begins but such ones.
+-- the same of runs in which `Such` holds for each call that begins
 abbrev pub EndsLoadOf : (T : Type 0) → Kind → (Start T → Type 0) → Bound → Type 0
 EndsLoadOf T kind Such bound =
     (t : Trace T) → t.world.kind ≡ kind → (r : IsReachedOn t) → AllByRecursion (BeginsSuch Such) r.turns
@@ -58,7 +58,7 @@ EndsLoadOf T kind Such bound =
     → steps_in t turns
     ≤ load (bound n t.world.capacity t.world.coding.size) (pending n t.world + begins_in turns)
 
--- And of machines as they run.
+-- The same of machines as they run, with all their parties.
 abbrev pub EndsLoadRuns : Type 0 → Kind → Bound → Type 0
 EndsLoadRuns T kind bound =
     (t : Trace T) → t.world.kind ≡ kind → IsReached t → (turns : List (Turn T)) → AreAllowed t turns

@@ -20,7 +20,7 @@ use Rattle.model.specs.World.{World, Trace}
 module _ {T : Type 0} where
   -- ---- a stretch of a run: turns from a machine that turns have reached, of which none is refused
 
-  -- a call that ends writes one
+  -- 1 for an event that ends a call
   abbrev pub end_of : Event T → ℕ
   end_of (Finished p start answer) = 1
   end_of e = 0
@@ -45,7 +45,7 @@ module _ {T : Type 0} where
   IsBelow n (Decide p said) = p < n
   IsBelow n (Die owner) = Unit {0}
 
-  -- it begins no call but such ones
+  -- if the turn begins a call, then `Such` holds of it
   abbrev pub BeginsSuch : (Start T → Type 0) → Turn T → Type 0
   BeginsSuch Such (Begin p start) = Such start
   BeginsSuch Such turn = Unit {0}
@@ -77,8 +77,10 @@ KeepsEnding T kind bound =
     → AreWithinEnds (bound n t.world.capacity t.world.coding.size) (steps_in t turns) (ends t.events)
     (ends (after_turns t turns).events)
 
--- ---- of runs in which no call begins but such ones
+-- ---- of runs in which `Such` holds for each call that begins
 
+-- As `IsLockFree`, of runs in which `Such` holds for each call that begins:
+-- in more steps than the bound says, a call ends.
 abbrev pub IsLockFreeOf : (T : Type 0) → Kind → (Start T → Type 0) → Bound → Type 0
 IsLockFreeOf T kind Such bound =
     (t : Trace T) → t.world.kind ≡ kind → (r : IsReachedOn t) → AllByRecursion (BeginsSuch Such) r.turns
@@ -87,6 +89,8 @@ IsLockFreeOf T kind Such bound =
     → bound n t.world.capacity t.world.coding.size < steps_in t turns
     → ends t.events < ends (after_turns t turns).events
 
+-- As `KeepsEnding`, of runs in which `Such` holds for each call that begins:
+-- calls end as often as the steps have that bound.
 abbrev pub KeepsEndingOf : (T : Type 0) → Kind → (Start T → Type 0) → Bound → Type 0
 KeepsEndingOf T kind Such bound =
     (t : Trace T) → t.world.kind ≡ kind → (r : IsReachedOn t) → AllByRecursion (BeginsSuch Such) r.turns
@@ -106,8 +110,9 @@ HasLockFreeRuns T kind bound =
 
 -- ---- the bounds
 
--- Of n parties whose calls each take at most so many steps before their last one, while no other call does what adds to
--- them, and make at most so many changes of a word that can add to those of the others.
+-- How many steps n parties take at most before one of their calls ends, where each call takes at most `alone` steps
+-- before its last one while no other call does what adds to them, and makes at most `changes` changes of a word that
+-- can add to those of the others.
 abbrev pub stretch : (n changes alone : ℕ) → ℕ
 stretch n changes alone = n * changes * ((n - 1) * alone) + n * alone
 
@@ -122,21 +127,21 @@ lock_free_bound Counts = Some (λ n capacity size. stretch n 0 (capacity - 1))
 lock_free_bound Indices = Some (λ n capacity size. stretch n 1 (capacity + 4))
 lock_free_bound kind = None
 
--- of a robust index set in which no call may lock
+-- the bound of a robust index set in which no call may lock
 abbrev pub default_bound : Bound
 default_bound n capacity size = stretch n capacity (4 * capacity + 1)
 
--- Of a robust index set in all its runs: for each number that its counter can still take, and once more, what a call takes
--- at most while the counter stays. As a number of steps it says little. It says that no calls make each other begin again
--- for ever.
+-- The bound of a robust index set in all its runs: for each number that its counter can still take, and once more, what
+-- a call takes at most while the counter stays. As a number of steps it says little. It says that no calls make each
+-- other begin again for ever.
 abbrev pub room_bound : Bound
 room_bound n capacity size = stretch n 0 ((2 ^ 64 + 1) * (capacity * (capacity + 7) + 1))
 
--- of a container in which no call may lock
+-- the bound of a container in which no call may lock
 abbrev pub default_container_bound : Bound
 default_container_bound n capacity size = stretch n (max 2 capacity) (capacity * (size + 7) + max 2 size)
 
--- a call that does not lock: a release, a remove or a recovery in the mode for that is none
+-- the call does not lock: it is no release, remove or recovery in the mode that locks
 abbrev pub IsDefault : {T : Type 0} → Start T → Type 0
 IsDefault (Robust (Release index owner LockIfLastIndex)) = ⊥
 IsDefault (Robust (Recover LockIfLastIndex)) = ⊥

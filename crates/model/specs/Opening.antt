@@ -2,6 +2,7 @@
 use Rattle.std.specs.Prelude.{ℕ, List}
 use Rattle.model.specs.declared.families.Registry.{Registry}
 
+-- which capacities a kind has, its words at the opening, and what is kept beside them
 pub record Opening : Type 1 where
   pub least : ℕ  -- its least capacity
   pub greatest : ℕ

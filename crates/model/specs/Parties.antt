@@ -18,11 +18,12 @@ module _ {T : Type 0} where
   abbrev pub put : ℕ → Party T → List (ℕ × Party T) → List (ℕ × Party T)
   put p x latest = insert_entry nat_cmp latest p x
 
+  -- where a party's latest call stands
   abbrev pub doing_of : Option (Party T) → Option (Doing T)
   doing_of None = None
   doing_of (Some x) = Some x.doing
 
-  -- the call under way
+  -- the party's call under way, if it has one
   abbrev pub flight_of : Option (Doing T) → Option (Flight T)
   flight_of None = None
   flight_of (Some (Going flight since)) = Some flight
@@ -33,6 +34,7 @@ module _ {T : Type 0} where
   others_of changes (Going flight since) = changes - since
   others_of changes (Over others) = others
 
+  -- whether the latest call has ended
   abbrev pub is_over : Doing T → Bool
   is_over (Going flight since) = false
   is_over (Over others) = true

@@ -38,6 +38,7 @@ use Rattle.model.specs.Reading.{Span, Open, Ended, span_of}
 use Rattle.model.specs.Turns.{words_after}
 use Rattle.model.specs.World.{Trace, progress_in}
 
+-- a bound of a call's steps: at most so many, or at most so many alone and so many more for each retry
 pub data Guarantee : Type 0 where
   WaitFree : (most : ℕ) → Guarantee
   ObstructionFree : (alone retry : ℕ) → Guarantee
@@ -55,6 +56,7 @@ module _ {T : Type 0} where
   IsObstructionFree promise capacity size start alone retry =
       (backs : ℕ) → promise.most_steps capacity size start backs ≤ alone + backs * retry
 
+  -- the promised bound of a call's steps is within this guarantee
   abbrev pub IsGuaranteed : Promise T → (capacity size : ℕ) → Start T → Guarantee → Type 0
   IsGuaranteed promise capacity size start (WaitFree most) =
       IsWaitFree promise capacity size start most
@@ -63,22 +65,26 @@ module _ {T : Type 0} where
 
 -- ---- which of the two each call has, with its constants
 
+-- the guarantee of a push, by the number of words of a value and the queue's kind
 abbrev pub of_push : ℕ → QueueKind → Guarantee
 of_push size queue_kinds.IndexQueue = WaitFree 4
 of_push size queue_kinds.Overflow = WaitFree 6
 of_push size queue_kinds.Queue = WaitFree (3 + size)
 
+-- the guarantee of a peek; an overflowing queue has none
 abbrev pub of_peek : ℕ → QueueKind → Guarantee
 of_peek size queue_kinds.IndexQueue = WaitFree 3
 of_peek size queue_kinds.Overflow = WaitFree 0
 of_peek size queue_kinds.Queue = WaitFree (2 + size)
 
+-- the guarantee of a pop: in an overflowing queue it retries where a push has moved the read position
 abbrev pub of_pop : ℕ → QueueKind → Guarantee
 of_pop size queue_kinds.IndexQueue = WaitFree 4
 of_pop size queue_kinds.Overflow = ObstructionFree 4 2
 of_pop size queue_kinds.Queue = WaitFree (3 + size)
 
 module _ {T : Type 0} where
+  -- the guarantee of each call of a queue, whatever its capacity
   abbrev pub of_queue : ℕ → QueueKind → QueueStart T → Guarantee
   of_queue size kind queues.AcquireProducer = WaitFree 1
   of_queue size kind queues.ReleaseProducer = WaitFree 1
@@ -94,6 +100,8 @@ module _ {T : Type 0} where
   of_queue size kind queues.IsEmpty = ObstructionFree 4 4
   of_queue size kind queues.IsFull = ObstructionFree 4 4
 
+  -- The guarantee of each call of a single value, by the number of its words:
+  -- a load retries where a store has moved the version.
   abbrev pub of_value : ℕ → AtomicStart T → Guarantee
   of_value size atomics.AcquireProducer = WaitFree 1
   of_value size atomics.ReleaseProducer = WaitFree 1
@@ -102,6 +110,7 @@ module _ {T : Type 0} where
   of_value size (atomics.Store value) = WaitFree (2 + size)
   of_value size atomics.Load = ObstructionFree (2 + size) (1 + size)
 
+-- the guarantee of each call of a bit set with this many places
 abbrev pub of_bits : ℕ → BitsStart → Guarantee
 of_bits capacity (bits.Set bit) = ObstructionFree 2 1
 of_bits capacity bits.ResetNext = ObstructionFree (3 + capacity) 1
@@ -117,6 +126,8 @@ of_counts capacity bits.ResetAll = WaitFree capacity
 of_counts capacity (bits.IsSet bit) = WaitFree 0
 of_counts capacity (bits.Count place) = WaitFree 1
 
+-- The guarantee of each call of a unique index set with this many indices: an acquire and a release that may lock retry
+-- where the head has moved, and an acquire also where it has found each flag claimed.
 abbrev pub of_indices : ℕ → IndexStart → Guarantee
 of_indices capacity indices.Acquire = ObstructionFree (4 + capacity) (max 2 capacity)
 of_indices capacity (indices.Release index Default) = WaitFree 5
@@ -124,6 +135,8 @@ of_indices capacity (indices.Release index LockIfLastIndex) = ObstructionFree 4 
 of_indices capacity indices.BorrowedIndices = WaitFree 1
 of_indices capacity indices.IsLocked = WaitFree 1
 
+-- The guarantee of each call of a robust set with this many indices:
+-- they retry where another party has moved the counter.
 abbrev pub of_robust : ℕ → RobustStart → Guarantee
 of_robust capacity (robust.Acquire owner) = ObstructionFree (capacity + 3) (capacity + 1)
 of_robust capacity (robust.Release index owner Default) = ObstructionFree 3 1
@@ -136,6 +149,8 @@ of_robust capacity (robust.Recover LockIfLastIndex) =
 of_robust capacity robust.BorrowedIndices = ObstructionFree (capacity + 2) (capacity + 2)
 of_robust capacity robust.IsLocked = WaitFree 1
 
+-- The guarantee of each call of a loan channel with this many slots: a loan retries as an acquire of an index, a
+-- receive and a reclaim where the read position of the submission queue has moved.
 abbrev pub of_loan : ℕ → LoanStart → Guarantee
 of_loan slots loans.Loan = ObstructionFree (4 + slots) (max 2 slots)
 of_loan slots (loans.Send index) = WaitFree 11
@@ -146,6 +161,8 @@ of_loan slots (loans.GiveBack index) = WaitFree 4
 of_loan slots loans.Reclaim = ObstructionFree (8 * (slots + 1) + 5 * slots) 2
 
 module _ {T : Type 0} where
+  -- The guarantee of each call of a container with this many places, by the number of words of a value: they retry
+  -- where another party has moved the counter, or has changed the element that they copy.
   abbrev pub of_container : (capacity size : ℕ) → ContainerStart T → Guarantee
   of_container capacity size (containers.Add value owner) =
       ObstructionFree (capacity + 7 + size) (capacity + 1)
@@ -171,30 +188,37 @@ module _ {T : Type 0} where
   in_queue size kind (starts.Queues start) = of_queue size kind start
   in_queue size kind other = WaitFree 0
 
+  -- the guarantee of any call on the machine of a single value; a call of another family begins none
   abbrev pub in_value : ℕ → Start T → Guarantee
   in_value size (starts.Atomic start) = of_value size start
   in_value size other = WaitFree 0
 
+  -- the guarantee of any call on the machine of a bit set; a call of another family begins none
   abbrev pub in_bits : ℕ → Start T → Guarantee
   in_bits capacity (starts.Bits start) = of_bits capacity start
   in_bits capacity other = WaitFree 0
 
+  -- the guarantee of any call on the machine of a counting bit set; a call of another family begins none
   abbrev pub in_counts : ℕ → Start T → Guarantee
   in_counts capacity (starts.Bits start) = of_counts capacity start
   in_counts capacity other = WaitFree 0
 
+  -- the guarantee of any call on the machine of a unique index set; a call of another family begins none
   abbrev pub in_indices : ℕ → Start T → Guarantee
   in_indices capacity (starts.Indices start) = of_indices capacity start
   in_indices capacity other = WaitFree 0
 
+  -- the guarantee of any call on the machine of a robust set; a call of another family begins none
   abbrev pub in_robust : ℕ → Start T → Guarantee
   in_robust capacity (starts.Robust start) = of_robust capacity start
   in_robust capacity other = WaitFree 0
 
+  -- the guarantee of any call on the machine of a container; a call of another family begins none
   abbrev pub in_container : (capacity size : ℕ) → Start T → Guarantee
   in_container capacity size (starts.Container start) = of_container capacity size start
   in_container capacity size other = WaitFree 0
 
+  -- the guarantee of any call on the machine of a loan channel; a call of another family begins none
   abbrev pub in_loan : ℕ → Start T → Guarantee
   in_loan slots (starts.Loan start) = of_loan slots start
   in_loan slots other = WaitFree 0
@@ -227,6 +251,7 @@ IsWithin (WaitFree most) g = g.steps ≤ most
 IsWithin (ObstructionFree alone retry) g = g.steps ≤ alone + g.others * retry
 
 module _ {T : Type 0} where
+  -- the party's latest call has taken no more steps than its guarantee allows
   abbrev pub LatestIsWithin : (Start T → Guarantee) → Span T → Option Progress → Type 0
   LatestIsWithin guarantee (Open start wrote) (Some g) = IsWithin (guarantee start) g
   LatestIsWithin guarantee (Ended start answer wrote) (Some g) = IsWithin (guarantee start) g
@@ -241,8 +266,8 @@ module _ {T : Type 0} where
 
   -- ---- calls that only look
 
-  -- the lengths of a queue, the peeks, the looks at roles, the load and the version of the single
-  -- value, and the looks at a flag and at a count
+  -- The calls that only look: the lengths of a queue, the peeks, the looks at roles, the load and the version of the
+  -- single value, and the looks at a flag and at a count.
   abbrev pub Looks : Flight T → Type 0
   Looks (flights.Queues (queue_flights.Length which run)) = Unit {0}
   Looks (flights.Queues (queue_flights.Role (roles.Look run))) = Unit {0}
@@ -255,7 +280,7 @@ module _ {T : Type 0} where
   Looks (flights.Bits (bits_flights.CountOf run)) = Unit {0}
   Looks flight = ⊥
 
-  -- what the call asks for leaves the words, whatever they are
+  -- the operation that the call asks for leaves the words as they are, whatever they are
   abbrev pub ChangesNothing : Coding T → Flight T → Type 0
   ChangesNothing code flight =
       (words : List ℕ) → words_after words (ask_of (want_of code flight)) ≡ words

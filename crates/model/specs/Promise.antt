@@ -8,13 +8,14 @@ use Rattle.model.specs.declared.turn.Turn.{Turn}
 use Rattle.model.specs.Reading.{Span}
 use Rattle.model.specs.World.{Trace}
 
+-- what a structure of one family promises of each run
 pub record Promise (T : Type 0) : Type 1 where
   -- where in its party's span an event may stand by which a step tells what it did
   pub may_stand : Event T → Span T → Type 0
   -- what a call that finished with this answer has written in its span, at this capacity
   pub wrote : ℕ → Start T → Answer T → List (Event T) → Type 0
-  -- how many steps a call takes at most, at this capacity, where a value has so many
-  -- words and the call has turned back so often
+  -- how many steps a call takes at most, at this capacity,
+  -- where a value has so many words and the call has turned back so often
   pub most_steps : ℕ → ℕ → Start T → ℕ → ℕ
   -- what an act in a turn tells, which asks for this operation, of these parties
   pub acts_right : Trace T → Option Ask → (ℕ → Type 0) → Event T → Type 0

@@ -17,6 +17,7 @@ module _ {T : Type 0} where
 
   -- ---- moments: a call and its answer
 
+  -- the call that takes effect with the event, and its answer
   abbrev pub acts : Event T → List (Start T × Answer T)
   acts (Acted p start answer) = (start, answer) ∷ []
   acts e = []
@@ -54,23 +55,25 @@ module _ {T : Type 0} where
   whose (Acted p start answer) = Some p
   whose (Finished p start answer) = Some p
 
+-- whether this is the party
 abbrev pub is_party : ℕ → Option ℕ → Bool
 is_party p None = false
 is_party p (Some q) = q == p
 
--- a party's latest call: none yet, one under way, or one that is
--- done, with what it has written since its Begun
+-- a party's latest call: none yet, one under way, or one that is done, with what it has written since its Begun
 pub data Span (T : Type 0) : Type 0 where
   Never : Span T
   Open : (start : Start T) (wrote : List (Event T)) → Span T
   Ended : (start : Start T) (answer : Answer T) (wrote : List (Event T)) → Span T
 
 module _ {T : Type 0} where
+  -- the span with one event more in what its call wrote
   abbrev pub longer : Span T → Event T → Span T
   longer Never e = Never
   longer (Open start wrote) e = Open start (wrote ++ e ∷ [])
   longer (Ended start answer wrote) e = Ended start answer (wrote ++ e ∷ [])
 
+  -- the span once its call has ended with this answer
   abbrev pub ended : Span T → Answer T → Span T
   ended Never answer = Never
   ended (Open start wrote) answer = Ended start answer wrote
@@ -82,6 +85,7 @@ module _ {T : Type 0} where
   own_after span (Finished p start answer) = ended span answer
   own_after span e = longer span e
 
+  -- the span of a party's latest call after an event
   abbrev pub span_after : ℕ → Span T → Event T → Span T
   span_after p span e = if is_party p (whose e) then own_after span e else span
 

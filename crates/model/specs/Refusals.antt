@@ -11,19 +11,21 @@ use Rattle.model.specs.Rows.{first_row}
 use Rattle.model.specs.World.{World, flight_in}
 
 module _ {T : Type 0} where
-  -- a decision is due
+  -- whether a decision is due: the call under way is at a question
   abbrev pub is_due : Coding T → Option (Flight T) → Bool
   is_due code None = false
   is_due code (Some flight) = is_question (want_of code flight)
 
-  -- a call is under way, and it needs no decision to go on
+  -- whether a call is under way that needs no decision to go on
   abbrev pub goes : Coding T → Option (Flight T) → Bool
   goes code None = false
   goes code (Some flight) = not (is_question (want_of code flight))
 
+  -- whether the party has a call under way that goes on without a decision
   abbrev pub is_going : World T → ℕ → Bool
   is_going w p = goes w.coding (flight_in w p)
 
+  -- whether the machine is at its last turn, 2^64 - 2
   abbrev pub is_at_end : World T → Bool
   is_at_end w = nat_le (2 ^ 64 - 2) w.turns
 
@@ -33,12 +35,12 @@ module _ {T : Type 0} where
       (is_some (flight_in w p), Busy) ∷ begin_rows w.kind w.capacity w.kept p start
   call_rows w (Next p) =
       (is_none (flight_in w p), Idle)
-      -- a question waits
+      -- the call waits at a question for a decision
       ∷ (is_due w.coding (flight_in w p), Undecided)
       ∷ going_rows w.coding w.kept (flight_in w p) None
   call_rows w (Decide p said) =
       (is_none (flight_in w p), Idle)
-      -- none does
+      -- the call waits for no decision
       ∷ (not (is_due w.coding (flight_in w p)), Undecided)
       ∷ going_rows w.coding w.kept (flight_in w p) (Some said)
   call_rows w (Die owner) = death_rows w.kept owner
@@ -58,6 +60,7 @@ module _ {T : Type 0} where
   abbrev pub call_refusal : World T → Turn T → Option Refusal
   call_refusal w turn = first_row (call_rows w turn)
 
+  -- why a turn is refused, if it is
   abbrev pub refusal_of : World T → Turn T → Option Refusal
   refusal_of w turn = first_row (rows_of w turn)
 

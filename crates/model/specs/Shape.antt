@@ -11,6 +11,7 @@ module _ {T : Type 0} where
   IsOpen Such P (Open call wrote) = Such call × P wrote
   IsOpen Such P (Ended call answer wrote) = ⊥
 
+  -- a call that began so is under way, and P holds of what it has written
   abbrev pub IsOpenFor : Start T → (List (Event T) → Type 0) → Span T → Type 0
   IsOpenFor start P span = IsOpen (λ call. call ≡ start) P span
 

@@ -7,15 +7,19 @@ use Rattle.model.specs.Parties.{party_of}
 use Rattle.model.specs.World.{World}
 
 module _ {T : Type 0} where
+  -- what a call counts of changes is at most all changes
   abbrev pub HasSmallCount : ℕ → Doing T → Type 0
   HasSmallCount changes (Going flight since) = since ≤ changes
   HasSmallCount changes (Over others) = others ≤ changes
 
+  -- A party's latest call counts no more steps than the machine has had turns,
+  -- and no more changes than its words have had.
   pub record HasSmallCounts (turns changes : ℕ) (x : Party T) : Type 0 where
     pub steps : x.steps ≤ turns
     pub backs : x.backs ≤ turns
     pub doing : HasSmallCount changes x.doing
 
+  -- a machine whose counts do not wrap at 2^64 in its next turn
   pub record IsSmall (w : World T) : Type 0 where
     pub turns : w.turns ≤ 2 ^ 64 - 2
     pub changes : w.changes ≤ w.turns

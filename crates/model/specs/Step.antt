@@ -1,5 +1,5 @@
--- How a call begins, how it goes on, and what a step of it comes to: in a family by its own
--- calls and what it keeps, in a machine by those of any family.
+-- How a call begins, how it goes on, and what a step of it comes to: in a family by its own calls and what it keeps, in
+-- a machine by those of any family.
 use Rattle.std.specs.Prelude.{ℕ, Bool, Option, Some, None, List}
 use Rattle.steps.specs.declared.ask.After.{After}
 use Rattle.steps.specs.declared.ask.After.TheVariants.{GoOn, Done}
@@ -9,16 +9,19 @@ use Rattle.model.specs.declared.event.Event.{Event}
 use Rattle.model.specs.declared.families.Registry.{Registry}
 use Rattle.model.specs.declared.turn.Refusal.{Refusal}
 
+-- how a call of the model begins
 pub record Beginning (F K : Type 0) : Type 0 where
   pub call : K → Option F  -- the call that begins, or None where the kind has no such call
   pub rows : K → ℕ → List (Bool × Refusal)  -- what is tested of a party that is to begin it
 
+-- how a call of the model goes on
 pub record Going (F T : Type 0) : Type 0 where
   pub want : Want (Unit {0})  -- what the call wants next
   pub rows : Registry T → Option Bool → List (Bool × Refusal)  -- what is tested before it goes on
   pub after : ℕ → After F (Answer T)  -- how it goes on from the old value of its word
   pub most : ℕ  -- its next step writes at most so many events, apart from the end of the call
 
+-- what a step of a call comes to
 pub record Step (F K T : Type 0) : Type 0 where
   pub after : After F (Answer T)  -- the call goes on, or it is done
   pub back : Bool  -- whether it begins a turn of its loop again
@@ -37,6 +40,7 @@ module _ {R F A B : Type 0} where
   as_call flight answer (Done result) = Done (answer result)
 
 module _ {R F K L T : Type 0} where
+  -- a step of one kind of call, with what its family keeps, as one of another kind
   abbrev pub as_step : (R → F) → (K → L) → Step R K T → Step F L T
   as_step flight kept s =
       record {

@@ -30,6 +30,7 @@ abbrev pub old_of : List ℕ → Option Ask → ℕ
 old_of words None = 0
 old_of words (Some ask) = slice_index words ask.word
 
+-- the words after an operation on one of them, or as they are where none is asked for
 abbrev pub words_after : List ℕ → Option Ask → List ℕ
 words_after words None = words
 words_after words (Some ask) =
@@ -53,7 +54,7 @@ abbrev pub step_count : Option Ask → ℕ
 step_count None = 0
 step_count (Some ask) = 1
 
--- what a turn back counts
+-- 1 where it is so, else 0
 abbrev pub one_if : Bool → ℕ
 one_if true = 1
 one_if false = 0
@@ -66,10 +67,12 @@ module _ {T : Type 0} where
 
   -- ---- a call begins
 
+  -- a party whose call has just begun, at this number of changes
   abbrev pub party_at_begin : Start T → Flight T → ℕ → Party T
   party_at_begin start flight changes =
       record { start = start; steps = 0; backs = 0; doing = Going flight changes }
 
+  -- the machine once the party has begun the call, if its kind has one
   abbrev pub after_begin : World T → ℕ → Start T → Option (Flight T) → World T
   after_begin w p start None = w
   after_begin w p start (Some flight) =
@@ -81,12 +84,13 @@ module _ {T : Type 0} where
 
   -- ---- a call goes on
 
-  -- where the call stands then
+  -- Where a party's latest call stands after a step:
+  -- it goes on, or is over, and others have changed words so often meanwhile.
   abbrev pub doing_after : (changes since : ℕ) → After (Flight T) (Answer T) → Doing T
   doing_after changes since (GoOn flight) = Going flight since
   doing_after changes since (Done answer) = Over (changes - since)
 
-  -- its party, after so many steps more and so many changes of a word
+  -- a party after so many steps more of its call and so many changes of a word
   abbrev pub party_after : Party T → ℕ → ℕ → ℕ → ℕ → Step (Flight T) (Registry T) T → Party T
   party_after x since changes steps change s =
       record {
@@ -119,6 +123,7 @@ module _ {T : Type 0} where
   after_answer w p x ask answer (Going flight since) =
       after_step w p x since ask (step_in w p x flight answer)
 
+  -- the event with which a call ends, if it has an answer
   abbrev pub ending_of : ℕ → Start T → Option (Answer T) → List (Event T)
   ending_of p start None = []
   ending_of p start (Some answer) = Finished p start answer ∷ []
@@ -127,6 +132,7 @@ module _ {T : Type 0} where
   abbrev pub events_of_step : ℕ → Start T → Step (Flight T) (Registry T) T → List (Event T)
   events_of_step p start s = s.wrote ++ ending_of p start (answer_in s.after)
 
+  -- what the step of a party's call writes down, which is handed this answer; nothing of a call that is done
   abbrev pub events_of_answer : World T → ℕ → Party T → ℕ → Doing T → List (Event T)
   events_of_answer w p x answer (Over others) = []
   events_of_answer w p x answer (Going flight since) =
@@ -151,10 +157,11 @@ module _ {T : Type 0} where
   after_decision w p said None = w
   after_decision w p said (Some x) = after_answer w p x None (number_of said) x.doing
 
-  -- the owner is dead
+  -- the machine once the owner is dead
   abbrev pub after_death : World T → ℕ → World T
   after_death w owner = record w { kept = kept_after_death w.kept owner; turns = w.turns + 1 }
 
+  -- the machine after a turn that is not refused
   abbrev pub world_after : World T → Turn T → World T
   world_after w (Begin p start) = after_begin w p start (first_of w.kind w.capacity start w.kept)
   world_after w (Next p) = after_next w p (party_of p w.latest)
@@ -163,15 +170,18 @@ module _ {T : Type 0} where
 
   -- ---- what it writes down
 
+  -- what a turn `Next` of a party writes down, by its latest call
   abbrev pub events_of_next : World T → ℕ → Option (Party T) → List (Event T)
   events_of_next w p None = []
   events_of_next w p (Some x) =
       events_of_answer w p x (old_of w.words (ask_of_doing w.coding x.doing)) x.doing
 
+  -- what a decision for a party writes down, by its latest call
   abbrev pub events_of_decision : World T → ℕ → Bool → Option (Party T) → List (Event T)
   events_of_decision w p said None = []
   events_of_decision w p said (Some x) = events_of_answer w p x (number_of said) x.doing
 
+  -- what a turn that is not refused writes down
   abbrev pub events_of : World T → Turn T → List (Event T)
   events_of w (Begin p start) = Begun p start ∷ []
   events_of w (Next p) = events_of_next w p (party_of p w.latest)
@@ -180,24 +190,28 @@ module _ {T : Type 0} where
 
   -- ---- lists of turns
 
+  -- the machine and its events after a turn that is not refused
   abbrev pub after_turn : Trace T → Turn T → Trace T
   after_turn t turn =
       record { world = world_after t.world turn; events = t.events ++ events_of t.world turn }
 
-  -- these turns, one after another
+  -- the machine and its events after these turns, none of which is refused
   abbrev pub after_turns : Trace T → List (Turn T) → Trace T
   after_turns t [] = t
   after_turns t (turn ∷ turns) = after_turns (after_turn t turn) turns
 
+  -- a refused turn changes nothing
   abbrev pub unless_refused : (old new : Trace T) → Option Refusal → Trace T
   unless_refused old new None = new
   unless_refused old new (Some refusal) = old
 
   -- turns where `refuses` says why one is refused, which then changes nothing
   module _ (refuses : World T → Turn T → Option Refusal) where
+    -- a turn is taken, or refused
     abbrev pub attempt_by : Trace T → Turn T → Trace T
     attempt_by t turn = unless_refused t (after_turn t turn) (refuses t.world turn)
 
+    -- the turns are taken or refused, one after another
     abbrev pub run_by : List (Turn T) → Trace T → Trace T
     run_by [] t = t
     run_by (turn ∷ turns) t = run_by turns (attempt_by t turn)
@@ -216,13 +230,16 @@ module _ {T : Type 0} where
       pub is : t
           ≡ run_by turns (opening t.world.coding t.world.kind t.world.capacity t.world.parties)
 
-  -- with the refusals of a `Machine`: a turn, turns, and that none is refused
+  -- A turn of a machine, which changes nothing where it is refused;
+  -- below, turns one after another, and that none is refused.
   abbrev pub attempt : Trace T → Turn T → Trace T
   attempt = attempt_by refusal_of
 
+  -- turns of a machine, one after another, of which refused ones change nothing
   abbrev pub run : List (Turn T) → Trace T → Trace T
   run = run_by refusal_of
 
+  -- none of these turns is refused
   abbrev pub AreAllowed : Trace T → List (Turn T) → Type 0
   AreAllowed = AreAllowedBy refusal_of
 
@@ -230,12 +247,15 @@ module _ {T : Type 0} where
   abbrev pub attempt_on : Trace T → Turn T → Trace T
   attempt_on = attempt_by call_refusal
 
+  -- turns one after another, of which refused ones change nothing
   abbrev pub run_on : List (Turn T) → Trace T → Trace T
   run_on = run_by call_refusal
 
+  -- none of these turns is refused
   abbrev pub AreAllowedOn : Trace T → List (Turn T) → Type 0
   AreAllowedOn = AreAllowedBy call_refusal
 
+  -- turns without a bound lead here from an opening
   abbrev pub IsReachedOn : Trace T → Type 0
   IsReachedOn = IsReachedBy call_refusal
 
@@ -244,7 +264,9 @@ module _ {T : Type 0} where
   pub record IsReached (t : Trace T) : Type 0 where
     pub coded : IsCoding t.world.coding
     pub admitted : capacity_error t.world.kind t.world.capacity ≡ None
+    -- the capacity of a loan channel's submission queue
     pub queue : ℕ
+    -- that capacity is admitted too
     pub queued : queue_error t.world.kind queue ≡ None
     pub turns : List (Turn T)
     pub is : t

@@ -17,6 +17,7 @@ use Rattle.model.specs.Families.{opening_of}
 use Rattle.model.specs.Families.Loan.Opening.{opening_words, opening_kept}
 use Rattle.model.specs.Parties.{party_of, doing_of, flight_of, progress_after}
 
+-- a machine: its structure, its parties, and what they are at
 pub record World (T : Type 0) : Type 0 where
   pub coding : Coding T  -- how its values are written in words
   pub kind : Kind
@@ -47,6 +48,7 @@ pub record Trace (T : Type 0) : Type 0 where
 
 -- ---- a structure: its kind, and its one or two numbers
 
+-- the kind of a machine of this shape
 abbrev pub kind_in : Shape → Kind
 kind_in (shapes.Of kind capacity) = kind
 kind_in (shapes.Loan slots queue) = Loan
@@ -80,6 +82,7 @@ loan_error slots queue =
     then Some ProvidedCapacityIsZero
     else None
 
+-- why there is no machine of this shape, by its capacity
 abbrev pub shape_error : Shape → Option UniqueIndexCreationError
 shape_error (shapes.Of kind capacity) = capacity_error kind capacity
 shape_error (shapes.Loan slots queue) = loan_error slots queue
@@ -94,7 +97,7 @@ abbrev pub words_opened : Kind → (size capacity queue : ℕ) → List ℕ
 words_opened Loan size capacity queue = opening_words capacity queue
 words_opened kind size capacity queue = (opening_of kind).words size capacity
 
--- and what is kept beside them
+-- what is kept beside the words at the opening
 abbrev pub kept_opened : {T : Type 0} → Kind → ℕ → ℕ → Registry T
 kept_opened Loan capacity queue = opening_kept capacity queue
 kept_opened kind capacity queue = (opening_of kind).kept capacity
@@ -119,9 +122,11 @@ module _ {T : Type 0} where
         events = s.events;
       }
 
+  -- the machine that holds this, without its events
   abbrev pub world_in : Coding T → State T → World T
   world_in code s = (trace_in code s).world
 
+  -- the machine of a kind with so many parties as it opens, before its first turn
   abbrev pub opening : Coding T → Kind → (capacity parties : ℕ) → Trace T
   opening code kind capacity parties =
       record {

@@ -40,14 +40,17 @@ use Rattle.pages.specs.Reading.{asked}
 
 -- ---- stage by stage
 
+-- a call of the page as one of the model
 abbrev pub bits_start : page.Call → BitsStart
 bits_start (page.Set place) = starts.Set place
 bits_start page.ResetNext = starts.ResetNext
 bits_start page.ResetAll = starts.ResetAll
 
+-- a set of this place at this stage, as a call of the model
 abbrev pub setting : ℕ → SetStage → BitsFlight
 setting place stage = flights.Set (record { call = at_set stage; given = place; room = tt })
 
+-- a reset of the next place at this stage, as a call of the model
 abbrev pub nexting : ℕ → ResetNextStage → BitsFlight
 nexting c stage = flights.ResetNext (record { call = at_reset (first_reset c) stage; given = tt; room = tt })
 
@@ -56,6 +59,7 @@ abbrev pub emptying : (c found word : ℕ) → BitsFlight
 emptying c found word =
     flights.ResetAll (record { call = record { word = word; end = 1 + elements c }; given = tt; room = record { 0 = found } })
 
+-- a stage of the page as a call under way of the model; `found` is what a reset of all found in the element before
 abbrev pub flight : (c found : ℕ) → page.Stage → BitsFlight
 flight c found (page.SetLoadsElement place) = setting place sets.LoadsElement
 flight c found (page.SetExchangesElement place element) = setting place (sets.ExchangesElement element)
@@ -71,16 +75,17 @@ answered (page.WasSet new) = answers.Truth new
 answered (page.WasReset place) = reset_answer place
 answered (page.WereReset places) = answers.Done
 
+-- how a call of the page goes on, as a call of the model: `found` is the old word
 abbrev pub went : (c found : ℕ) → (machine.After page.Stage page.Answer) → After BitsFlight (Answer ℕ)
 went c found (machine.GoOn stage) = GoOn (flight c found stage)
 went c found (machine.Done answer) = Done (answered answer)
 
--- a reset of all has an element left
+-- a stage that a call comes to: a reset of all has an element left
 abbrev pub Fits : ℕ → page.Stage → Type 0
 Fits c (page.AllSwapsElement word places) = word < 1 + elements c
 Fits c stage = Unit {0}
 
--- it asks for what the code asks for, and goes on from each old word as the code does
+-- At each stage a call of the page asks for what the code asks for, and goes on from each old word as the code does.
 abbrev pub BitSetDoesAsTheCode : Type 0
 BitSetDoesAsTheCode =
     (c found : ℕ) (stage : page.Stage) → Fits c stage
@@ -102,6 +107,7 @@ SetsByTable =
     × (after {T = ℕ} (setting place stage) old
     ≡ as_call flights.Set answers.Truth (went_on as_it_is place tt (set_takes stage place old)))
 
+-- the same for a reset of the next place
 abbrev pub NextsByTable : Type 0
 NextsByTable =
     (c : ℕ) (stage : ResetNextStage) (old : ℕ)
@@ -110,6 +116,7 @@ NextsByTable =
     ≡ as_call flights.ResetNext reset_answer
     (went_on as_it_is tt tt (reset_takes (at_reset (first_reset c) stage) stage old)))
 
+-- the same for a reset of all places
 abbrev pub AllsByTable : Type 0
 AllsByTable =
     (c found word old : ℕ)
@@ -120,17 +127,20 @@ AllsByTable =
 
 -- ---- turn by turn
 
+-- a call of the model as one of the page
 abbrev pub call_seen : Start ℕ → page.Call
 call_seen (Bits (starts.Set place)) = page.Set place
 call_seen (Bits starts.ResetNext) = page.ResetNext
 call_seen other = page.ResetAll
 
+-- an answer of the model as one of the page, for a call that handed out these places
 abbrev pub answer_seen : List ℕ → Answer ℕ → page.Answer
 answer_seen places (answers.Truth new) = page.WasSet new
 answer_seen places (answers.Reset place) = page.WasReset (Some place)
 answer_seen places answers.ResetNone = page.WasReset None
 answer_seen places other = page.WereReset places
 
+-- what the event hands out, and to whom, if it hands anything out
 abbrev pub item_seen : Event ℕ → Option (ℕ × ℕ)
 item_seen (Cleared p place) = Some (p, place)
 item_seen e = None
@@ -144,6 +154,7 @@ abbrev pub as_turn : (machine.Turn page.Call) → Turn ℕ
 as_turn (machine.Begin p call) = Begin p (Bits (bits_start call))
 as_turn (machine.Next p) = Next p
 
+-- the party of a turn that begins a call is one of this many
 abbrev pub IsWithin : {Call : Type 0} → ℕ → machine.Turn Call → Type 0
 IsWithin parties (machine.Begin p call) = p < parties
 IsWithin parties (machine.Next p) = Unit {0}
@@ -152,13 +163,15 @@ IsWithin parties (machine.Next p) = Unit {0}
 abbrev pub AreWithin : {Call : Type 0} → ℕ → List (machine.Turn Call) → Type 0
 AreWithin parties turns = AllByRecursion (IsWithin parties) turns
 
+-- The same turns lead the page's machine and the model's machine, for 1 to 2^32 - 1 places and up to 2^63 - 1 turns, to
+-- the same words and the same history of invocations and responses.
 abbrev pub BitSetRunsAsTheMachine : Type 0
 BitSetRunsAsTheMachine =
     (c parties : ℕ) (turns : List (machine.Turn page.Call)) → 0 < c → c < 2 ^ 32 → AreWithin parties turns → length turns < 2 ^ 63
     → IsTold reading (run (map as_turn turns) (opening one_word kinds.Bits c parties))
     (fold (machine.turned (page.bit_set c)) (machine.opening (page.bit_set c)) turns)
 
--- where this is a run of such turns
+-- what `BitSetRunsAsTheMachine` says, of a trace that is a run of such turns
 abbrev pub BitSetIsRun : Trace ℕ → Type 0
 BitSetIsRun t =
     (c parties : ℕ) (turns : List (machine.Turn page.Call)) → 0 < c → c < 2 ^ 32 → AreWithin parties turns → length turns < 2 ^ 63

@@ -34,10 +34,12 @@ use Rattle.pages.specs.Reading.{asked}
 
 -- ---- stage by stage
 
+-- a call of the page as one of the model
 abbrev pub counts_start : page.Call → BitsStart
 counts_start (page.Set place) = starts.Set place
 counts_start page.ResetAll = starts.ResetAll
 
+-- a count of this place, as a call of the model
 abbrev pub counting : ℕ → BitsFlight
 counting place = flights.Count (record { call = add_one; given = place; room = tt })
 
@@ -46,6 +48,7 @@ abbrev pub emptying : (c found place : ℕ) → BitsFlight
 emptying c found place =
     flights.TakeAll (record { call = record { word = place; end = c }; given = tt; room = record { 0 = found } })
 
+-- a stage of the page as a call under way of the model; `found` is what a reset of all found in the word before
 abbrev pub flight : (c found : ℕ) → page.Stage → BitsFlight
 flight c found (page.SetAdds place) = counting place
 flight c found (page.AllSwaps place counts) = emptying c found place
@@ -55,16 +58,17 @@ abbrev pub answered : page.Answer → Answer ℕ
 answered (page.Counted before) = answers.Number before
 answered (page.WereReset counts) = answers.Done
 
+-- how a call of the page goes on, as a call of the model
 abbrev pub went : (c found : ℕ) → (machine.After page.Stage page.Answer) → After BitsFlight (Answer ℕ)
 went c found (machine.GoOn stage) = GoOn (flight c found stage)
 went c found (machine.Done answer) = Done (answered answer)
 
--- a reset of all has a place left
+-- a stage that a call comes to: a reset of all has a place left
 abbrev pub Fits : ℕ → page.Stage → Type 0
 Fits c (page.AllSwaps place counts) = place < c
 Fits c stage = Unit {0}
 
--- it asks for what the code asks for, and goes on from each old word as the code does
+-- At each stage a call of the page asks for what the code asks for, and goes on from each old word as the code does.
 abbrev pub CountingDoesAsTheCode : Type 0
 CountingDoesAsTheCode =
     (c found : ℕ) (stage : page.Stage) → Fits c stage
@@ -89,6 +93,7 @@ CountsByTable =
     → (want (counting place) ≡ set_want add_one place)
     × (after {T = ℕ} (counting place) old ≡ as_call flights.Count answers.Number (went_on as_it_is place tt (set_after add_one old)))
 
+-- the same for a reset of all places
 abbrev pub TakesByTable : Type 0
 TakesByTable =
     (c found place old : ℕ)
@@ -99,14 +104,17 @@ TakesByTable =
 
 -- ---- turn by turn
 
+-- a call of the model as one of the page
 abbrev pub call_seen : Start ℕ → page.Call
 call_seen (Bits (starts.Set place)) = page.Set place
 call_seen other = page.ResetAll
 
+-- an answer of the model as one of the page
 abbrev pub answer_seen : List (ℕ × ℕ) → Answer ℕ → page.Answer
 answer_seen counts (answers.Number before) = page.Counted before
 answer_seen counts other = page.WereReset counts
 
+-- what the event hands out, and to whom, if it hands anything out
 abbrev pub item_seen : Event ℕ → Option (ℕ × (ℕ × ℕ))
 item_seen (TakenOut p place number) = Some (p, (place, number))
 item_seen e = None
@@ -120,13 +128,15 @@ abbrev pub as_turn : (machine.Turn page.Call) → Turn ℕ
 as_turn (machine.Begin p call) = Begin p (Bits (counts_start call))
 as_turn (machine.Next p) = Next p
 
+-- The same turns lead the page's machine and the model's machine, for 1 to 2^32 - 1 places and up to 2^63 - 1 turns, to
+-- the same words and the same history of invocations and responses.
 abbrev pub CountingRunsAsTheMachine : Type 0
 CountingRunsAsTheMachine =
     (c parties : ℕ) (turns : List (machine.Turn page.Call)) → 0 < c → c < 2 ^ 32 → AreWithin parties turns → length turns < 2 ^ 63
     → IsTold reading (run (map as_turn turns) (opening one_word kinds.Counts c parties))
     (fold (machine.turned (page.counting_bit_set c)) (machine.opening (page.counting_bit_set c)) turns)
 
--- where this is a run of such turns
+-- what `CountingRunsAsTheMachine` says, of a trace that is a run of such turns
 abbrev pub CountingIsRun : Trace ℕ → Type 0
 CountingIsRun t =
     (c parties : ℕ) (turns : List (machine.Turn page.Call)) → 0 < c → c < 2 ^ 32 → AreWithin parties turns → length turns < 2 ^ 63

@@ -38,18 +38,22 @@ use Rattle.pages.specs.Reading.{IsSame, Reading, asked}
 
 -- ---- stage by stage
 
+-- a call of the page as one of the model
 abbrev pub queue_start : page.Call → QueueStart ℕ
 queue_start (page.Push value) = starts.PushIndex value
 queue_start page.Pop = starts.Pop
 
+-- a push of this value at this stage, as a call of the model
 abbrev pub pushing : (capacity value : ℕ) → PushStage → QueueFlight ℕ
 pushing capacity value stage =
     Indices (rings.Push (record { call = record { capacity = capacity; stage = stage; of = record {} }; given = value; room = tt }))
 
+-- a pop at this stage, with what it has loaded, as a call of the model
 abbrev pub popping : (capacity value : ℕ) → PopStage → QueueFlight ℕ
 popping capacity value stage =
     Indices (rings.Pop (record { call = record { capacity = capacity; stage = stage; of = record {} }; given = tt; room = record { 0 = value } }))
 
+-- a stage of the page as a call under way of the model, in a queue of capacity c
 abbrev pub flight : ℕ → page.Stage → QueueFlight ℕ
 flight c (page.PushLoadsWrite value) = pushing c value pushes.LoadsWrite
 flight c (page.PushLoadsRead value write) = pushing c value (pushes.LoadsRead write)
@@ -60,22 +64,24 @@ flight c (page.PopLoadsWrite read) = popping c 0 (pops.LoadsWrite read)
 flight c (page.PopLoadsCell read) = popping c 0 (pops.LoadsCell read (cell_word c 1 read) 0)
 flight c (page.PopStoresRead read value) = popping c value (pops.StoresRead read)
 
+-- an answer of the page as one of the model
 abbrev pub answered : page.Answer → Answer ℕ
 answered (page.Pushed b) = Truth b
 answered (page.Popped None) = PoppedNone
 answered (page.Popped (Some value)) = PoppedIndex value
 
+-- how a call of the page goes on, as a call of the model
 abbrev pub went : ℕ → (machine.After page.Stage page.Answer) → After (QueueFlight ℕ) (Answer ℕ)
 went c (machine.GoOn stage) = GoOn (flight c stage)
 went c (machine.Done answer) = Done (answered answer)
 
--- a call that goes to a cell has found that there is one
+-- a stage that a call comes to: at a cell it has found that there is one
 abbrev pub Fits : ℕ → page.Stage → Type 0
 Fits c (page.PushStoresCell value write) = (c == 0) ≡ false
 Fits c (page.PopLoadsCell read) = (c == 0) ≡ false
 Fits c stage = Unit {0}
 
--- it asks for what the code asks for, and goes on from each old word as the code does
+-- At each stage a call of the page asks for what the code asks for, and goes on from each old word as the code does.
 abbrev pub DoesAsTheCode : Type 0
 DoesAsTheCode =
     (c : ℕ) (stage : page.Stage) → c < 2 ^ 32 → Fits c stage
@@ -91,6 +97,7 @@ PushesByTable =
     ≡ as_call (λ r. Indices (rings.Push r)) Truth
     (went_on as_it_is value tt (push_takes 1 (record { capacity = c; stage = stage; of = record {} }) stage old)))
 
+-- the same for a pop
 abbrev pub PopsByTable : Type 0
 PopsByTable =
     (c value : ℕ) (stage : PopStage) (old : ℕ)
@@ -102,11 +109,13 @@ PopsByTable =
 
 -- ---- turn by turn
 
+-- a call of the model as one of the page
 abbrev pub call_seen : Start ℕ → page.Call
 call_seen (Queues (PushIndex value)) = page.Push value
 call_seen (Queues (Push value)) = page.Push value
 call_seen other = page.Pop
 
+-- an answer of the model as one of the page
 abbrev pub answer_seen : Answer ℕ → page.Answer
 answer_seen (Truth b) = page.Pushed b
 answer_seen (PoppedIndex value) = page.Popped (Some value)
@@ -122,14 +131,15 @@ abbrev pub as_turn : (machine.Turn page.Call) → Turn ℕ
 as_turn (machine.Begin p call) = Begin p (Queues (queue_start call))
 as_turn (machine.Next p) = Next p
 
--- parties 0 and 1 acquire the roles
+-- the turns in which parties 0 and 1 acquire the roles
 abbrev pub acquires : {T : Type 0} → List (Turn T)
 acquires = Begin 0 (Queues starts.AcquireProducer) ∷ Next 0 ∷ Begin 1 (Queues starts.AcquireConsumer) ∷ Next 1 ∷ []
 
--- the model's machine once they have
+-- the model's machine once parties 0 and 1 have acquired the roles
 abbrev pub acquired : ℕ → Trace ℕ
 acquired c = run acquires (opening one_word kinds.IndexQueue c 2)
 
+-- the history of the model's machine in which party 0 has acquired the producer's role and party 1 the consumer's
 abbrev pub roles_told : {T : Type 0} → List (Event T)
 roles_told =
     Begun 0 (Queues starts.AcquireProducer)
@@ -138,6 +148,8 @@ roles_told =
     ∷ Finished 1 (Queues starts.AcquireConsumer) (Truth true)
     ∷ []
 
+-- The same turns, once the roles are acquired, lead the page's machine and the model's machine, for a capacity of up to
+-- 2^32 - 1 and up to 2^63 - 1 turns, to the same words and the same history of invocations and responses.
 abbrev pub RunsAsTheMachine : Type 0
 RunsAsTheMachine =
     (c : ℕ) (turns : List (machine.Turn page.Call)) → c < 2 ^ 32 → length turns < 2 ^ 63
@@ -150,5 +162,6 @@ abbrev pub number : ℕ → page.Call → ℕ
 number p (page.Push value) = 0
 number p page.Pop = 1
 
+-- how the page reads calls and answers, which calls are its own, and by which number a party goes there
 abbrev pub by_role : Naming ℕ page.Call page.Answer
 by_role = record { reading = reading; is_call = is_push_or_pop; number = number }

@@ -35,10 +35,12 @@ use Rattle.pages.specs.IndexQueueBridge.{acquires, roles_told}
 
 -- ---- stage by stage
 
+-- a call of the page as one of the model
 abbrev pub queue_start : page.Call → QueueStart ℕ
 queue_start (page.Push value) = starts.PushIndex value
 queue_start page.Pop = starts.Pop
 
+-- a push of this value at this stage, as a call of the model
 abbrev pub pushing : (capacity value : ℕ) → PushStage → QueueFlight ℕ
 pushing capacity value stage =
     Overflow (overflows.Push (record { call = record { capacity = capacity; stage = stage }; given = value; room = record { 0 = 0 } }))
@@ -48,7 +50,8 @@ abbrev pub popping : (capacity value : ℕ) → PopStage → QueueFlight ℕ
 popping capacity value stage =
     Overflow (overflows.Pop (record { call = record { capacity = capacity; stage = stage }; given = tt; room = record { 0 = value } }))
 
--- the page does not name what a pop read before it went back
+-- A stage of the page as a call under way of the model; `before` is what a pop had loaded before it began again, which
+-- the page does not keep.
 abbrev pub flight : (c before : ℕ) → page.Stage → QueueFlight ℕ
 flight c before (page.PushLoadsWrite value) = pushing c value pushes.LoadsWrite
 flight c before (page.PushLoadsRead value write) = pushing c value (pushes.LoadsRead write)
@@ -61,10 +64,12 @@ flight c before (page.PopLoadsWrite read) = popping c before (pops.LoadsWrite re
 flight c before (page.PopLoadsCell read) = popping c before (pops.LoadsCell read)
 flight c before (page.PopMovesRead read value) = popping c value (pops.MovesRead read)
 
+-- an answer of the page as one of the model
 abbrev pub answered : Option ℕ → Answer ℕ
 answered None = PoppedNone
 answered (Some value) = PoppedIndex value
 
+-- how a call of the page goes on, as a call of the model
 abbrev pub went : (c before : ℕ) → (machine.After page.Stage (Option ℕ)) → After (QueueFlight ℕ) (Answer ℕ)
 went c before (machine.GoOn stage) = GoOn (flight c before stage)
 went c before (machine.Done answer) = Done (answered answer)
@@ -74,7 +79,7 @@ abbrev pub read_then : ℕ → page.Stage → ℕ
 read_then before (page.PopMovesRead read value) = value
 read_then before stage = before
 
--- it asks for what the code asks for, and goes on from each old word as the code does
+-- At each stage a call of the page asks for what the code asks for, and goes on from each old word as the code does.
 abbrev pub OverflowingDoesAsTheCode : Type 0
 OverflowingDoesAsTheCode =
     (c before : ℕ) (stage : page.Stage)
@@ -92,6 +97,7 @@ OverflowingPushesByTable =
     (push_keeps (record { 0 = 0 }) stage old)
     (push_takes (record { capacity = c; stage = stage }) stage old)))
 
+-- the same for a pop
 abbrev pub OverflowingPopsByTable : Type 0
 OverflowingPopsByTable =
     (c value : ℕ) (stage : PopStage) (old : ℕ)
@@ -104,11 +110,13 @@ OverflowingPopsByTable =
 
 -- ---- turn by turn
 
+-- a call of the model as one of the page
 abbrev pub call_seen : Start ℕ → page.Call
 call_seen (Queues (starts.PushIndex value)) = page.Push value
 call_seen (Queues (starts.Push value)) = page.Push value
 call_seen other = page.Pop
 
+-- an answer of the model as one of the page: the index that was handed out, if one was
 abbrev pub answer_seen : Answer ℕ → Option ℕ
 answer_seen (PoppedIndex value) = Some value
 answer_seen (Popped value) = Some value
@@ -127,6 +135,8 @@ as_turn (machine.Next p) = Next p
 abbrev pub acquired : ℕ → Trace ℕ
 acquired c = run acquires (opening one_word kinds.Overflow c 2)
 
+-- The same turns, once the roles are acquired, lead the page's machine and the model's machine, for a capacity from 1
+-- to 2^32 - 1 and up to 2^63 - 1 turns, to the same words and the same history of invocations and responses.
 abbrev pub OverflowingRunsAsTheMachine : Type 0
 OverflowingRunsAsTheMachine =
     (c : ℕ) (turns : List (machine.Turn page.Call)) → 0 < c → c < 2 ^ 32 → length turns < 2 ^ 63
@@ -140,5 +150,6 @@ abbrev pub number : ℕ → page.Call → ℕ
 number p (page.Push value) = 0
 number p page.Pop = 1
 
+-- how the page reads calls and answers, which calls are its own, and by which number a party goes there
 abbrev pub by_role : Naming ℕ page.Call (Option ℕ)
 by_role = record { reading = reading; is_call = is_push_or_pop; number = number }

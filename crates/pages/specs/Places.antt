@@ -1,5 +1,5 @@
--- What calls do at one place of a structure that has many. At a place each call acts at one moment, and what was put there was
--- taken from there or is still there.
+-- What calls do at one place of a structure that has many. At a place each call acts at one moment, and what was put
+-- there was taken from there or is still there.
 use Rattle.std.specs.Prelude.{◌≡◌, ◌≢◌, ◌≤◌, ℕ, ◌+◌, ◌-◌, Option, Some, IfSome, List, [], ◌∷◌, All, map}
 use Rattle.std.specs.List.{AllPairs, Contains, sum_by}
 use Rattle.pages.specs.Machine.{Event, Called, calls_from}
@@ -14,8 +14,8 @@ abbrev pub IsChain : ℕ → List Act → ℕ → Type 0
 IsChain first [] last = first ≡ last
 IsChain first (act ∷ acts) last = (act.found ≡ first) × IsChain act.left acts last
 
--- the sum of what these acts put there equals the sum of what they took from there, plus what is there now (this follows from
--- IsChain from 0)
+-- the sum of what these acts put there equals the sum of what they took from there, plus what is there now (this
+-- follows from IsChain from 0)
 abbrev pub IsConserved : List Act → ℕ → Type 0
 IsConserved acts now = sum_by (λ act. act.left - act.found) acts ≡ sum_by (λ act. act.found - act.left) acts + now
 

@@ -45,24 +45,29 @@ abbrev pub room_of : List ℕ → Buffer 128
 room_of loaded = record { words = loaded ++ replicate (128 - length loaded) 0 }
 
 module _ {T : Type 0} where
+  -- a call of the page as one of the model
   abbrev pub queue_start : page.Call T → QueueStart T
   queue_start (page.Push value) = starts.Push value
   queue_start page.Pop = starts.Pop
 
+  -- a push of this value at this stage, as a call of the model
   abbrev pub pushing : ℕ → T → PushStage → QueueFlight T
   pushing capacity value stage =
       Values (rings.Push (record { call = record { capacity = capacity; stage = stage; of = record {} }; given = value; room = tt }))
 
+  -- a pop at this stage, with what it has loaded, as a call of the model
   abbrev pub popping : ℕ → Buffer 128 → PopStage → QueueFlight T
   popping capacity room stage =
       Values (rings.Pop (record { call = record { capacity = capacity; stage = stage; of = record {} }; given = tt; room = room }))
 
+  -- an answer of the page as one of the model
   abbrev pub answered : page.Answer T → Answer T
   answered (page.Pushed b) = Truth b
   answered (page.Popped None) = PoppedNone
   answered (page.Popped (Some value)) = Popped value
 
 module _ {T : Type 0} (how : page.Written T) (c : ℕ) where
+  -- a stage of the page as a call under way of the model, in a queue of capacity c
   abbrev pub flight : page.Stage T → QueueFlight T
   flight (page.PushLoadsWrite value) = pushing c value pushes.LoadsWrite
   flight (page.PushLoadsRead value write) = pushing c value (pushes.LoadsRead write)
@@ -74,6 +79,7 @@ module _ {T : Type 0} (how : page.Written T) (c : ℕ) where
       popping c (room_of loaded) (pops.LoadsCell read (cell_word c how.size read) (length loaded))
   flight (page.PopStoresRead read loaded) = popping c (room_of loaded) (pops.StoresRead read)
 
+  -- how a call of the page goes on, as a call of the model
   abbrev pub went : machine.After (page.Stage T) (page.Answer T) → After (QueueFlight T) (Answer T)
   went (machine.GoOn stage) = GoOn (flight stage)
   went (machine.Done answer) = Done (answered answer)
@@ -85,7 +91,7 @@ module _ {T : Type 0} (how : page.Written T) (c : ℕ) where
   Fits (page.PopStoresRead read loaded) = length loaded ≡ how.size
   Fits stage = Unit {0}
 
--- it asks for what the code asks for, and goes on from each old word as the code does
+-- At each stage a call of the page asks for what the code asks for, and goes on from each old word as the code does.
 abbrev pub QueueDoesAsTheCode : Type 0 → Type 0
 QueueDoesAsTheCode T =
     (how : page.Written T) (c : ℕ) (stage : page.Stage T) → c < 2 ^ 32 → Fits how c stage
@@ -101,6 +107,7 @@ QueuePushesByTable T =
     ≡ as_call (λ r. Values (rings.Push r)) Truth
     (went_on as_it_is value tt (push_takes code.size (record { capacity = c; stage = stage; of = record {} }) stage old)))
 
+-- the same for a pop
 abbrev pub QueuePopsByTable : Type 0 → Type 0
 QueuePopsByTable T =
     (code : Coding T) (c : ℕ) (room : Buffer 128) (stage : PopStage) (old : ℕ)
@@ -119,6 +126,7 @@ module _ {T : Type 0} where
   call_seen how (Queues (starts.Push value)) = page.Push value
   call_seen how other = page.Pop
 
+  -- an answer of the model as one of the page; a queue of values answers no index
   abbrev pub answer_seen : page.Written T → Answer T → page.Answer T
   answer_seen how (Truth b) = page.Pushed b
   answer_seen how (PoppedIndex value) = page.Popped (Some (how.value_of (replicate how.size 0)))
@@ -138,6 +146,8 @@ module _ {T : Type 0} where
   abbrev pub acquired : page.Written T → ℕ → Trace T
   acquired how c = run acquires (opening (code_of how) kinds.Queue c 2)
 
+-- The same turns, once the roles are acquired, lead the page's machine and the model's machine, for a capacity of up to
+-- 2^32 - 1 and up to 2^63 - 1 turns, to the same words and the same history of invocations and responses.
 abbrev pub QueueRunsAsTheMachine : Type 0 → Type 0
 QueueRunsAsTheMachine T =
     (how : page.Written T) (c : ℕ) (turns : List (machine.Turn (page.Call T))) → c < 2 ^ 32 → length turns < 2 ^ 63
@@ -152,5 +162,6 @@ module _ {T : Type 0} where
   number p (page.Push value) = 0
   number p page.Pop = 1
 
+  -- how the page reads calls and answers, which calls are its own, and by which number a party goes there
   abbrev pub by_role : page.Written T → Naming T (page.Call T) (page.Answer T)
   by_role how = record { reading = reading how; is_call = is_push_or_pop; number = number }

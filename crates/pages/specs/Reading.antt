@@ -11,6 +11,7 @@ use Rattle.model.specs.declared.event.Start.{Start}
 use Rattle.model.specs.World.{Trace}
 use Rattle.pages.specs.Machine as machine
 
+-- an operation of the page as one of the model
 abbrev pub operation : machine.Operation → Op
 operation machine.Load = Load
 operation (machine.Store new) = Store new
@@ -21,6 +22,7 @@ operation (machine.Sub by) = Sub by
 operation (machine.And bits) = And bits
 operation (machine.Or bits) = Or bits
 
+-- an operation of the page on a word, as the model's call asks for it
 abbrev pub asked : ℕ → machine.Operation → Ask
 asked word op = record { word = word; op = operation op }
 
@@ -29,11 +31,12 @@ pub record ReadingOf (T Call Answer : Type 0) : Type 0 where
   pub call : Start T → Call
   pub answer : answers.Answer T → Answer
 
--- of a machine whose values are numbers
+-- how a page reads a machine whose values are numbers
 abbrev pub Reading : Type 0 → Type 0 → Type 0
 Reading Call Answer = ReadingOf ℕ Call Answer
 
 module _ {T Call Answer : Type 0} (read : ReadingOf T Call Answer) where
+  -- what an event says on the page: an invocation, a response, or nothing
   abbrev pub seen : Event T → List (machine.Event Call Answer)
   seen (Begun p start) = machine.Invoked p (read.call start) ∷ []
   seen (Finished p start answer) = machine.Responded p (read.answer answer) ∷ []
@@ -47,5 +50,6 @@ module _ {T Call Answer : Type 0} (read : ReadingOf T Call Answer) where
   pub record IsSame {Stage : Type 0} (first : List (Event T)) (t : Trace T) (w : machine.World Call Stage Answer) : Type 0 where
     pub events : List (Event T)
     pub is : t.events ≡ first ++ events
+    -- they say the page's history
     pub history : all_seen events ≡ w.history
     pub words : t.world.words ≡ w.words

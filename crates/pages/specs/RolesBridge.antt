@@ -20,9 +20,12 @@ pub record Naming (T Call Answer : Type 0) : Type 0 where
   pub number : ℕ → Call → ℕ
 
 module _ {T Call Answer : Type 0} (by : Naming T Call Answer) where
+  -- the number that the party of a call has on the page
   abbrev pub named : ℕ → Start T → ℕ
   named p start = by.number p (by.reading.call start)
 
+  -- What an event says on the page, where its party goes by the number of its call's role:
+  -- other calls than the page's say nothing.
   abbrev pub told : Event T → List (machine.Event Call Answer)
   told (Begun p start) =
       if by.is_call start then machine.Invoked (named p start) (by.reading.call start) ∷ [] else []
@@ -34,6 +37,7 @@ module _ {T Call Answer : Type 0} (by : Naming T Call Answer) where
   abbrev pub all_told : List (Event T) → List (machine.Event Call Answer)
   all_told events = flat_map told events
 
+  -- the turn of the page that a `Next` of the party is, if its call is one of the page's
   abbrev pub next_taken : ℕ → Option (Party T) → List (machine.Turn Call)
   next_taken p None = []
   next_taken p (Some x) = if by.is_call x.start then machine.Next (named p x.start) ∷ [] else []
@@ -45,6 +49,7 @@ module _ {T Call Answer : Type 0} (by : Naming T Call Answer) where
   turn_taken w (Next p) = next_taken p (party_of p w.latest)
   turn_taken w turn = []
 
+  -- the turns of the page that these turns of the model are
   abbrev pub turns_taken : Trace T → List (Turn T) → List (machine.Turn Call)
   turns_taken t [] = []
   turns_taken t (turn ∷ turns) = turn_taken t.world turn ++ turns_taken (after_turn t turn) turns

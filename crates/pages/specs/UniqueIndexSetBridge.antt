@@ -38,21 +38,26 @@ use Rattle.pages.specs.UniqueIndexSet as page
 
 -- ---- stage by stage
 
+-- the mode of a release that may lock or not
 abbrev pub mode : Bool → ReleaseMode
 mode true = LockIfLastIndex
 mode false = Default
 
+-- a call of the page as one of the model
 abbrev pub index_start : page.Call → IndexStart
 index_start page.Acquire = starts.Acquire
 index_start (page.Release index may_lock) = starts.Release index (mode may_lock)
 
+-- an acquire at this stage, as a call of the model
 abbrev pub acquiring : ℕ → AcquireStage → IndexFlight
 acquiring c stage = flights.Acquire (record { call = at_acquire (first_acquire c) stage; given = tt; room = tt })
 
+-- a release of this index at this stage, as a call of the model
 abbrev pub releasing : (c index : ℕ) → Bool → ReleaseStage → IndexFlight
 releasing c index true stage = flights.ReleaseLock (record { call = at_release (first_release c) stage; given = index; room = tt })
 releasing c index false stage = flights.ReleaseDefault (record { call = at_release (first_release c) stage; given = index; room = tt })
 
+-- a stage of the page as a call under way of the model, in a set of capacity c
 abbrev pub flight : ℕ → page.Stage → IndexFlight
 flight c page.AcquireLoadsHead = acquiring c acquires.LoadsHead
 flight c (page.AcquireLoadsNext head) = acquiring c (acquires.LoadsNext head)
@@ -65,6 +70,7 @@ flight c (page.ReleaseStoresNext index may_lock head) = releasing c index may_lo
 flight c (page.ReleaseExchangesHead index may_lock head) = releasing c index may_lock (releases.ExchangesHead head)
 flight c (page.ReleaseSubtracts index) = releasing c index false releases.Subtracts
 
+-- an answer of the page as one of the model
 abbrev pub answered : page.Answer → Answer ℕ
 answered (page.Acquired index) = answers.Index index
 answered page.OutOfIndices = answers.NoIndex failures.OutOfIndices
@@ -72,11 +78,12 @@ answered page.IsLocked = answers.NoIndex failures.IsLocked
 answered (page.Released true) = answers.State states.Locked
 answered (page.Released false) = answers.State states.Unlocked
 
+-- how a call of the page goes on, as a call of the model
 abbrev pub went : ℕ → (machine.After page.Stage page.Answer) → After IndexFlight (Answer ℕ)
 went c (machine.GoOn stage) = GoOn (flight c stage)
 went c (machine.Done answer) = Done (answered answer)
 
--- it asks for what the code asks for, and goes on from each old word as the code does
+-- At each stage a call of the page asks for what the code asks for, and goes on from each old word as the code does.
 abbrev pub UniqueDoesAsTheCode : Type 0
 UniqueDoesAsTheCode =
     (c : ℕ) (stage : page.Stage)
@@ -92,6 +99,7 @@ AcquiresByTable =
     ≡ as_call flights.Acquire acquire_answer
     (went_on as_it_is tt tt (acquire_takes (at_acquire (first_acquire c) stage) stage old)))
 
+-- the same for a release in the default mode
 abbrev pub ReleasesByTable : Type 0
 ReleasesByTable =
     (c index : ℕ) (stage : ReleaseStage) (old : ℕ)
@@ -100,6 +108,7 @@ ReleasesByTable =
     ≡ as_call flights.ReleaseDefault answers.State
     (went_on as_it_is index tt (release_takes false (at_release (first_release c) stage) stage old)))
 
+-- the same for a release in the mode that locks
 abbrev pub LockingReleasesByTable : Type 0
 LockingReleasesByTable =
     (c index : ℕ) (stage : ReleaseStage) (old : ℕ)
@@ -110,11 +119,13 @@ LockingReleasesByTable =
 
 -- ---- turn by turn
 
+-- a call of the model as one of the page
 abbrev pub call_seen : Start ℕ → page.Call
 call_seen (Indices (starts.Release index LockIfLastIndex)) = page.Release index true
 call_seen (Indices (starts.Release index Default)) = page.Release index false
 call_seen other = page.Acquire
 
+-- an answer of the model as one of the page
 abbrev pub answer_seen : Answer ℕ → page.Answer
 answer_seen (answers.Index index) = page.Acquired index
 answer_seen (answers.NoIndex failures.OutOfIndices) = page.OutOfIndices
@@ -122,6 +133,7 @@ answer_seen (answers.NoIndex failures.IsLocked) = page.IsLocked
 answer_seen (answers.State states.Locked) = page.Released true
 answer_seen other = page.Released false
 
+-- the set's calls and answers, as the page names them
 abbrev pub reading : Reading page.Call page.Answer
 reading = record { call = call_seen; answer = answer_seen }
 
@@ -130,7 +142,9 @@ abbrev pub as_turn : (machine.Turn page.Call) → Turn ℕ
 as_turn (machine.Begin p call) = Begin p (Indices (index_start call))
 as_turn (machine.Next p) = Next p
 
--- where each index is released by its holder; the model refuses any other release
+-- The same turns lead the page's machine and the model's machine, for 1 to 2^24 -
+-- 2 indices and up to 2^63 - 1 turns, to the same words and the same history,
+-- where each index is released by its holder; the model refuses any other release.
 abbrev pub UniqueRunsAsTheMachine : Type 0
 UniqueRunsAsTheMachine =
     (c parties : ℕ) (turns : List (machine.Turn page.Call)) → 0 < c → c < 2 ^ 24 - 1 → AreWithin parties turns → length turns < 2 ^ 63
@@ -138,7 +152,7 @@ UniqueRunsAsTheMachine =
     page.Each page.ReleasesOwn w.history
     → IsSame reading [] (run (map as_turn turns) (opening one_word kinds.Indices c parties)) w)
 
--- where this is a run of such turns
+-- what `UniqueRunsAsTheMachine` says, of a trace that is a run of such turns
 abbrev pub UniqueIsRun : Trace ℕ → Type 0
 UniqueIsRun t =
     (c parties : ℕ) (turns : List (machine.Turn page.Call)) → 0 < c → c < 2 ^ 24 - 1 → AreWithin parties turns → length turns < 2 ^ 63

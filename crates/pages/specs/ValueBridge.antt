@@ -36,10 +36,12 @@ use Rattle.pages.specs.Reading.{IsSame, Reading, asked}
 
 -- ---- stage by stage
 
+-- a call of the page as one of the model
 abbrev pub value_start : page.Call → AtomicStart ℕ
 value_start (page.StoreValue value) = starts.Store value
 value_start page.LoadValue = starts.Load
 
+-- a store of this value at this stage, as a call of the model
 abbrev pub storing : ℕ → StoreStage → AtomicFlight ℕ
 storing value stage = flights.Store (record { call = record { stage = stage; of = record {} }; given = value; room = tt })
 
@@ -58,10 +60,12 @@ flight before (page.LoadLoadsCell version) =
     loading before (loads.LoadsCell version (cell_word 1 (before_version version)) 0)
 flight before (page.LoadChecksVersion version value) = loading value (loads.ChecksVersion version)
 
+-- an answer of the page as one of the model
 abbrev pub answered : page.Answer → Answer ℕ
 answered (page.Stored b) = answers.Truth b
 answered (page.Loaded value) = answers.Loaded value
 
+-- how a call of the page goes on, as a call of the model
 abbrev pub went : ℕ → (machine.After page.Stage page.Answer) → After (AtomicFlight ℕ) (Answer ℕ)
 went before (machine.GoOn stage) = GoOn (flight before stage)
 went before (machine.Done answer) = Done (answered answer)
@@ -71,7 +75,7 @@ abbrev pub read_then : ℕ → page.Stage → ℕ
 read_then before (page.LoadChecksVersion version value) = value
 read_then before stage = before
 
--- it asks for what the code asks for, and goes on from each old word as the code does
+-- At each stage a call of the page asks for what the code asks for, and goes on from each old word as the code does.
 abbrev pub ValueDoesAsTheCode : Type 0
 ValueDoesAsTheCode =
     (before : ℕ) (stage : page.Stage)
@@ -87,6 +91,7 @@ StoresByTable =
     ≡ as_call flights.Store answers.Truth
     (went_on as_it_is value tt (store_takes 1 (record { stage = stage; of = record {} }) stage old)))
 
+-- the same for a load
 abbrev pub LoadsByTable : Type 0
 LoadsByTable =
     (word : ℕ) (stage : LoadStage) (old : ℕ)
@@ -99,10 +104,12 @@ LoadsByTable =
 
 -- ---- turn by turn
 
+-- a call of the model as one of the page
 abbrev pub call_seen : Start ℕ → page.Call
 call_seen (Atomic (starts.Store value)) = page.StoreValue value
 call_seen other = page.LoadValue
 
+-- an answer of the model as one of the page
 abbrev pub answer_seen : Answer ℕ → page.Answer
 answer_seen (answers.Truth b) = page.Stored b
 answer_seen (answers.Loaded value) = page.Loaded value
@@ -117,14 +124,15 @@ abbrev pub as_turn : (machine.Turn page.Call) → Turn ℕ
 as_turn (machine.Begin p call) = Begin p (Atomic (value_start call))
 as_turn (machine.Next p) = Next p
 
--- party 0 acquires the role
+-- the turns in which party 0 acquires the role
 abbrev pub acquires : List (Turn ℕ)
 acquires = Begin 0 (Atomic starts.AcquireProducer) ∷ Next 0 ∷ []
 
--- the model's machine of so many parties once it has
+-- the model's machine of so many parties once party 0 has acquired the role
 abbrev pub acquired : ℕ → Trace ℕ
 acquired parties = run acquires (opening one_word kinds.Atomic 1 parties)
 
+-- the history of the model's machine in which party 0 has acquired the role
 abbrev pub role_told : List (Event ℕ)
 role_told = Begun 0 (Atomic starts.AcquireProducer) ∷ Finished 0 (Atomic starts.AcquireProducer) (answers.Truth true) ∷ []
 
@@ -134,6 +142,8 @@ parties_of [] = 1
 parties_of (machine.Begin p call ∷ turns) = p + parties_of turns + 1
 parties_of (machine.Next p ∷ turns) = parties_of turns
 
+-- The same turns, once party 0 has acquired the role, lead the page's machine and the model's machine, for up to 2^63 -
+-- 1 turns, to the same words and the same history of invocations and responses.
 abbrev pub ValueRunsAsTheMachine : Type 0
 ValueRunsAsTheMachine =
     (turns : List (machine.Turn page.Call)) (parties : ℕ) → parties_of turns ≤ parties → length turns < 2 ^ 63
@@ -147,5 +157,6 @@ abbrev pub number : ℕ → page.Call → ℕ
 number p (page.StoreValue value) = 0
 number p page.LoadValue = p + 1
 
+-- how the page reads calls and answers, which calls are its own, and by which number a party goes there
 abbrev pub by_role : Naming ℕ page.Call page.Answer
 by_role = record { reading = reading; is_call = is_store_or_load; number = number }

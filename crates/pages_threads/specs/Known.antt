@@ -30,6 +30,7 @@ module _ {T Call Stage Answer : Type 0} (page : Paged T Call Stage Answer) where
   abbrev pub turns_of : View T → List (Turn Call)
   turns_of v = turns_taken page.by (model.opening page.code page.kind page.capacity 0) v.turns
 
+  -- the page's machine after these turns
   abbrev pub world_of : List (Turn Call) → World Call Stage Answer
   world_of turns = fold (turned page.structure) (opening page.structure) turns
 
@@ -43,6 +44,7 @@ module _ {T Call Stage Answer : Type 0} (page : Paged T Call Stage Answer) where
     pub is : turns_of new ≡ turns_of old ++ more
     pub runs : RunsThePage new
 
+  -- what each pass knows is a run of the page's machine, and what it knows later continues that
   pub record PassesRun : Type 0 where
     pub known : (v : View T) → Knows page.code page.kind page.capacity v → RunsThePage v
     pub later : (old new : View T) → Continues page.code page.kind page.capacity old new → RunsOn old new
@@ -55,6 +57,7 @@ module _ {T Call Stage Answer : Type 0} (page : Paged T Call Stage Answer) where
 
 -- ---- the structures that have pages
 
+-- the page of the index queue, with how its calls are read in the model
 abbrev pub index_page : ℕ → Paged ℕ index.Call index.Stage index.Answer
 index_page capacity =
     record {
@@ -65,6 +68,7 @@ index_page capacity =
       capacity = capacity;
     }
 
+-- the page of the overflowing queue, with how its calls are read in the model
 abbrev pub overflowing_page : ℕ → Paged ℕ overflowing.Call overflowing.Stage (Option ℕ)
 overflowing_page capacity =
     record {
@@ -75,7 +79,7 @@ overflowing_page capacity =
       capacity = capacity;
     }
 
--- of a value of one word
+-- the page of the single value of one word, with how its calls are read in the model
 abbrev pub value_page : Paged ℕ single.Call single.Stage single.Answer
 value_page =
     record {
@@ -87,6 +91,7 @@ value_page =
     }
 
 module _ {T : Type 0} (how : values.Written T) where
+  -- the page of the queue of values, with how its calls are read in the model
   abbrev pub queue_page : ℕ → Paged T (values.Call T) (values.Stage T) (values.Answer T)
   queue_page capacity =
       record {

@@ -25,6 +25,7 @@ written_by words at (Or bits) = slice_set words at (bit_or (slice_index words at
 written_by words at (Exchange from to) =
     if slice_index words at == from then slice_set words at to else words
 
+-- the words after this operation
 abbrev pub written_at : List ℕ → Ask → List ℕ
 written_at words ask = written_by words ask.word ask.op
 
@@ -34,23 +35,25 @@ answer_in words (wants.Ask ask) = slice_index words ask.word
 answer_in words (wants.Question question) = 0
 answer_in words wants.Nothing = 0
 
+-- the words after what a call waits for: an operation writes its word, a question none
 abbrev pub words_then : List ℕ → Want (Unit {0}) → List ℕ
 words_then words (wants.Ask ask) = written_at words ask
 words_then words (wants.Question question) = words
 words_then words wants.Nothing = words
 
--- a question changes nothing
+-- the room after what a call waits for: a question changes nothing
 abbrev pub room_then : {M : Type 0} → Want (Unit {0}) → M → M → M
 room_then (wants.Ask ask) room new = new
 room_then (wants.Question question) room new = room
 room_then wants.Nothing room new = new
 
 module _ {C E : Type 0} where
+  -- a call that goes on, or has come to its end
   abbrev pub goes : After C E → After C (Stop C E)
   goes (GoOn d) = GoOn d
   goes (Done e) = Done (Ended e)
 
-  -- it stops at a question
+  -- a call that waits for this: at a question it stops, and else it goes on so
   abbrev pub stepped : Want (Unit {0}) → C → After C E → After C (Stop C E)
   stepped (wants.Ask ask) call next = goes next
   stepped (wants.Question question) call next = Done (Asked question call)
@@ -60,13 +63,13 @@ module _ {C E : Type 0} where
 
 module _ {C G M E : Type 0} (want_of : C → G → Want (Unit {0})) (after : C → G → ℕ → After C E)
     (kept : C → M → ℕ → M) (given : G) where
-  -- it has stopped so, or stops so from where it stands
+  -- a call that has come so far has stopped so, or stops so from where it stands
   abbrev pub StopsFrom : (C → M → List ℕ → Type 0) → After C (Stop C E) → M → List ℕ → Stop C E → M → List ℕ → Type 0
   StopsFrom rest (GoOn d) room words stop last_room last_words = rest d room words
   StopsFrom rest (Done s) room words stop last_room last_words =
       (stop ≡ s) × (last_room ≡ room) × (last_words ≡ words)
 
-  -- run alone from here it takes so many steps, and stops with these
+  -- the call, run alone from here, takes so many steps and stops with these
   abbrev pub StopsIn : ℕ → Stop C E → M → List ℕ → C → M → List ℕ → Type 0
   StopsIn zero stop last_room last_words call room words = ⊥
   StopsIn (suc n) stop last_room last_words call room words =
@@ -76,16 +79,17 @@ module _ {C G M E : Type 0} (want_of : C → G → Want (Unit {0})) (after : C �
       (kept call room (answer_in words (want_of call given))))
       (words_then words (want_of call given)) stop last_room last_words
 
-  -- it comes to a stop
+  -- the call, run alone, comes to a stop, in fewer than 2^64 steps
   pub record CanStop (call : C) (room : M) (words : List ℕ) : Type 0 where
     pub steps : ℕ
+    -- these are fewer than 2^64
     pub few : steps ≤ 2 ^ 64 - 1
     pub stop : Stop C E
     pub last_room : M
     pub last_words : List ℕ
     pub stops : StopsIn steps stop last_room last_words call room words
 
-  -- it stops just as a call alone stops
+  -- the stop is that at which the call stops when it runs alone
   abbrev pub StopsAlike : C → M → List ℕ → Stop C E → M → List ℕ → Type 0
   StopsAlike call room words stop last_room last_words =
       (n : ℕ) (s : Stop C E) (r : M) (ws : List ℕ) → StopsIn n s r ws call room words
@@ -93,24 +97,28 @@ module _ {C G M E : Type 0} (want_of : C → G → Want (Unit {0})) (after : C �
 
   -- ---- the same for a call that puts no question
 
+  -- the call comes to this end in n steps
   abbrev pub EndsIn : ℕ → E → M → List ℕ → C → M → List ℕ → Type 0
   EndsIn n end last_room last_words call room words =
       StopsIn n (Ended end) last_room last_words call room words
 
+  -- a call that goes on so, or has ended, comes to this end in n steps more
   abbrev pub EndsFrom : ℕ → E → M → List ℕ → After C E → M → List ℕ → Type 0
   EndsFrom n end last_room last_words next room words =
       StopsFrom (StopsIn n (Ended end) last_room last_words) (goes next) room words (Ended end)
       last_room last_words
 
+  -- it comes to an end, in fewer than 2^64 steps
   pub record CanEnd (call : C) (room : M) (words : List ℕ) : Type 0 where
     pub steps : ℕ
+    -- these are fewer than 2^64
     pub few : steps ≤ 2 ^ 64 - 1
     pub end : E
     pub last_room : M
     pub last_words : List ℕ
     pub ends : EndsIn steps end last_room last_words call room words
 
-  -- it ends just as a call alone ends
+  -- the end is that with which the call ends when it runs alone
   abbrev pub EndsAlike : C → M → List ℕ → E → M → List ℕ → Type 0
   EndsAlike call room words end last_room last_words =
       (n : ℕ) (e : E) (r : M) (ws : List ℕ) → EndsIn n e r ws call room words

@@ -17,13 +17,15 @@ pub record TakesIndices {F : Type 0} (pre : F → ℕ → Type 0)
       → FoldsTo (λ p x q. step p x Continue q) f before now → before ++ index ∷ rest ≡ indices
       → pre now index
 
--- It was called with these, up to the first on which it said Stop, and n is how many. These calls
--- made it what it is at the end.
+-- It was called with these, up to the first on which it said Stop, and n is how many.
+-- These calls made it what it is at the end.
 pub record HasFound {F : Type 0} (step : F → ℕ → CallbackProgression → F → Type 0)
     (indices : List ℕ) (f : F) (n : ℕ) (last : F) : Type 0 where
+  -- those on which it said Continue
   pub before : List ℕ
   pub now : F
   pub calls : FoldsTo (λ p x q. step p x Continue q) f before now
+  -- these were all, or it was called once more and said Stop
   pub ended : ((before ≡ indices) × (now ≡ last) × (n ≡ length before))
       ⊎ ((index : ℕ) × (rest : List ℕ) × (before ++ index ∷ rest ≡ indices)
       × step now index Stop last × (n ≡ length before + 1))
@@ -35,10 +37,11 @@ pub record Asked : Type 0 where
   pub of : Owned
   pub yes : Bool
 
+-- the indices about which the closure was asked, with their owners
 abbrev pub questions : List Asked → List Owned
 questions asked = map (λ (a : Asked). a.of) asked
 
--- those of a yes
+-- the indices of which the answer was yes, with their owners
 abbrev pub agreed : List Asked → List Owned
 agreed asked = map (λ (a : Asked). a.of) (filter (λ (a : Asked). a.yes) asked)
 
@@ -46,6 +49,7 @@ agreed asked = map (λ (a : Asked). a.of) (filter (λ (a : Asked). a.yes) asked)
 abbrev pub asks : {F : Type 0} → (F → ℕ → ℕ → Bool → F → Type 0) → F → Asked → F → Type 0
 asks step p a q = step p a.of.owner a.of.index a.yes q
 
+-- the closure was told of this index
 abbrev pub tells : {S : Type 0} → (S → ℕ → ℕ → S → Type 0) → S → Owned → S → Type 0
 tells step p o q = step p o.owner o.index q
 
@@ -56,8 +60,7 @@ pub record TakesQuestions {F : Type 0} (pre : F → ℕ → ℕ → Type 0)
       → FoldsTo (asks step) f before now → questions before ++ o ∷ rest ≡ all
       → pre now o.owner o.index
 
--- after a yes about one of these the other closure may be told of it, once it was told of those of a
--- yes before
+-- after a yes about one of these the other closure may be told of it, once it was told of those of a yes before
 pub record TakesFreed {F S : Type 0} (step : F → ℕ → ℕ → Bool → F → Type 0)
     (pre : S → ℕ → ℕ → Type 0) (tell : S → ℕ → ℕ → S → Type 0) (all : List Owned)
     (f : F) (s : S) : Type 0 where
@@ -66,25 +69,29 @@ pub record TakesFreed {F S : Type 0} (step : F → ℕ → ℕ → Bool → F �
       → questions before ++ o ∷ rest ≡ all → FoldsTo (tells tell) s (agreed before) now
       → pre now o.owner o.index
 
--- The one closure was asked about all there is to recover, in its order, the other told of those of a
--- yes, and these were given back. These calls made the closures what they are at the end.
+-- The one closure was asked about all there is to recover, in its order, the other told of those of a yes, and these
+-- were given back. These calls made the closures what they are at the end.
 pub record HasRecovered {F S : Type 0} (step : F → ℕ → ℕ → Bool → F → Type 0)
     (tell : S → ℕ → ℕ → S → Type 0) (mode : ReleaseMode) (old new : Owners)
     (f : F) (s : S) (f_last : F) (s_last : S) : Type 0 where
   pub asked : List Asked
+  -- it was asked about all there is to recover
   pub all : questions asked ≡ to_recover old
   pub answers : FoldsTo (asks step) f asked f_last
+  -- the other closure was told of those of a yes
   pub told : FoldsTo (tells tell) s (agreed asked) s_last
+  -- those were given back
   pub next : new ≡ recovered mode old (agreed asked)
 
 -- ---- the questions themselves
 
+-- the index that a question is about
 abbrev pub index_in : Question (Unit {0}) → ℕ
 index_in (put.Index index) = index
 index_in (put.Owned owner index) = index
 index_in (put.Value index unit) = index
 
--- as an answer to a call
+-- what a closure answers, as the number that a call is handed
 abbrev pub as_answer : CallbackProgression → ℕ
 as_answer Continue = 1
 as_answer Stop = 0

@@ -17,6 +17,7 @@ use Rattle.steps.specs.declared.container.handle.ContainerHandle.{ContainerHandl
 use Rattle.plain.specs.Queues.{words_from}
 use Rattle.plain.specs.Robust.{owners_in}
 
+-- what a container has at one moment
 pub record Contents (V : Type 0) : Type 0 where
   -- the number that its handles name it by
   pub container : ℕ
@@ -45,9 +46,11 @@ module _ {V : Type 0} where
         changes = 0;
       }
 
+  -- how many places it has
   abbrev pub capacity : Contents V → ℕ
   capacity s = owners.capacity s.owners
 
+  -- whether it is locked
   abbrev pub is_locked : Contents V → Bool
   is_locked s = owners.is_locked s.owners
 
@@ -61,6 +64,7 @@ module _ {V : Type 0} where
       (index : ℕ) → slice_index_or s.values index None ≡ None
       → slice_index_or s.owners.owners index None ≡ None
 
+  -- the contents after a call on the length, which raises the generation
   abbrev pub counted : Contents V → Contents V
   counted s = record s { owners = owners.raised s.owners }
 
@@ -69,7 +73,7 @@ module _ {V : Type 0} where
   count_with None count = count_without count
   count_with (Some value) count = one_more (count_without count)
 
-  -- with these owners, and this value or none at the index
+  -- the contents after a change, with these owners, and this value or none at the index
   abbrev pub changed : Contents V → Owners → ℕ → Option V → Contents V
   changed s set index value =
       record {
@@ -82,6 +86,7 @@ module _ {V : Type 0} where
 
   -- ---- add
 
+  -- the handle that an add answers where it has acquired an index, or else its failure
   abbrev pub handle_at : Contents V → ℕ → Result ℕ UniqueIndexSetAcquireFailure
       → Result ContainerHandle ContainerAddFailure
   handle_at s owner (Ok index) =
@@ -92,11 +97,13 @@ module _ {V : Type 0} where
   abbrev pub added : Contents V → ℕ → Result ContainerHandle ContainerAddFailure
   added s owner = handle_at s owner (owners.acquired s.owners)
 
+  -- the contents after an add: the value stands at the index that was acquired, and where none was, nothing changes
   abbrev pub put_at : Contents V → ℕ → V → Result ℕ UniqueIndexSetAcquireFailure → Contents V
   put_at s owner value (Ok index) =
       changed s (owners.granted s.owners owner (Ok index)) index (Some value)
   put_at s owner value (Err failure) = s
 
+  -- the contents after an add for this owner
   abbrev pub after_add : Contents V → ℕ → V → Contents V
   after_add s owner value = put_at s owner value (owners.acquired s.owners)
 
@@ -107,6 +114,7 @@ module _ {V : Type 0} where
   names s handle =
       (handle.container == s.container) && owners.has s.owners handle.index handle.owner
 
+  -- what a remove answers: the state that the set is left in, or that the handle names nothing in this container
   abbrev pub removed : Contents V → ContainerHandle → ReleaseMode
       → Result ReleaseState ContainerRemoveError
   removed s handle mode =
@@ -114,16 +122,19 @@ module _ {V : Type 0} where
       then Ok (owners.release_state mode (owners.given_back mode s.owners handle.index))
       else Err ContainerHandleNotOwnedByContainer
 
+  -- the contents after a remove, which changes nothing where the handle names nothing in this container
   abbrev pub after_remove : Contents V → ContainerHandle → ReleaseMode → Contents V
   after_remove s handle mode =
       if names s handle
       then changed s (owners.given_back mode s.owners handle.index) handle.index None
       else s
 
+  -- what a replace answers: whether the handle names a value here
   abbrev pub replaced : Contents V → ContainerHandle → Result (Unit {0}) ContainerRemoveError
   replaced s handle =
       if names s handle then Ok tt else Err ContainerHandleNotOwnedByContainer
 
+  -- the contents after a replace, which changes nothing where the handle names nothing here
   abbrev pub after_replace : Contents V → ContainerHandle → V → Contents V
   after_replace s handle value =
       if names s handle then changed s s.owners handle.index (Some value) else s
@@ -138,9 +149,11 @@ module _ {V : Type 0} (value_of : List ℕ → V) (size capacity : ℕ) where
       then None
       else Some (value_of (words_from words (element_word capacity size index 0) size))
 
+  -- the value at each index by these words
   abbrev pub values_in : List ℕ → List (Option V)
   values_in words = map (value_at words) (range_with_len 0 capacity)
 
+  -- the number of each index by these words
   abbrev pub counts_in : List ℕ → List ℕ
   counts_in words = map (λ i. slice_index words (count_word capacity i)) (range_with_len 0 capacity)
 
@@ -155,6 +168,7 @@ module _ {V : Type 0} (value_of : List ℕ → V) (size capacity : ℕ) where
         changes = slice_index words (change_word capacity);
       }
 
+-- the words are those of a container of this capacity, whose values have `size` words
 pub record Represents (size capacity : ℕ) (words : List ℕ) : Type 0 where
   pub long : length words ≡ total_words capacity size
   pub some : 1 ≤ capacity

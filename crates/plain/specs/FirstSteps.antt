@@ -7,7 +7,7 @@ use Rattle.plain.specs.Alone.{StopsFrom, StopsIn}
 
 module _ {C G M E : Type 0} (want_of : C → G → Want (Unit {0})) (after : C → G → ℕ → After C E)
     (kept : C → M → ℕ → M) (given : G) where
-  -- from there it stops as it would have stopped, or it has stopped so
+  -- however the call stops from here, it stops just so from its next stage, in no more steps, or has stopped so
   abbrev pub StopsOn : C → M → List ℕ → After C (Stop C E) → M → List ℕ → Type 0
   StopsOn call room words next next_room next_words =
       (n : ℕ) (s : Stop C E) (r : M) (ws : List ℕ) → StopsIn want_of after kept given n s r ws call room words

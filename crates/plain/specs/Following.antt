@@ -13,20 +13,26 @@ module _ {V : Type 0} where
   pub record IsCounted (s : Contents V) : Type 0 where
     pub counts : length s.counts ≡ capacity s
     pub values : length s.values ≡ capacity s
+    -- a change raises a number by 2 at most
     pub few : (i : ℕ) → slice_index s.counts i ≤ 2 * s.changes
+    -- nothing stands under an even number
     pub even : (i : ℕ) → is_even (slice_index s.counts i) ≡ true
         → slice_index_or s.values i None ≡ None
 
-  -- What a state has seen of its container: no higher number than is there, under the number that is there the
-  -- value that stands there, and where no change was counted since, all numbers.
+  -- What a state has seen of its container: no higher number than is there, under the number that is there the value
+  -- that stands there, and where no change was counted since, all numbers.
   pub record Follows (s : Contents V) (seen : Snapshot V) : Type 0 where
     pub counted : IsCounted s
     pub counts : length seen.counts ≡ capacity s
     pub values : length seen.values ≡ capacity s
+    -- it has seen no more changes than there were
     pub fewer : seen.changes ≤ s.changes
+    -- it has seen no higher number than is there
     pub numbers : (i : ℕ) → slice_index seen.counts i ≤ slice_index s.counts i
+    -- under the number that is there it has seen the value that stands there
     pub same : (i : ℕ) → slice_index s.counts i ≡ slice_index seen.counts i
         → slice_index_or seen.values i None ≡ slice_index_or s.values i None
+    -- where no change was counted since, it has seen all numbers
     pub all : s.changes ≡ seen.changes → s.counts ≡ seen.counts
 
   -- a call that makes the one of the other leaves each state of the container following it

@@ -6,6 +6,7 @@ use Rattle.steps.specs.declared.container.state.ContainerState.{ContainerState}
 use Rattle.steps.specs.declared.container.state.Element.{Element}
 use Rattle.plain.specs.Contents.{Contents, capacity}
 
+-- what a state of a container shows of one moment
 pub record Snapshot (V : Type 0) : Type 0 where
   -- the number of changes of the container then
   pub changes : ℕ
@@ -20,6 +21,7 @@ module _ {V : Type 0} where
   blank capacity =
       record { changes = 0; counts = replicate capacity 0; values = replicate capacity None }
 
+  -- the snapshot that a state holds
   abbrev pub snapshot_of : ContainerState V → Snapshot V
   snapshot_of state =
       record {
@@ -32,8 +34,7 @@ module _ {V : Type 0} where
   abbrev pub IsStateOf : Contents V → ContainerState V → Type 0
   IsStateOf s state = (state.container ≡ s.container) × (state.capacity ≡ capacity s)
 
-  -- Its parts agree: what it shows is what it has seen. So it comes from the container, and so each
-  -- call leaves it.
+  -- Its parts agree: what it shows is what it has seen. So it comes from the container, and so each call leaves it.
   pub record IsSettled (state : ContainerState V) : Type 0 where
     pub change : state.shown.change ≡ state.seen.change
     pub counts : map (λ (e : Element V). e.count) state.shown.elements ≡ state.seen.counts
@@ -49,7 +50,8 @@ module _ {V : Type 0} where
       then slice_index_or seen.values index None
       else slice_index_or s.values index None
 
-  -- where no change was counted since, it stays as it is
+  -- The snapshot after an update: unchanged where no change was
+  -- counted since it was taken, and else as the contents are.
   abbrev pub updated : Contents V → Snapshot V → Snapshot V
   updated s seen =
       if s.changes == seen.changes
@@ -62,8 +64,11 @@ module _ {V : Type 0} where
 
   -- a call brought the state up to date, and answered so
   pub record Brought (s : Contents V) (old : ContainerState V) (answer : Bool) (new : ContainerState V) : Type 0 where
+    -- whether a change was counted since it was up to date
     pub answers : answer ≡ not (s.changes == old.seen.change)
     pub of : (new.container ≡ old.container) × (new.capacity ≡ old.capacity)
+    -- an update that answers false leaves the state
     pub left : answer ≡ false → snapshot_of new ≡ snapshot_of old
+    -- a settled state is settled after it, and shows what stands now
     pub shows : IsSettled old → old.capacity ≡ capacity s
         → IsSettled new × (snapshot_of new ≡ updated s (snapshot_of old))

@@ -4,7 +4,7 @@ use Rattle.steps.specs.Atomic.{before_version, cell_word}
 use Rattle.steps.specs.Objects.Values.{Versioned}
 use Rattle.plain.specs.Queues.{words_from}
 
--- it stands in the cell of the version before
+-- the value that the words say, with its version: it stands in the cell of the version before
 abbrev pub value_in : {V : Type 0} → (List ℕ → V) → ℕ → List ℕ → Versioned V
 value_in value_of size words =
     record {
@@ -13,7 +13,7 @@ value_in value_of size words =
       version = slice_index words 0;
     }
 
--- there are two cells
+-- the words are those of a single value: a version, a role, and two cells of `size` words
 pub record Represents (size : ℕ) (words : List ℕ) : Type 0 where
   pub long : length words ≡ 2 + 2 * size
   pub fits : slice_index words 0 < 2 ^ 64

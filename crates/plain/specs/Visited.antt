@@ -1,5 +1,4 @@
--- What the closures of a find and of a recovery of a container are called with, and what a recovery
--- leaves.
+-- What the closures of a find and of a recovery of a container are called with, and what a recovery leaves.
 use Rattle.std.specs.Prelude.{◌≡◌, ℕ, ◌==◌, Bool, Some, None, List, filter, fold, slice_index, slice_index_or, slice_set}
 use Rattle.std.specs.List.{FoldsTo}
 use Rattle.steps.specs.Indices.Robust.Parts.{one_more}
@@ -11,11 +10,13 @@ use Rattle.plain.specs.Callable.{Asked, questions, agreed, asks}
 use Rattle.plain.specs.Contents.{Contents, count_without}
 
 module _ {V : Type 0} where
+  -- the value stands at the index
   abbrev pub Stands : Contents V → ℕ → V → Type 0
   Stands s index value = slice_index_or s.values index None ≡ Some value
 
   -- ---- find
 
+  -- the handle of an index of this owner
   abbrev pub handle_of : Contents V → (owner index : ℕ) → ContainerHandle
   handle_of s owner index = record { index = index; owner = owner; container = s.container }
 
@@ -24,7 +25,7 @@ module _ {V : Type 0} where
   MaySee pre s owner p index =
       (value : V) → Stands s index value → pre p value (handle_of s owner index)
 
-  -- it was called with them, and said so
+  -- the closure was called with the value at the index and its handle, and said so
   abbrev pub Sees : {F : Type 0} → (F → V → ContainerHandle → CallbackProgression → F → Type 0) → Contents V
       → ℕ → F → ℕ → CallbackProgression → F → Type 0
   Sees step s owner p index said q =
@@ -40,12 +41,12 @@ module _ {V : Type 0} where
   abbrev pub MayAsk : {F : Type 0} → (F → V → Type 0) → Contents V → F → ℕ → ℕ → Type 0
   MayAsk pre s p owner index = (value : V) → Stands s index value → pre p value
 
-  -- it was asked about it, and said so
+  -- the closure was asked about the value at the index, and said so
   abbrev pub Says : {F : Type 0} → (F → V → Bool → F → Type 0) → Contents V → F → ℕ → ℕ → Bool → F → Type 0
   Says step s p owner index said q =
       (value : V) × Stands s index value × step p value said q
 
-  -- the index is given back, and its value goes
+  -- the contents once the index is given back and its value is gone
   abbrev pub freed : ReleaseMode → Contents V → ℕ → Contents V
   freed mode s index =
       record {
@@ -56,17 +57,21 @@ module _ {V : Type 0} where
         changes = s.changes;
       }
 
+  -- the contents once all of these were freed in turn
   abbrev pub all_freed : ReleaseMode → Contents V → List Owned → Contents V
   all_freed mode s which = fold (λ t (o : Owned). freed mode t o.index) s which
 
+  -- the contents with one change more
   abbrev pub one_change : Contents V → Contents V
   one_change s = record s { changes = one_more s.changes }
 
-  -- The closure was asked about the values of all of these, in their order, and those of a yes were
-  -- freed, as one change. These calls made the closure what it is at the end.
+  -- The closure was asked about the values of all of these, in their order, and those of a yes were freed, as one
+  -- change. These calls made the closure what it is at the end.
   pub record HasRecovered {F : Type 0} (step : F → V → Bool → F → Type 0) (owner : ℕ) (mode : ReleaseMode)
       (old new : Contents V) (f last : F) : Type 0 where
     pub asked : List Asked
+    -- it was asked about all of the owner's values
     pub all : questions asked ≡ to_ask old owner
     pub answers : FoldsTo (asks (Says step old)) f asked last
+    -- those of a yes were freed, as one change
     pub next : new ≡ one_change (all_freed mode old (agreed asked))

@@ -44,6 +44,7 @@ refusal_where short (Some refusal) = Some refusal
 refusal_where true None = Some NoMemory
 refusal_where false None = None
 
+-- a turn that is taken prints its events and changes the world; a refused one prints the refusal
 abbrev pub outcome_as : World ℕ → Turn ℕ → Option Refusal → Outcome
 outcome_as w turn None =
     record { text = events_text (events_of w turn); is_taken = true; world = world_after w turn }
@@ -62,25 +63,30 @@ pub record State : Type 0 where
   pub world : World ℕ
   pub refusals : List Bool
 
+-- whether memory is refused to the next turn
 abbrev pub is_short : List Bool → Bool
 is_short [] = false
 is_short (short ∷ refusals) = short
 
+-- whether it is refused to each of the turns after that
 abbrev pub later : List Bool → List Bool
 later [] = []
 later (short ∷ refusals) = refusals
 
+-- what a command prints, and the state that it leaves
 pub record Printed : Type 0 where
   pub text : List ℕ
   pub state : State
 
--- a text, and then another
+-- this text, and then what is printed
 abbrev pub after_text : List ℕ → Printed → Printed
 after_text text p = record { text = text ++ p.text; state = p.state }
 
+-- what the next turn comes to
 abbrev pub next_outcome : State → Turn ℕ → Outcome
 next_outcome s turn = outcome (is_short s.refusals) s.world turn
 
+-- what a turn prints, and the state after it
 abbrev pub printed : Outcome → List Bool → Printed
 printed o refusals =
     record { text = o.text; state = record { world = o.world; refusals = refusals } }
@@ -99,6 +105,7 @@ nexts (suc most) party s =
     (nexts most party (record { world = o.world; refusals = later s.refusals }))
     else printed o (later s.refusals)
 
+-- what a command prints: of one turn, or of up to so many turns of one party
 abbrev pub commanded : Command → State → Printed
 commanded (Once turn) s = printed (next_outcome s turn) (later s.refusals)
 commanded (Times party most) s = nexts most party s
@@ -110,9 +117,11 @@ pub record Output : Type 0 where
   pub text : List ℕ
   pub end : Result (Unit {0}) (ℕ × Cause)
 
+-- the output of a schedule that stops at a line, for this cause
 abbrev pub stopped : ℕ → Cause → Output
 stopped number cause = record { text = []; end = Err (number, cause) }
 
+-- the output with this text before it
 abbrev pub before : List ℕ → Output → Output
 before text o = record { text = text ++ o.text; end = o.end }
 
@@ -136,11 +145,12 @@ capacity_cause (Some creation.ProvidedCapacityIsZero) = Some causes.ProvidedCapa
 capacity_cause (Some creation.NoMemory) = None
 capacity_cause None = None
 
--- the capacity is tested after all words of the line
+-- the setup, unless its capacity is not admitted, which is tested after all words of the line
 abbrev pub admitted : Setup → Option Cause → Result Setup Cause
 admitted setup None = Ok setup
 admitted setup (Some cause) = Err cause
 
+-- why there is no machine of this setup, by its capacity
 abbrev pub setup_error : Setup → Option UniqueIndexCreationError
 setup_error setup = shape_error setup.shape
 
@@ -153,6 +163,7 @@ machine_of ws = do
 abbrev pub trace_of : Setup → Trace ℕ
 trace_of setup = opening_as two_words setup.shape setup.parties
 
+-- the state of a schedule before its first turn
 abbrev pub opened : Setup → List Bool → State
 opened setup refusals = record { world = (trace_of setup).world; refusals = refusals }
 
@@ -164,8 +175,7 @@ output_of_lines refusals (first ∷ lines) =
       | Ok setup ↦ lines_from (kind_in setup.shape) 2 lines (opened setup refusals)
     ]
 
--- The output for these bytes, where memory is refused to each turn of which
--- the list says so and that nothing else refuses. With the empty list it is
--- refused to none.
+-- The output for these bytes, where memory is refused to each turn of which the list says so and that nothing else
+-- refuses. With the empty list it is refused to none.
 abbrev pub output_of : List ℕ → List Bool → Output
 output_of input refusals = output_of_lines refusals (lines input)

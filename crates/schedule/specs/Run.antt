@@ -19,14 +19,14 @@ IsTurn o new before after (Err e) = (e ≡ errors.WriteFailed) × AppendsPart be
 
 -- ---- several turns
 
--- where memory was refused as the list says, f prints this text, and leads to this world
+-- f leads from the one world to the other and prints this text, where memory was refused as the list says
 abbrev pub Leads : (State → Printed) → World ℕ → World ℕ → List Bool → List ℕ → Type 0
 Leads f old new refusals text =
     (more : List Bool)
     → f (record { world = old; refusals = refusals ++ more })
     ≡ record { text = text; state = record { world = new; refusals = more } }
 
--- for some list all of f's text was written, or a beginning of it where a write failed
+-- f leads from the one world to the other, and its whole text was written, or a beginning of it where a write failed
 abbrev pub Prints : (State → Printed) → World ℕ → World ℕ → Option (List ℕ) → Option (List ℕ)
     → Result (Unit {0}) ScheduleError → Type 0
 Prints f old new before after (Ok u) =
@@ -44,9 +44,9 @@ IsUnopened setup e =
     (e ≡ errors.NoMemory)
     ⊎ (cause : Cause) × (capacity_cause (setup_error setup) ≡ Some cause) × (e ≡ errors.Malformed 1 cause)
 
--- The run ended as the output does, and its text was written. After a failed write it was a
--- beginning of the text, and where there was no memory for the machine, nothing. All was read
--- before. The list says to which turns memory was refused.
+-- The run ended as the output does, and its text was written. After a failed write
+-- it was a beginning of the text, and where there was no memory for the machine,
+-- nothing. All was read before. The list says to which turns memory was refused.
 abbrev pub IsOutput : (List Bool → Output) → Option (List ℕ) → Option (List ℕ)
     → Result (Unit {0}) ScheduleError → Type 0
 IsOutput f before after (Ok u) =
@@ -59,7 +59,7 @@ IsOutput f before after (Err errors.WriteFailed) =
 IsOutput f before after (Err errors.ReadFailed) = ⊥
 IsOutput f before after (Err errors.NoMemory) = Keeps before after
 
--- the same of a reader of which all that it had left was read
+-- `IsOut`, of a reader of which all that it had left was read
 abbrev pub IsRun : Option (List ℕ) → Option (List ℕ) → Option (List ℕ)
     → Result (Unit {0}) ScheduleError → Type 0
 IsRun known before after (Err errors.ReadFailed) = Keeps before after

@@ -11,6 +11,7 @@ unfoldable pub message_text : Result (Unit {0}) ScheduleError → List ℕ
 message_text (Ok u) = []
 message_text (Err e) = error_text e
 
+-- the exit status of an error: 2 for a malformed line, 1 for all others
 abbrev pub error_exit : ScheduleError → ℕ
 error_exit (errors.Malformed line cause) = 2
 error_exit errors.ReadFailed = 1
@@ -22,7 +23,7 @@ abbrev pub exit_of : Result (Unit {0}) ScheduleError → ℕ
 exit_of (Ok u) = 0
 exit_of (Err e) = error_exit e
 
--- a line was told, or a beginning of it, and more behind that
+-- a line was told, or a beginning of it, and it comes behind what was told before
 abbrev pub TellsMore : Option (List ℕ) → Option (List ℕ) → List ℕ → Type 0
 TellsMore old new line =
     (between : Option (List ℕ)) × AppendsPart old between line

@@ -6,6 +6,7 @@ use Rattle.texts.specs.Grammar.{setup_of, command_of}
 use Rattle.schedule.specs.declared.wrong.Grammar.{Grammar}
 use Rattle.schedule.specs.declared.wrong.Grammar.TheVariants.{First, Turn}
 
+-- the cause of a failure, if it is one
 abbrev pub cause_in : {A : Type 0} → Result A Cause → Option Cause
 cause_in (Ok x) = None
 cause_in (Err cause) = Some cause
@@ -15,7 +16,7 @@ abbrev pub cause_of : Grammar → List ℕ → Option Cause
 cause_of First line = cause_in (setup_of (words line))
 cause_of (Turn kind) line = cause_in (command_of kind (words line))
 
--- a beginning of the line that reaches as far as this place has this cause
+-- a beginning of the line that reaches at least as far as this place has this cause
 abbrev pub IsWrong : Grammar → List ℕ → ℕ → Cause → Type 0
 IsWrong grammar line place cause =
     (stop : ℕ) × (place ≤ stop) × (stop ≤ length line)

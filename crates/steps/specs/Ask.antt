@@ -7,7 +7,7 @@ use Rattle.steps.specs.declared.ask.After.TheVariants.{GoOn, Done}
 use Rattle.steps.specs.declared.ask.Op.{Op}
 use Rattle.steps.specs.declared.ask.Op.TheVariants.{Load, Store, Swap, Add, Sub, And, Or, Exchange}
 
--- sums and differences wrap
+-- the word that an operation leaves where it found this one; sums and differences wrap at 2^64
 abbrev pub written : Op → ℕ → ℕ
 written Load word = word
 written (Store new) word = new
@@ -18,6 +18,7 @@ written (And bits) word = bit_and word bits
 written (Or bits) word = bit_or word bits
 written (Exchange from to) word = if word == from then to else word
 
+-- whether the operation is a plain store, whose old value tells a call nothing
 abbrev pub is_store_op : Op → Bool
 is_store_op Load = false
 is_store_op (Store new) = true

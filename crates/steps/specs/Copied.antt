@@ -14,6 +14,7 @@ abbrev pub kept_in_one : OneWord → ℕ → ℕ → OneWord
 kept_in_one x zero word = record { 0 = word }
 kept_in_one x (suc at) word = x
 
+-- a word that is put to a place of a list of one word stands there, or nothing changes
 pub one_put_in : (x : OneWord) (at word : ℕ) → (kept_in_one x at word).0 ∷ []
     ≡ slice_set (x.0 ∷ []) at word
 one_put_in x zero word = refl

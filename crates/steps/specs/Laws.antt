@@ -1,5 +1,4 @@
--- What every call keeps to: a store tells it nothing, and one that ends by
--- itself comes nearer to its end at each step.
+-- What every call keeps to: a store tells it nothing, and one that ends by itself comes nearer to its end at each step.
 use Rattle.std.specs.Prelude.{◌≡◌, ℕ, ◌+◌, ◌-◌, ◌^◌, ◌<◌, ◌≤◌, Bool, true, false, IsTrue, List, nat_lt, refl}
 use Rattle.std.proofs.Common.{arith, ap, sym, true≢false}
 use Rattle.std.proofs.lemmas.Bool.Decides.{nat_tests}
@@ -44,35 +43,42 @@ use Rattle.steps.specs.Queues.Peek.{peek_asks, peek_takes, peek_after, peek_keep
 use Rattle.steps.specs.Queues.Overflow as overflow
 use Rattle.steps.specs.Atomic as value
 
+-- from the claim that what is no store is one, anything follows
 pub no_store : {A : Type 0} → IsTrue false → A
 no_store t = absurd (true≢false (sym t))
 
 -- ---- roles
 
+-- the stores of the acquire, if it has any, tell it nothing
 pub acquire_tells : (c : AcquireRole) (room : Unit {0}) (m n : ℕ)
     → IsTrue (is_store (acquire_want c)) → (acquire_after c m ≡ acquire_after c n) × (room ≡ room)
 acquire_tells c room m n t = no_store t
 
+-- the stores of the release, if it has any, tell it nothing
 pub release_tells : (c : ReleaseRole) (room : Unit {0}) (m n : ℕ)
     → IsTrue (is_store (release_want c)) → (release_after c m ≡ release_after c n) × (room ≡ room)
 release_tells c room m n t = (refl, refl)
 
+-- the acquire never goes on: it ends with its first step
 pub acquire_fewer : (c d : AcquireRole) (n : ℕ) → acquire_after c n ≡ GoOn d → 0 < 0
 acquire_fewer c d n goes = cc
 
+-- the release never goes on: it ends with its first step
 pub release_fewer : (c d : ReleaseRole) (n : ℕ) → release_after c n ≡ GoOn d → 0 < 0
 release_fewer c d n goes = cc
 
+-- the stores of the look, if it has any, tell it nothing
 pub look_tells : (c : LookRole) (room : Unit {0}) (m n : ℕ)
     → IsTrue (is_store (look_want c)) → (look_after c m ≡ look_after c n) × (room ≡ room)
 look_tells c room m n t = no_store t
 
+-- the look never goes on: it ends with its first step
 pub look_fewer : (c d : LookRole) (n : ℕ) → look_after c n ≡ GoOn d → 0 < 0
 look_fewer c d n goes = cc
 
 -- ---- lengths
 
--- a length only loads
+-- a call for the length only loads, so there is no store whose old value it could use
 pub len_tells : (c : Len) (stage : LenStage) (room : Unit {0}) (m n : ℕ)
     → IsTrue (is_store (len_asks stage))
     → (len_takes c stage m ≡ len_takes c stage n) × (room ≡ room)
@@ -84,7 +90,7 @@ len_tells c (lens.LoadsReadAgain write read) room m n t = no_store t
 -- ---- the bounded queue
 
 module _ {V : Type 0} (words_of : V → List ℕ) (size : ℕ) where
-  -- no store of a push tells it anything
+  -- after a store a push goes on in the same way, whatever its word held before
   pub push_tells : (c : Push V) (stage : pushes.PushStage) (x : V) (room : Unit {0}) (m n : ℕ)
       → IsTrue (is_store (push_asks words_of stage x))
       → (push_takes size c stage m ≡ push_takes size c stage n) × (room ≡ room)
@@ -94,7 +100,7 @@ module _ {V : Type 0} (words_of : V → List ℕ) (size : ℕ) where
   push_tells c (pushes.TheVariants.StoresWrite write) x room m n t = (refl, refl)
 
 module _ {V : Type 0} (size : ℕ) where
-  -- one more than is left once it has gone on, nothing once it is done
+  -- one more than the steps that are left of the push, and 0 once it has ended
   abbrev push_then : After (Push V) Bool → ℕ
   push_then (GoOn d) = push_left size d.stage + 1
   push_then (Done e) = 0
@@ -117,13 +123,14 @@ module _ {V : Type 0} (size : ℕ) where
       (λ t. omega arith)
   push_stage_fewer c (pushes.TheVariants.StoresWrite p) k = omega arith
 
+  -- a push that goes on has fewer steps left
   pub push_fewer : (c d : Push V) (k : ℕ) → push_after size c k ≡ GoOn d
       → push_left size d.stage < push_left size c.stage
   push_fewer c d k goes =
       let e = ap push_then goes in let f = push_stage_fewer c c.stage k in omega arith
 
 module _ {V R : Type 0} (with_word : R → ℕ → ℕ → R) (size : ℕ) where
-  -- nor does the store of a pop
+  -- after a store a pop goes on in the same way, whatever its word held before
   pub pop_tells : (c : Pop V R) (stage : pops.PopStage) (room : R) (m n : ℕ)
       → IsTrue (is_store (pop_asks stage)) → (pop_takes size c stage m ≡ pop_takes size c stage n)
       × (pop_keeps with_word room stage m ≡ pop_keeps with_word room stage n)
@@ -133,11 +140,12 @@ module _ {V R : Type 0} (with_word : R → ℕ → ℕ → R) (size : ℕ) where
   pop_tells c (pops.TheVariants.StoresRead read) room m n t = (refl, refl)
 
 module _ {V R : Type 0} (size : ℕ) where
+  -- one more than the steps that are left of the call, and 0 once it has ended
   abbrev pop_then : After (Pop V R) Bool → ℕ
   pop_then (GoOn d) = pop_left size d.stage + 1
   pop_then (Done e) = 0
 
-  -- after each step of a pop, fewer are left
+  -- each step of a pop after which it goes on leaves fewer steps than were left before
   pop_stage_fewer : (c : Pop V R) (stage : pops.PopStage) (k : ℕ)
       → pop_then (pop_takes size c stage k) ≤ pop_left size stage
   pop_stage_fewer c pops.TheVariants.LoadsRead k = omega arith
@@ -153,13 +161,14 @@ module _ {V R : Type 0} (size : ℕ) where
       (λ t. omega arith)
   pop_stage_fewer c (pops.TheVariants.StoresRead p) k = omega arith
 
+  -- a pop that goes on has fewer steps left
   pub pop_fewer : (c d : Pop V R) (k : ℕ) → pop_after size c k ≡ GoOn d
       → pop_left size d.stage < pop_left size c.stage
   pop_fewer c d k goes =
       let e = ap pop_then goes in let f = pop_stage_fewer c c.stage k in omega arith
 
 module _ {V R : Type 0} (with_word : R → ℕ → ℕ → R) (size : ℕ) where
-  -- a peek only loads
+  -- a peek only loads, so there is no store whose old value it could use
   pub peek_tells : (c : Peek V R) (stage : PeekStage) (room : R) (m n : ℕ)
       → IsTrue (is_store (peek_asks stage)) → (peek_takes size c stage m ≡ peek_takes size c stage n)
       × (peek_keeps with_word room stage m ≡ peek_keeps with_word room stage n)
@@ -168,11 +177,12 @@ module _ {V R : Type 0} (with_word : R → ℕ → ℕ → R) (size : ℕ) where
   peek_tells c (peeks.LoadsCell cell at) room m n t = no_store t
 
 module _ {V R : Type 0} (size : ℕ) where
+  -- one more than the steps that are left of the call, and 0 once it has ended
   abbrev peek_then : After (Peek V R) Bool → ℕ
   peek_then (GoOn d) = peek_left size d.stage + 1
   peek_then (Done e) = 0
 
-  -- after each step of a peek, fewer are left
+  -- each step of a peek after which it goes on leaves fewer steps than were left before
   peek_stage_fewer : (c : Peek V R) (stage : PeekStage) (k : ℕ)
       → peek_then (peek_takes size c stage k) ≤ peek_left size stage
   peek_stage_fewer c peeks.LoadsRead k = omega arith
@@ -186,6 +196,7 @@ module _ {V R : Type 0} (size : ℕ) where
       (λ t. let further : at + 1 < size = grind (arith, nat_tests) in omega arith)
       (λ t. omega arith)
 
+  -- a peek that goes on has fewer steps left
   pub peek_fewer : (c d : Peek V R) (k : ℕ) → peek_after size c k ≡ GoOn d
       → peek_left size d.stage < peek_left size c.stage
   peek_fewer c d k goes =
@@ -193,7 +204,7 @@ module _ {V R : Type 0} (size : ℕ) where
 
 -- ---- the overflowing queue
 
--- no store of the overflowing queue's push tells it anything
+-- after a store the overflowing queue's push goes on in the same way, whatever its word held before
 pub overflow_push_tells : (c : over.Push) (stage : PushStage)
     (x : ℕ) (room : OneWord) (m n : ℕ) → IsTrue (is_store (overflow.push_asks c.capacity stage x))
     → (overflow.push_takes c stage m ≡ overflow.push_takes c stage n)
@@ -206,11 +217,12 @@ overflow_push_tells c (over_pushes.StoresWrite write read) x room m n t = (refl,
 overflow_push_tells c (over_pushes.MovesRead read) x room m n t = no_store t
 overflow_push_tells c (over_pushes.LoadsCell read) x room m n t = no_store t
 
+-- one more than the steps that are left of the call, and 0 once it has ended
 abbrev overflow_then : After over.Push PushEnd → ℕ
 overflow_then (GoOn d) = overflow.push_left d.stage + 1
 overflow_then (Done e) = 0
 
--- after each step of this push, fewer are left
+-- each step of this push after which it goes on leaves fewer steps than were left before
 overflow_stage_fewer : (c : over.Push) (stage : PushStage) (k : ℕ)
     → overflow_then (overflow.push_takes c stage k) ≤ overflow.push_left stage
 overflow_stage_fewer c over_pushes.HandsBack k = omega arith
@@ -230,6 +242,7 @@ overflow_stage_fewer c (over_pushes.MovesRead read) k =
     (λ e. omega arith) (λ e. omega arith)
 overflow_stage_fewer c (over_pushes.LoadsCell read) k = omega arith
 
+-- a push of the overflowing queue that goes on has fewer steps left
 pub overflow_push_fewer : (c d : over.Push) (k : ℕ) → overflow.push_after c k ≡ GoOn d
     → overflow.push_left d.stage < overflow.push_left c.stage
 overflow_push_fewer c d k goes =
@@ -258,11 +271,12 @@ module _ {V : Type 0} (words_of : V → List ℕ) (size : ℕ) where
   store_tells c stores.AddsVersion x room m n t = no_store t
 
 module _ {V : Type 0} (size : ℕ) where
+  -- one more than the steps that are left of the call, and 0 once it has ended
   abbrev store_then : After (Store V) Bool → ℕ
   store_then (GoOn d) = value.store_left size d.stage + 1
   store_then (Done e) = 0
 
-  -- after each step of the store of a value, fewer are left
+  -- each step of the store of a value after which it goes on leaves fewer steps than were left before
   store_stage_fewer : (c : Store V) (stage : StoreStage) (k : ℕ)
       → store_then (value.store_takes size c stage k) ≤ value.store_left size stage
   store_stage_fewer c stores.LoadsVersion k =
@@ -277,6 +291,7 @@ module _ {V : Type 0} (size : ℕ) where
       (λ t. omega arith)
   store_stage_fewer c stores.AddsVersion k = omega arith
 
+  -- a store that goes on has fewer steps left
   pub store_fewer : (c d : Store V) (k : ℕ) → value.store_after size c k ≡ GoOn d
       → value.store_left size d.stage < value.store_left size c.stage
   store_fewer c d k goes =
@@ -292,10 +307,12 @@ module _ {V R : Type 0} (with_word : R → ℕ → ℕ → R) (size : ℕ) where
   load_tells c (loads.LoadsCell version cell at) room m n t = no_store t
   load_tells c (loads.ChecksVersion version) room m n t = no_store t
 
+-- the call for the version never stores, so there is no store whose old value it could use
 pub version_tells : (c : Version) (room : Unit {0}) (m n : ℕ)
     → IsTrue (is_store (value.version_want c))
     → (value.version_after c m ≡ value.version_after c n) × (room ≡ room)
 version_tells c room m n t = no_store t
 
+-- the call for the version ends with its first step
 pub version_fewer : (c d : Version) (n : ℕ) → value.version_after c n ≡ GoOn d → 0 < 0
 version_fewer c d n goes = cc

@@ -3,19 +3,20 @@ use Rattle.std.proofs.Common.{◌≡◌, ◌≢◌, ℕ, ◌==◌, ◌||◌, Boo
 use Rattle.std.specs.Bool.{if◌then◌else◌}
 use Rattle.std.proofs.lemmas.Bool.Decides.{eqb_tells}
 
+-- what holds of either value, each where the test picks it, holds of the one picked
 pub by_test : {A : Type 0} (P : A → Type 0) (b : Bool) (x y : A) → (b ≡ true → P x)
     → (b ≡ false → P y) → P (if b then x else y)
 by_test P true x y hit miss = hit refl
 by_test P false x y hit miss = miss refl
 
+-- the same where the test is whether two numbers are equal
 pub by_eq : {A : Type 0} (P : A → Type 0) (a b : ℕ) (x y : A) → (a ≡ b → P x) → (a ≢ b → P y)
     → P (if a == b then x else y)
 by_eq P a b x y hit miss =
     ⊎_elim (λ t. subst (λ z. P (if z then x else y)) (sym t.0) (hit t.1))
     (λ t. subst (λ z. P (if z then x else y)) (sym t.0) (miss t.1)) (eqb_tells a b)
 
--- a fact about what the test of two equations picks: each equation that holds picks the first
--- value
+-- a fact about what the test of two equations picks: each equation that holds picks the first value
 pub by_either : {A : Type 0} (P : A → Type 0) (a b c d : ℕ) (x y : A) → (a ≡ b → P x)
     → (c ≡ d → P x) → (a ≢ b → c ≢ d → P y)
     → P (if (a == b) || (c == d) then x else y)
@@ -24,6 +25,7 @@ by_either P a b c d x y first second miss =
     (λ t. subst (λ z. P (if z || (c == d) then x else y)) (sym t.0)
     (by_eq P c d x y second (miss t.1))) (eqb_tells a b)
 
+-- what holds of either truth, each where the two numbers are so, holds of whether they are equal
 pub by_equal : (P : Bool → Type 0) (a b : ℕ) → (a ≡ b → P true) → (a ≢ b → P false) → P (a == b)
 by_equal P a b hit miss =
     ⊎_elim (λ t. subst P (sym t.0) (hit t.1)) (λ t. subst P (sym t.0) (miss t.1)) (eqb_tells a b)

@@ -8,6 +8,7 @@ use Rattle.steps.specs.declared.ask.After.TheVariants.{GoOn, Done}
 use Rattle.steps.specs.declared.routine.Running.{Running}
 
 module _ {V : Type 0} where
+  -- the question about a value, with the value itself in it
   abbrev pub question_with : V → Question (Unit {0}) → Question V
   question_with value (questions.Index index) = questions.Index index
   question_with value (questions.Owned owner index) =

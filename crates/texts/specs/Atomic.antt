@@ -25,7 +25,7 @@ any_value_call name ws =
     else if bytes_eq name (codes "version") then Ok (Version, ws)
     else Err UnknownCall
 
--- the calls of the single value
+-- the call of the single value that these words name, and the words that are left
 unfoldable pub value_call : List ℕ → List (List ℕ) → Result (Start ℕ × List (List ℕ)) Cause
 value_call name ws = do
   call ← any_value_call name ws
@@ -33,6 +33,7 @@ value_call name ws = do
 
 -- ---- how they print
 
+-- a call, as a schedule names it
 abbrev pub call_text : AtomicStart ℕ → List ℕ
 call_text AcquireProducer = codes "acquire_producer"
 call_text ReleaseProducer = codes "release_producer"

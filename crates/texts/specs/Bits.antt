@@ -25,30 +25,32 @@ count ws = do
   place ← number_at (2 ^ 64 - 1) ws
   Ok (Count place.0, place.1)
 
--- the calls of both
+-- the call of either bit set that these words name, and the words that are left
 unfoldable pub any_set_call : List ℕ → List (List ℕ) → Result (BitsStart × List (List ℕ)) Cause
 any_set_call name ws =
     if bytes_eq name (codes "set") then set ws
     else if bytes_eq name (codes "reset_all") then Ok (ResetAll, ws)
     else Err UnknownCall
 
+-- the call of a bit set that these words name, and the words that are left
 abbrev pub any_bit_set_call : List ℕ → List (List ℕ) → Result (BitsStart × List (List ℕ)) Cause
 any_bit_set_call name ws =
     if bytes_eq name (codes "reset_next") then Ok (ResetNext, ws)
     else if bytes_eq name (codes "is_set") then is_set ws
     else any_set_call name ws
 
+-- the call of a counting bit set that these words name, and the words that are left
 abbrev pub any_counting_call : List ℕ → List (List ℕ) → Result (BitsStart × List (List ℕ)) Cause
 any_counting_call name ws =
     if bytes_eq name (codes "count") then count ws else any_set_call name ws
 
--- the calls of a bit set
+-- the call of a bit set that these words name, and the words that are left
 unfoldable pub bit_set_call : List ℕ → List (List ℕ) → Result (Start ℕ × List (List ℕ)) Cause
 bit_set_call name ws = do
   call ← any_bit_set_call name ws
   Ok (starts.Bits call.0, call.1)
 
--- the calls of a counting bit set
+-- the call of a counting bit set that these words name, and the words that are left
 unfoldable pub counting_bit_set_call : List ℕ → List (List ℕ)
     → Result (Start ℕ × List (List ℕ)) Cause
 counting_bit_set_call name ws = do
@@ -57,6 +59,7 @@ counting_bit_set_call name ws = do
 
 -- ---- how they print
 
+-- a call, as a schedule names it
 abbrev pub call_text : BitsStart → List ℕ
 call_text (Set place) = codes "set " ++ decimal place
 call_text ResetNext = codes "reset_next"
@@ -64,6 +67,6 @@ call_text ResetAll = codes "reset_all"
 call_text (IsSet bit) = codes "is_set " ++ decimal bit
 call_text (Count place) = codes "count " ++ decimal place
 
--- a place and the count that was taken out of it
+-- a place and the count that was taken out of it, as they are printed
 abbrev pub taken_text : (place count : ℕ) → List ℕ
 taken_text place count = decimal place ++ codes " " ++ decimal count

@@ -49,7 +49,7 @@ recover ws = do
   mode ← mode_at owner.1
   Ok (Recover owner.0 mode.0, mode.1)
 
--- a look at the whole container, which has no arguments
+-- the call with this name that looks at the whole container and has no arguments, if there is one
 abbrev pub look_call : List ℕ → Option (ContainerStart ℕ)
 look_call name =
     if bytes_eq name (codes "get_state") then Some GetState
@@ -69,7 +69,7 @@ any_container_call name ws =
     else if bytes_eq name (codes "recover") then recover ws
     else elim (look_call name) [ Some start ↦ Ok (start, ws) | None ↦ Err UnknownCall ]
 
--- the calls of the container
+-- the call of the container that these words name, and the words that are left
 unfoldable pub container_call : List ℕ → List (List ℕ) → Result (Start ℕ × List (List ℕ)) Cause
 container_call name ws = do
   call ← any_container_call name ws
@@ -77,10 +77,11 @@ container_call name ws = do
 
 -- ---- how they print
 
--- an index and the value there
+-- an index and the value there, as they are printed
 abbrev pub placed_text : (index value : ℕ) → List ℕ
 placed_text index value = decimal index ++ codes " " ++ decimal value
 
+-- a call, as a schedule names it
 abbrev pub call_text : ContainerStart ℕ → List ℕ
 call_text (Add value owner) = codes "add " ++ decimal value ++ codes " " ++ decimal owner
 call_text (Remove index owner mode) =
@@ -95,10 +96,12 @@ call_text Len = codes "len"
 call_text IsEmpty = codes "is_empty"
 call_text IsLocked = codes "is_locked"
 
+-- why an add failed, as it is printed
 abbrev pub add_failure_text : ContainerAddFailure → List ℕ
 add_failure_text add_failures.OutOfSpace = codes "OutOfSpace"
 add_failure_text add_failures.IsLocked = codes "IsLocked"
 
+-- why a remove or a replace failed, as it is printed
 abbrev pub remove_error_text : ContainerRemoveError → List ℕ
 remove_error_text remove_errors.ContainerHandleNotOwnedByContainer =
     codes "ContainerHandleNotOwnedByContainer"

@@ -1,6 +1,5 @@
--- The families of calls: the name of each kind, and a line for each call, answer and event, which
--- passes on to the family's file. An answer or an event that several families can have, of words and
--- numbers alone, prints here.
+-- The families of calls: the name of each kind, and a line for each call, answer and event, which passes on to the
+-- family's file. An answer or an event that several families can have, of words and numbers alone, prints here.
 use Rattle.std.specs.Prelude.{ℕ, Bool, true, false, List, ◌++◌, Option, Some, None, Result, if◌then◌else◌, bytes_eq, codes, decimal}
 use Rattle.model.specs.declared.event.Answer.{Answer}
 use Rattle.model.specs.declared.event.Answer.TheVariants as answers
@@ -21,7 +20,7 @@ use Rattle.texts.specs.Queues as queues
 
 -- ---- how they are read
 
--- the kind of this name
+-- the kind of this name, if there is one
 abbrev pub kind_named : List ℕ → Option Kind
 kind_named name =
     if bytes_eq name (codes "index_queue") then Some kinds.IndexQueue
@@ -51,7 +50,7 @@ call_named kinds.Loan name ws = loan.loan_call name ws
 
 -- ---- how they print
 
--- a call and its arguments
+-- a call with its arguments, as it is printed
 abbrev pub text_of_call : Start ℕ → List ℕ
 text_of_call (starts.Queues start) = queues.call_text start
 text_of_call (starts.Atomic start) = atomic.call_text start
@@ -61,14 +60,16 @@ text_of_call (starts.Robust start) = robust.call_text start
 text_of_call (starts.Container start) = container.call_text start
 text_of_call (starts.Loan start) = loan.call_text start
 
--- the number that there was
+-- a number that there was, as it is printed
 abbrev pub some_text : ℕ → List ℕ
 some_text number = codes "some " ++ decimal number
 
+-- a truth value, as it is printed
 abbrev pub truth_text : Bool → List ℕ
 truth_text true = codes "true"
 truth_text false = codes "false"
 
+-- an answer, as it is printed
 abbrev pub text_of_answer : Answer ℕ → List ℕ
 text_of_answer answers.Done = codes "done"
 text_of_answer (answers.Truth said) = truth_text said
@@ -86,11 +87,11 @@ text_of_answer (answers.NotOwned failure) = robust.failure_text failure
 text_of_answer (answers.NoPlace failure) = container.add_failure_text failure
 text_of_answer (answers.NotRemoved error) = container.remove_error_text error
 
--- a call and its answer
+-- a call and its answer, as they are printed
 abbrev pub answered_text : Start ℕ → Answer ℕ → List ℕ
 answered_text start answer = text_of_call start ++ codes " -> " ++ text_of_answer answer
 
--- whose event it is, and what was done; a death is no party's
+-- whose event it is, and what was done, as it is printed; a death is no party's
 abbrev pub text_of_event : Event ℕ → List ℕ
 text_of_event (events.Begun party start) = decimal party ++ codes " begun " ++ text_of_call start
 text_of_event (events.Published party item) =

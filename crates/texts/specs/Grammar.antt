@@ -16,10 +16,12 @@ use Rattle.texts.specs.Text.{number_of}
 
 -- ---- the first line
 
+-- the kind that a word names
 abbrev pub kind_of : List ℕ → Result Kind Cause
 kind_of name = elim (kind_named name) [ Some kind ↦ Ok kind | None ↦ Err UnknownKind ]
 
--- a structure of a kind: of a loan channel its slots and its queue, of any other its capacity
+-- The numbers of a structure of this kind, read from these words: of a loan channel its slots and its queue, of any
+-- other kind its capacity.
 abbrev pub shape_at : Kind → List (List ℕ) → Result (Shape × List (List ℕ)) Cause
 shape_at kind ws = do
   capacity ← number_at (2 ^ 64 - 1) ws
@@ -27,7 +29,7 @@ shape_at kind ws = do
       then (number_at (2 ^ 64 - 1) capacity.1 >>= λ queue. Ok (shapes.Loan capacity.0 queue.0, queue.1))
       else Ok (shapes.Of kind capacity.0, capacity.1)
 
--- a kind, the numbers of its structure, and how many parties
+-- the machine that a first line asks for: a kind, the numbers of its structure, and how many parties
 unfoldable pub setup_of : List (List ℕ) → Result Setup Cause
 setup_of ws = do
   name ← next_word ws
@@ -46,7 +48,7 @@ begin_of kind party ws = do
   end ← ended call.1
   Ok (Once (Begin party call.0))
 
--- a number of turns, from 1
+-- the number of turns that a word says, from 1
 abbrev pub count_of : List ℕ → Result ℕ Cause
 count_of word = number_of (2 ^ 64 - 1) word >>= λ n. if n == 0 then Err BadValue else Ok n
 

@@ -1,5 +1,5 @@
--- The calls of the unique index set, as a schedule names them and as they print. The robust index
--- set has files of its own within.
+-- The calls of the unique index set, as a schedule names them and as they print.
+-- The robust index set has files of its own within.
 use Rattle.std.specs.Prelude.{ℕ, ◌-◌, ◌^◌, List, ◌++◌, Result, Ok, Err, if◌then◌else◌, bytes_eq, codes, decimal}
 use Rattle.steps.specs.declared.indices.enums.ReleaseMode.{ReleaseMode}
 use Rattle.steps.specs.declared.indices.enums.ReleaseMode.TheVariants.{LockIfLastIndex, Default}
@@ -18,13 +18,14 @@ pub mod Robust
 
 -- ---- how they are read
 
+-- the mode that a word names
 abbrev pub mode_of : List ℕ → Result ReleaseMode Cause
 mode_of word =
     if bytes_eq word (codes "default") then Ok Default
     else if bytes_eq word (codes "lock") then Ok LockIfLastIndex
     else Err BadValue
 
--- a mode, and the words after it
+-- the mode that the first word names, and the words after it
 unfoldable pub mode_at : List (List ℕ) → Result (ReleaseMode × List (List ℕ)) Cause
 mode_at ws = do
   word ← next_word ws
@@ -45,7 +46,7 @@ any_index_call name ws =
     else if bytes_eq name (codes "is_locked") then Ok (IsLocked, ws)
     else Err UnknownCall
 
--- the calls of the unique index set
+-- the call of the unique index set that these words name, and the words that are left
 unfoldable pub index_call : List ℕ → List (List ℕ) → Result (Start ℕ × List (List ℕ)) Cause
 index_call name ws = do
   call ← any_index_call name ws
@@ -53,20 +54,24 @@ index_call name ws = do
 
 -- ---- how they print
 
+-- a mode, as a schedule names it
 abbrev pub mode_text : ReleaseMode → List ℕ
 mode_text Default = codes "default"
 mode_text LockIfLastIndex = codes "lock"
 
+-- a call, as a schedule names it
 abbrev pub call_text : IndexStart → List ℕ
 call_text Acquire = codes "acquire"
 call_text (Release index mode) = codes "release " ++ decimal index ++ codes " " ++ mode_text mode
 call_text BorrowedIndices = codes "borrowed_indices"
 call_text IsLocked = codes "is_locked"
 
+-- why an acquire failed, as it is printed
 abbrev pub failure_text : UniqueIndexSetAcquireFailure → List ℕ
 failure_text failures.OutOfIndices = codes "OutOfIndices"
 failure_text failures.IsLocked = codes "IsLocked"
 
+-- a state of the set, as it is printed
 abbrev pub state_text : ReleaseState → List ℕ
 state_text states.Locked = codes "Locked"
 state_text states.Unlocked = codes "Unlocked"

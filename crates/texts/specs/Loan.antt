@@ -25,7 +25,7 @@ give_back ws = do
   index ← number_at (2 ^ 64 - 1) ws
   Ok (GiveBack index.0, index.1)
 
--- a call without an argument
+-- the call with this name that has no argument, if there is one
 abbrev pub bare_call : List ℕ → Option LoanStart
 bare_call name =
     if bytes_eq name (codes "loan") then Some Loan
@@ -41,7 +41,7 @@ any_loan_call name ws =
     else if bytes_eq name (codes "give_back") then give_back ws
     else elim (bare_call name) [ Some start ↦ Ok (start, ws) | None ↦ Err UnknownCall ]
 
--- the calls of the loan channel
+-- the call of the loan channel that these words name, and the words that are left
 unfoldable pub loan_call : List ℕ → List (List ℕ) → Result (Start ℕ × List (List ℕ)) Cause
 loan_call name ws = do
   call ← any_loan_call name ws
@@ -49,6 +49,7 @@ loan_call name ws = do
 
 -- ---- how they print
 
+-- a call, as a schedule names it
 abbrev pub call_text : LoanStart → List ℕ
 call_text Loan = codes "loan"
 call_text (Send index) = codes "send " ++ decimal index

@@ -22,6 +22,7 @@ events_text events = flat_map event_text events
 
 -- ---- refusals
 
+-- a refusal, as it is printed
 abbrev pub refusal_name : Refusal → List ℕ
 refusal_name refusals.NoParty = codes "NoParty"
 refusal_name refusals.Busy = codes "Busy"
@@ -42,6 +43,7 @@ refusal_text refusal = codes "refused " ++ refusal_name refusal ++ codes "\n"
 
 -- ---- errors
 
+-- why a line is malformed, as it is printed
 abbrev pub cause_text : Cause → List ℕ
 cause_text causes.MissingValue = codes "missing value"
 cause_text causes.BadValue = codes "bad value"
@@ -53,6 +55,7 @@ cause_text causes.ProvidedCapacityGreaterThanMaxCapacity =
     codes "ProvidedCapacityGreaterThanMaxCapacity"
 cause_text causes.ProvidedCapacityIsZero = codes "ProvidedCapacityIsZero"
 
+-- an error, as it is printed: a line of its own
 abbrev pub error_text : ScheduleError → List ℕ
 error_text (errors.Malformed line cause) =
     codes "line " ++ decimal line ++ codes ": " ++ cause_text cause ++ codes "\n"

@@ -14,7 +14,7 @@ use Rattle.texts.specs.Reading.{◌>>=◌, number_at}
 
 -- ---- how they are read
 
--- a call on a role, a pop, or a question of length or of a role: no value follows its name
+-- the call with this name after which no value follows: one on a role, a pop, or a question of length or of a role
 abbrev pub call_without_value : List ℕ → Option (QueueStart ℕ)
 call_without_value name =
     if bytes_eq name (codes "acquire_producer") then Some AcquireProducer
@@ -40,12 +40,12 @@ push_value ws = do
   value ← number_at (2 ^ 128 - 1) ws
   Ok (Queues (Push value.0), value.1)
 
--- the calls that every queue has
+-- the call that these words name, of those that every queue has, and the words that are left
 unfoldable pub any_queue_call : List ℕ → List (List ℕ) → Result (Start ℕ × List (List ℕ)) Cause
 any_queue_call name ws =
     elim (call_without_value name) [ Some start ↦ Ok (Queues start, ws) | None ↦ Err UnknownCall ]
 
--- the calls that both bounded queues have
+-- the call that these words name, of those that both bounded queues have, and the words that are left
 abbrev pub any_bounded_call : List ℕ → List (List ℕ) → Result (Start ℕ × List (List ℕ)) Cause
 any_bounded_call name ws =
     if bytes_eq name (codes "peek") then Ok (Queues Peek, ws) else any_queue_call name ws
@@ -65,6 +65,7 @@ value_queue_call name ws =
 
 -- ---- how they print
 
+-- a call, as a schedule names it
 abbrev pub call_text : QueueStart ℕ → List ℕ
 call_text AcquireProducer = codes "acquire_producer"
 call_text ReleaseProducer = codes "release_producer"
@@ -80,6 +81,7 @@ call_text Len = codes "len"
 call_text IsEmpty = codes "is_empty"
 call_text IsFull = codes "is_full"
 
+-- an item, as it is printed
 abbrev pub item_text : Item ℕ → List ℕ
 item_text (Index n) = decimal n
 item_text (Value n) = decimal n

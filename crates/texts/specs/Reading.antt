@@ -9,17 +9,19 @@ abbrev pub ◌>>=◌ : {A B : Type 0} → Result A Cause → (A → Result B Cau
 (Ok x) >>= f = f x
 (Err e) >>= f = Err e
 
--- what a function returned, seen by view, is what reading gives
+-- what a function returned, seen by this view, is what reading gives
 abbrev pub Gives : {X Y : Type 0} → (X → Y) → Result X Cause → Result Y Cause → Type 0
 Gives view (Ok x) read = read ≡ Ok (view x)
 Gives view (Err e) read = read ≡ Err e
 
 -- ---- words
 
+-- the next word of a line, and those after it
 abbrev pub next_word : List (List ℕ) → Result (List ℕ × List (List ℕ)) Cause
 next_word [] = Err MissingValue
 next_word (w ∷ ws) = Ok (w, ws)
 
+-- the line has no word more
 abbrev pub ended : List (List ℕ) → Result (Unit {0}) Cause
 ended [] = Ok tt
 ended (w ∷ ws) = Err ExtraWords

@@ -7,7 +7,7 @@ use Rattle.texts.specs.declared.error.Cause.{Cause}
 use Rattle.texts.specs.declared.error.Cause.TheVariants.{BadValue}
 use Rattle.texts.specs.declared.text.Rest.{Rest}
 
--- what stands round each byte that is the separator
+-- the parts of a text between its separators
 abbrev pub parts : ℕ → List ℕ → List (List ℕ)
 parts separator text = slice_split (λ b. b == separator) text
 

@@ -6,8 +6,7 @@ use Rattle.std.specs.List.{FoldsTo}
 abbrev pub Ascends : ℕ → List ℕ → Type 0
 Ascends capacity places = AllPairs (λ x y. x < y) places × All (λ place. place < capacity) places
 
--- after calls at places that ascend, the closure may be called at any place above them
--- and below the capacity
+-- after calls at places that ascend, the closure may be called at any place above them and below the capacity
 pub record TakesPlaces {F : Type 0} (pre : F → ℕ → Type 0) (step : F → ℕ → F → Type 0)
     (capacity : ℕ) (f : F) : Type 0 where
   pub at : (before : List ℕ) (now : F) (place : ℕ) → FoldsTo step f before now

@@ -14,11 +14,11 @@ module _ {V K Q : Type 0} where
   abbrev pub seen : Seated V K Q → V
   seen t = t.seat.me.0
 
-  -- which table it is at
+  -- the table that the seat is at
   abbrev pub table_of : Seated V K Q → TableId
   table_of t = t.seat.table_id
 
-  -- and which table a structure holds
+  -- the table that a structure holds
   abbrev pub home_id : Home V K Q → TableId
   home_id h = (arc_value h.table).shared.table_id
 

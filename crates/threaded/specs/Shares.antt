@@ -4,12 +4,15 @@ use mathlib.Core.Option.{some}
 use lib.ListN.{get_elem?}
 use Rattle.threaded.specs.declared.share.Share.{Share}
 
+-- the whole share
 abbrev pub all_shares : Share
 all_shares = record { part = 1; parts = 1 }
 
+-- no share
 abbrev pub no_share : Share
 no_share = record { part = 0; parts = 1 }
 
+-- half of a share
 abbrev pub half_of : Share → Share
 half_of s = record { part = s.part; parts = s.parts + s.parts }
 
@@ -18,6 +21,7 @@ abbrev pub both_of : Share → Share → Share
 both_of s t =
     record { part = s.part * t.parts + t.part * s.parts; parts = s.parts * t.parts }
 
+-- it is the whole share
 abbrev pub IsAll : Share → Type 0
 IsAll s = s.part ≡ s.parts
 
@@ -26,6 +30,7 @@ abbrev pub rest : ℕ → Share → Share
 rest zero s = s
 rest (suc n) s = half_of (rest n s)
 
+-- what was split off a share in n splits, the last first
 abbrev pub pieces : ℕ → Share → List Share
 pieces zero s = []
 pieces (suc n) s = rest (suc n) s ∷ pieces n s
@@ -42,9 +47,13 @@ tally k (suc n) = tally k n + k n
 
 -- the shares of all seats make the whole, those of dropped passes too
 pub record Shares {V : Type 0} (share : V → Share) (views : List V) : Type 0 where
+  -- into how many equal parts the whole is cut
   pub whole : ℕ
+  -- how many of them each share is
   pub each : ℕ → ℕ
   pub any : 0 < whole
+  -- together they are all
   pub sum : tally each (length views) ≡ whole
+  -- each share, a fraction, is the same as its number of parts over the whole
   pub fits : (j : ℕ) (v : V) → get_elem? views j ≡ some v
       → (0 < (share v).parts) × ((share v).part * whole ≡ (share v).parts * each j)

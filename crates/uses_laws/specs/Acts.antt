@@ -12,10 +12,13 @@ use Rattle.history.specs.Order.{StandsIn}
 -- The acts have an order in which all answers are right. Both calls stand in the history, with these answers, and the
 -- first ended before the second began.
 pub record ActedInOrder (capacity first second : ℕ) (one two : Bool) (old new : View ℕ) : Type 0 where
+  -- the acts have an order in which all answers are right
   pub acts : ActsByPlace kinds.Bits capacity new.seen
   pub by : ℕ
   pub then_by : ℕ
+  -- what was seen when the first call had ended
   pub between : View ℕ
   pub first_call : StandsIn by (Bits (Set first)) (Truth one) old between new.seen
   pub second_call : StandsIn then_by (Bits (Set second)) (Truth two) between new new.seen
+  -- the first ended before the second began
   pub order : Precedes first_call.call second_call.call

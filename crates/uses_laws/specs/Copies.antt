@@ -9,4 +9,5 @@ pub record HasOnlyAdded (events : List (Event ℕ)) : Type 0 where
   pub recovered : recoveries events ≡ 0
   pub removed : removals events ≡ 0
   pub unlocked : lock_calls events ≡ 0
+  -- so little was done that no number is near its end
   pub few : 3 * changes events + rises events < 2 ^ 63

@@ -16,12 +16,15 @@ pub record EndsWithPush (value : ℕ) (history : List (Event Call Answer)) : Typ
   pub is : history ≡ before ++ Invoked 0 (Push value) ∷ (during ++ Responded 0 (Pushed true) ∷ [])
   pub alone : IsSilent 0 during
 
--- What was seen of all threads' pushes and pops is a run of the page's machine. It had come to the end of a push, and has gone on
--- from there to the end of another one. It is linearizable as the page says.
+-- What was seen of all threads' pushes and pops is a run of the page's machine. It had come to the end of a push, and
+-- has gone on from there to the end of another one. It is linearizable as the page says.
 pub record HasPushedBoth (capacity first second : ℕ) (seen : List (Event Call Answer)) : Type 0 where
   pub turns : List (Turn Call)
   pub more : List (Turn Call)
+  -- they lead to the end of the first push
   pub once : EndsWithPush first (history_of capacity turns)
+  -- more turns lead to the end of the second
   pub twice : EndsWithPush second (history_of capacity (turns ++ more))
+  -- what was seen is the history of all of them
   pub all : seen ≡ history_of capacity (turns ++ more)
   pub linearizable : length (turns ++ more) < 2 ^ 63 → IsLinearizable (bounded_list capacity) seen

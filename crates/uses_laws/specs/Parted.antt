@@ -23,14 +23,16 @@ module _ {T : Type 0} where
     pub since : IsBeginning old.seen new.seen
     pub first : AreFirst old.turns new.turns
 
-  -- Each end has half of the pass. Beside what the pass had made each has made one call, which took its role. Together they
-  -- have asked for at most three operations more, all of which may be aside.
+  -- Each end has half of the pass. Beside what the pass had made each has made one call, which took its role. Together
+  -- they have asked for at most three operations more, all of which may be aside.
   pub record HasParted (old producer consumer : View T) : Type 0 where
     pub producing : IsHalf old producer
     pub consuming : IsHalf old consumer
     pub by : ℕ
     pub then_by : ℕ
+    -- the one end has taken the producer's role
     pub produces : producer.made ≡ old.made ++ role_taken by roles.Producer
+    -- the other end has taken the consumer's role
     pub consumes : consumer.made ≡ role_taken then_by roles.Consumer
     pub asked : producer.asked + consumer.asked ≤ old.asked + 3
     pub aside : producer.aside + consumer.aside ≤ old.aside + 3

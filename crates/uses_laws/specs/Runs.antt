@@ -12,18 +12,25 @@ use Rattle.lock_free.specs.HistoryView.View.{View}
 use Rattle.headline_threads.specs.Ends.{AreBelow, BeginSuch, steps_between}
 
 module _ {T : Type 0} where
-  -- Of all steps that the table took, and of those that it took since, by a bound: how many there are at most where so many
-  -- calls have ended, and where so many have begun. All that the pass has asked for is at most so much too, beside so many
-  -- operations aside. Cut what the table did since into more rounds than that, and a party that took a step in each had
-  -- no call under way as one of them began.
+  -- What a bound on steps says, of all steps that the table took and of those that it took since: how many there are at
+  -- most, by the calls that have ended, and by those that have begun. All that the pass has asked for is at most so
+  -- much too, beside so many operations aside. Cut what the table did since into more rounds than that, and a party
+  -- that took a step in each had no call under way as one of them began.
   pub record EndsWithin (code : Coding T) (kind : Kind) (capacity bound aside : ℕ) (old new : View T)
       (later : Continues code kind capacity old new) : Type 0 where
+    -- in more steps than the bound a call ends
     pub ends_one : bound < steps_between code kind capacity old new later → ends old.seen < ends new.seen
+    -- the steps since by the calls that have ended since
     pub ends_since : AreWithinEnds bound (steps_between code kind capacity old new later) (ends old.seen) (ends new.seen)
+    -- all steps by all calls that have ended
     pub ends_all : AreWithinEnds bound (steps_in (opening code kind capacity 0) new.turns) 0 (ends new.seen)
+    -- the steps since by the calls that were under way or have begun since
     pub load_since : steps_between code kind capacity old new later ≤ load bound (begun new.seen - ends old.seen)
+    -- all steps by all calls that have begun
     pub load_all : steps_in (opening code kind capacity 0) new.turns ≤ load bound (begun new.seen)
+    -- what the pass has asked for, by all calls that have begun
     pub asked : new.asked ≤ aside + load bound (begun new.seen)
+    -- a party that takes a step in each of so many rounds has no call under way at one of them
     pub rests : (rounds : List (List (Turn T))) → later.first.rest ≡ turns_of rounds
         → (p : ℕ) → StepsInEach p (run_of code kind capacity old.turns) rounds
         → load bound (begun new.seen - ends old.seen) < length rounds

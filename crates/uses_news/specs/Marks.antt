@@ -32,12 +32,13 @@ pub record AreNewsFrom (first : ℕ) (marks : List ℕ) : Type 0 where
   pub rise : Rises first numbers next
   pub few : All (λ n. n < 100) numbers
 
--- They are those of the numbers that were received by the lane at a place, by which all numbers went out from 0 up to the next one. The
--- pass of the lane knows that, and that a beginning of them was received or came back, each once, and both in order.
+-- They are those of the numbers that were received by the lane at a place, by which
+-- all numbers went out from 0 up to the next one. The pass of the lane knows that, and
+-- that a beginning of them was received or came back, each once, and both in order.
 pub record AreNewsBy {X K : Type 0} {rule : Ghosts K X} (p : Publisher X K rule) (place : ℕ) (marks : List ℕ) : Type 0 where
   pub news : AreNewsFrom 0 marks
   pub heard : HasHeardAt p place 0 news.numbers
 
--- so it is of two lanes
+-- the marks are news of the numbers that two lanes received
 abbrev pub AreNewsByTwo : {X K : Type 0} {rule : Ghosts K X} → Publisher X K rule → List ℕ → List ℕ → Type 0
 AreNewsByTwo p one other = (here : ℕ) × (there : ℕ) × (there ≢ here) × AreNewsBy p here one × AreNewsBy p there other

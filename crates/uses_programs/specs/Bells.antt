@@ -4,6 +4,7 @@ use Rattle.std.specs.List.{count_by}
 use Rattle.lock_free.specs.Sums.{sets, clears}
 use Rattle.lock_free.specs.Event.{Event}
 
+-- how often the bell is among these
 abbrev pub times : ℕ → List ℕ → ℕ
 times bell bells = count_by (λ b. b == bell) bells
 

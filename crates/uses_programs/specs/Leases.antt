@@ -6,6 +6,7 @@ use Rattle.lock_free.specs.Event.{Event}
 use Rattle.lock_free.specs.Event.TheVariants.{Begun, Granted, FreedOf, Told, Died}
 use Rattle.lock_free.specs.Unique.Held.{one_if, times}
 
+-- 1 for a grant of index i
 abbrev pub grants : ℕ → Event ℕ → ℕ
 grants i (Granted p index owner) = one_if index i
 grants i e = 0
@@ -18,6 +19,7 @@ ends (Died owner) = 1
 ends (Begun p (Container (Recover owner mode))) = 1
 ends e = 0
 
+-- each of these indices was granted as often as it is listed, and none was given back and no owner called gone since
 pub record HasLeased (indices : List ℕ) (made : List (Event ℕ)) : Type 0 where
   pub granted : (i : ℕ) → sum_by (grants i) made ≡ times i indices
   pub kept : sum_by ends made ≡ 0

@@ -18,6 +18,7 @@ module _ {T : Type 0} where
 
   -- it has stored these values, the last that were stored, one after the other
   pub record HasWritten (xs : List T) (v w : View T) : Type 0 where
+    -- what others stored
     pub others : List T
     pub list : stored w.seen ≡ (stored v.seen ++ others) ++ xs
     pub made : stores_in w.made ≡ stores_in v.made + length xs
@@ -27,5 +28,6 @@ module _ {T : Type 0} where
   pub record HasRead (xs : List T) (v w : View T) : Type 0 where
     pub since : IsBeginning v.seen w.seen
     pub all : All (Contains (stored w.seen)) xs
+    -- it has stored nothing
     pub made : stores_in w.made ≡ stores_in v.made
     pub share : w.share ≡ v.share

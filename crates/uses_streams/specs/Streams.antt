@@ -18,28 +18,29 @@ module _ {T : Type 0} where
   values_in (Value (elements.Value x) ∷ items) = x ∷ values_in items
   values_in items = []
 
-  -- the end comes, after values alone
+  -- whether the end comes, after values alone
   abbrev pub has_end : List (Item (Element T)) → Bool
   has_end (Value (elements.Value x) ∷ items) = has_end items
   has_end (Value elements.End ∷ items) = true
   has_end items = false
 
-  -- the end comes once, after values alone, and nothing comes after it
+  -- whether the end comes once, after values alone, and nothing comes after it
   abbrev pub ends_once : List (Item (Element T)) → Bool
   ends_once (Value (elements.Value x) ∷ items) = ends_once items
   ends_once (Value elements.End ∷ []) = true
   ends_once items = false
 
-  -- there are values alone
+  -- whether there are values alone
   abbrev pub has_values : List (Item (Element T)) → Bool
   has_values [] = true
   has_values (Value (elements.Value x) ∷ items) = has_values items
   has_values items = false
 
-  -- what a pass pushed itself, where nobody else pushed since its first push, and what it popped itself
+  -- the elements that the pass itself has pushed, where nobody else pushed since its first push
   abbrev pub pushed_by : View (Element T) → List (Item (Element T))
   pushed_by v = last_ones (sum_by puts v.made) (published v.seen)
 
+  -- the elements that the pass itself has popped
   abbrev pub popped_by : View (Element T) → List (Item (Element T))
   popped_by v = last_ones (sum_by gets v.made) (handed_out v.seen)
 
@@ -47,15 +48,15 @@ module _ {T : Type 0} where
   abbrev pub HasHalf : View (Element T) → Type 0
   HasHalf v = (v.share.part ≡ 1) × (v.share.parts ≡ 2)
 
-  -- it is such a half, and has pushed and popped nothing
+  -- the pass has half of the whole share, and has pushed and popped nothing
   abbrev pub IsFreshHalf : View (Element T) → Type 0
   IsFreshHalf v = HasHalf v × (sum_by puts v.made ≡ 0) × (sum_by gets v.made ≡ 0)
 
-  -- it has half of the share, and only pushes
+  -- the pass has half of the share, and only pushes
   abbrev pub OnlyPushes : View (Element T) → Type 0
   OnlyPushes v = HasHalf v × (sum_by puts v.made ≤ length (published v.seen)) × (sum_by gets v.made ≡ 0)
 
-  -- it has half of the share, and only pops
+  -- the pass has half of the share, and only pops
   abbrev pub OnlyPops : View (Element T) → Type 0
   OnlyPops v = HasHalf v × (sum_by gets v.made ≤ length (handed_out v.seen)) × (sum_by puts v.made ≡ 0)
 

@@ -5,7 +5,7 @@ use Rattle.history.specs.declared.view.View.{View}
 use Rattle.lock_free_queues.specs.Queues.Contracts.{PushDone, PushRefused, PopDone, PopEmpty, PopOldest, PopFoundNone}
 
 module _ {A : Type 0} where
-  -- so many steps, one after the other
+  -- n steps, one after the other, lead from the old view to the new one
   abbrev pub Times : ℕ → (A → A → Type 0) → (old new : A) → Type 0
   Times zero Step old new = new ≡ old
   Times (suc n) Step old new = (between : A) × Times n Step old between × Step between new
@@ -17,11 +17,11 @@ module _ {A B : Type 0} where
   InTurn Step (x ∷ xs) old new = (between : A) × Step x old between × InTurn Step xs between new
 
 module _ {T : Type 0} where
-  -- so many pushes of the item were refused, one after the other
+  -- that many pushes of the item were made, one after the other, and each was refused
   abbrev pub WereRefused : (tries capacity : ℕ) → Item T → (old new : View T) → Type 0
   WereRefused tries capacity item old new = Times tries (PushRefused capacity item) old new
 
-  -- so many pops found the queue empty, one after the other
+  -- that many pops were made, one after the other, and each found the queue empty
   abbrev pub WereEmpty : ℕ → (old new : View T) → Type 0
   WereEmpty tries old new = Times tries PopEmpty old new
 
@@ -41,7 +41,7 @@ module _ {T : Type 0} where
     pub before : WereEmpty empty old last
     pub popped : PopDone item last new
 
-  -- of an overflowing queue: one of so many pops took the oldest item out, and all before it found none
+  -- one of so many pops of an overflowing queue took the oldest item out, and all before it found none
   pub record WasTakenWithin (tries : ℕ) (item : Item T) (old new : View T) : Type 0 where
     pub empty : ℕ
     pub few : empty < tries
@@ -65,7 +65,7 @@ module _ {T V : Type 0} (named : V → Item T) where
   WasStopped capacity [] old new = new ≡ old
   WasStopped capacity (value ∷ values) old new = PushRefused capacity (named value) old new
 
-  -- so many of the values were pushed, the first ones, and then the next one was refused, if there is one
+  -- the first `count` of the values were pushed, and then the next one was refused, if there is one
   pub record WerePushedUpTo (capacity count : ℕ) (values : List V) (old new : View T) : Type 0 where
     pub last : View T
     pub pushed : WerePushed (take count values) old last

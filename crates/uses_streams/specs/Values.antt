@@ -8,12 +8,15 @@ use Rattle.uses_streams.specs.declared.ends.values.Values.{Values}
 use Rattle.uses_streams.specs.Ends.{receiver_queue, received_so_far, is_at_end}
 
 module _ {T R : Type 0} {words : Ghosts (Element T)} where
+  -- the queue of the stream
   abbrev pub values_queue : Values T R words → QueueId
   values_queue s = receiver_queue s.receiver
 
+  -- the values that it has given so far
   abbrev pub given_so_far : Values T R words → List T
   given_so_far s = received_so_far s.receiver
 
+  -- whether it has given all values of the stream
   abbrev pub has_given_all : Values T R words → Bool
   has_given_all s = is_at_end s.receiver
 

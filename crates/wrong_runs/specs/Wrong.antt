@@ -7,9 +7,11 @@ use Rattle.model.specs.declared.turn.Kind.TheVariants as kinds
 use Rattle.model.specs.Coding.{one_word}
 use Rattle.model.specs.World.{Trace}
 
+-- the events: index 0 is filled for owner 7 and granted to him, and granted to owner 9 as well
 abbrev pub two_grants : List (Event ℕ)
 two_grants = Filled 0 0 7 ∷ Granted 0 0 7 ∷ Granted 1 0 9 ∷ []
 
+-- a trace of a robust set of two indices, whose events grant one index to two owners
 abbrev pub granted_twice : Trace ℕ
 granted_twice =
     record {

@@ -25,15 +25,19 @@ steps_of sends receives =
     + ((taken_view sends).asked + (returned_view receives).asked)
 
 module _ {X K : Type 0} {rule : Ghosts K X} where
+  -- the channel's set of places
   abbrev pub set_in : Channel X K rule → UniqueIndexSet
   set_in c = c.set
 
+  -- the queue through which places are sent
   abbrev pub submission_in : Channel X K rule → QueueId
   submission_in c = queue_id c.submission
 
+  -- the queue through which places come back
   abbrev pub completion_in : Channel X K rule → QueueId
   completion_in c = queue_id c.completion
 
+  -- how many places the channel has
   abbrev pub places_of : Channel X K rule → ℕ
   places_of c = capacity_of (set_in c)
 
@@ -45,6 +49,7 @@ module _ {X K : Type 0} {rule : Ghosts K X} where
   abbrev pub layout_of : Channel X K rule → Layout
   layout_of c = c.layout
 
+  -- the channel's shape: the room of a place, how many places, and how many may wait
   abbrev pub shape_of : Channel X K rule → Shape
   shape_of c =
       record { room = (layout_of c).room; places = places_of c; capacity = (submission_in c).capacity }
@@ -57,6 +62,7 @@ module _ {X K : Type 0} {rule : Ghosts K X} where
   abbrev pub set_view : Channel X K rule → View ℕ
   set_view c = sets.view c.pass
 
+  -- what the pass knows of the queue through which places come back
   abbrev pub returning_view : Channel X K rule → View ℕ
   returning_view c = view c.returning
 
@@ -73,6 +79,7 @@ module _ {X K : Type 0} {rule : Ghosts K X} where
   IsSenderOf c parts =
       IsPassOf (set_in c) parts.pass × (sent_queue parts ≡ submission_in c) × (queue_of parts.completion ≡ completion_in c)
 
+  -- these parts are of a receiver of this channel
   abbrev pub IsReceiverOf : Channel X K rule → ReceiverParts → Type 0
   IsReceiverOf c parts = (received_queue parts ≡ submission_in c) × (queue_of parts.completion ≡ completion_in c)
 
@@ -93,8 +100,8 @@ module _ {X K : Type 0} {rule : Ghosts K X} where
     pub returns : HasSplit other_half (returning_view new) (returned_view receives)
     pub next : sends.next ≡ next_in old
 
-  -- The passes of both were taken in again, that of the set and those of both queues: with the whole share it knows all that they
-  -- sent and received, and that nothing else was.
+  -- The passes of both were taken in again, that of the set and those of both queues: with the whole share it knows all
+  -- that they sent and received, and that nothing else was.
   pub record HasRejoined (old new : Channel X K rule) (sends : SenderParts) (receives : ReceiverParts) : Type 0 where
     pub set : HasJoined (set_view old) (sets.view sends.pass) (set_view new)
     pub half : View ℕ

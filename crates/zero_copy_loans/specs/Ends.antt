@@ -34,6 +34,7 @@ use Rattle.zero_copy_slots.specs.declared.Keeps.{Ghosts}
 abbrev pub received : Sample → ℕ
 received sample = sample.place
 
+-- the number under which the sample was sent
 abbrev pub number_of : Sample → ℕ
 number_of sample = sample.number
 
@@ -42,6 +43,7 @@ abbrev pub numbers_of : Option Sample → List ℕ
 numbers_of (Some sample) = number_of sample ∷ []
 numbers_of None = []
 
+-- the number that came back, if one did
 abbrev pub numbers_back : Option Back → List ℕ
 numbers_back (Some back) = back.number ∷ []
 numbers_back None = []
@@ -50,39 +52,42 @@ numbers_back None = []
 abbrev pub loaned : {X K : Type 0} → Loan X K → ℕ
 loaned loan = loan.place
 
--- what a sender is made of knows of the queue, and which queue that is
+-- what a sender that these parts make knows of the queue that it sends through
 abbrev pub sent_view : SenderParts → View ℕ
 sent_view parts = view parts.submission
 
+-- which queue a sender of these parts sends through
 abbrev pub sent_queue : SenderParts → QueueId
 sent_queue parts = queue_of parts.submission
 
--- what it knows of the queue by which places come back
+-- what a sender that these parts make knows of the queue by which places come back
 abbrev pub taken_view : SenderParts → View ℕ
 taken_view parts = view parts.completion
 
--- what a receiver is made of knows of the queue, and which queue that is
+-- what a receiver that these parts make knows of the queue that it receives from
 abbrev pub received_view : ReceiverParts → View ℕ
 received_view parts = view parts.submission
 
+-- which queue a receiver of these parts receives from
 abbrev pub received_queue : ReceiverParts → QueueId
 received_queue parts = queue_of parts.submission
 
--- what it knows of the queue by which places come back
+-- what a receiver that these parts make knows of the queue by which places come back
 abbrev pub returned_view : ReceiverParts → View ℕ
 returned_view parts = view parts.completion
 
 module _ {X K : Type 0} {rule : Ghosts K X} where
   -- ---- the sender
 
-  -- its sender of places, and the table of that: where each place is
+  -- the sender's own sender of places
   abbrev pub sender_of : Sender X K rule → LoanSender
   sender_of s = s.loans
 
+  -- where the sender has each of its places
   abbrev pub places_of : Sender X K rule → List Place
   places_of s = loans.places_of s.loans
 
-  -- how many values it has that are not in a slot
+  -- how many values the sender has that are not in a slot
   abbrev pub spares_in : Sender X K rule → ℕ
   spares_in s = vec_len s.spares
 
@@ -90,46 +95,50 @@ module _ {X K : Type 0} {rule : Ghosts K X} where
   abbrev pub next_of : Sender X K rule → ℕ
   next_of s = s.next
 
-  -- how it makes its words, for how many places
+  -- how the sender makes its words, and for how many places
   abbrev pub layout_of : Sender X K rule → Layout
   layout_of s = s.layout
 
+  -- how many places the sender has
   abbrev pub slots_of : Sender X K rule → ℕ
   slots_of s = (layout_of s).places
 
-  -- what it knows of the queue that it sends through, and which that is
+  -- what the sender knows of the queue that it sends through
   abbrev pub sends_view : Sender X K rule → View ℕ
   sends_view s = loans.submission_view s.loans
 
+  -- the queue through which the sender sends
   abbrev pub sends_queue : Sender X K rule → QueueId
   sends_queue s = loans.submission_of s.loans
 
+  -- the shape of the sender's channel
   abbrev pub sends_shape : Sender X K rule → Shape
   sends_shape s =
       record { room = (layout_of s).room; places = slots_of s; capacity = (sends_queue s).capacity }
 
-  -- what is sent next with this place, and whether there is such a number
+  -- the word that is sent next with this place
   abbrev pub word_next : Sender X K rule → ℕ → ℕ
   word_next s place = word_of (layout_of s).room (next_of s) place
 
+  -- there is a number under which this place can be sent next
   abbrev pub HasWord : Sender X K rule → ℕ → Type 0
   HasWord s place = IsWord (layout_of s).room (slots_of s) (next_of s) place
 
-  -- there is no such number, so nothing was sent: what was to be sent comes back
+  -- there is no next number for this place, so nothing was sent: what was to be sent comes back
   abbrev pub IsUnsent : ℕ → Back → Sender X K rule → Sender X K rule → Type 0
   IsUnsent place back old new =
       ((slots_of old ≤ place) ⊎ (2 ^ 64 ≤ word_next old place))
       × (back.number ≡ next_of old) × (back.place ≡ place)
       × (sends_view new ≡ sends_view old) × (next_of new ≡ next_of old)
 
-  -- its place is not Loaned here, so nothing was sent: what was to be sent comes back
+  -- the place is not Loaned here, so nothing was sent: what was to be sent comes back
   abbrev pub IsForeign : ℕ → Back → Sender X K rule → Sender X K rule → Type 0
   IsForeign place back old new =
       (¬ loans.IsLoaned place (sender_of old)) × (back.number ≡ next_of old) × (back.place ≡ place)
       × (sender_of new ≡ sender_of old) × (next_of new ≡ next_of old)
 
-  -- what the queue handed back, by its number and place: the oldest that waited, or its own where the queue takes none; or there is
-  -- no such number, or the place is not Loaned here, and nothing was sent
+  -- what the queue handed back, by its number and place: the oldest that waited, or its own where the queue takes none;
+  -- or there is no such number, or the place is not Loaned here, and nothing was sent
   abbrev pub HandsBack : ℕ → Back → Sender X K rule → Sender X K rule → Type 0
   HandsBack place back old new =
       (back.place < (layout_of old).room)
@@ -138,13 +147,13 @@ module _ {X K : Type 0} {rule : Ghosts K X} where
       ⊎ IsUnsent place back old new
       ⊎ IsForeign place back old new
 
-  -- it sends through the same queue, in the same way, and has sent nothing
+  -- the sender sends through the same queue, in the same way, and has sent nothing
   abbrev pub KeepsSends : Sender X K rule → Sender X K rule → Type 0
   KeepsSends old new =
       (sends_view new ≡ sends_view old) × loans.IsSame (sender_of old) (sender_of new) × (layout_of new ≡ layout_of old)
       × (next_of new ≡ next_of old)
 
-  -- It has sent so many values, with the numbers that came next, and those came back.
+  -- The sender has sent so many values, with the numbers that came next, and those came back.
   pub record HasSent (count : ℕ) (back : List ℕ) (old new : Sender X K rule) : Type 0 where
     pub same : loans.IsSame (sender_of old) (sender_of new)
     pub layout : layout_of new ≡ layout_of old
@@ -158,13 +167,13 @@ module _ {X K : Type 0} {rule : Ghosts K X} where
       (set_of parts.pass ≡ loans.set_of_sender (sender_of s)) × (sent_queue parts ≡ sends_queue s)
       × (queue_of parts.completion ≡ loans.completion_of (sender_of s))
 
-  -- it has sent nothing since it was made of its parts
+  -- the sender has sent nothing since it was made of its parts
   pub record HasBegun (parts : SenderParts) (s : Sender X K rule) : Type 0 where
     pub of : IsOfSender s parts
     pub next : next_of s ≡ parts.next
     pub sent : HasSentNumbers (sends_shape s) [] [] (sent_view parts) (sends_view s)
 
-  -- it has sent so many values until it was taken apart
+  -- the sender has sent so many values until it was taken apart
   pub record HasSentAll (count : ℕ) (back : List ℕ) (s : Sender X K rule) (parts : SenderParts) : Type 0 where
     pub of : IsOfSender s parts
     pub next : parts.next ≡ next_of s + count
@@ -181,32 +190,36 @@ module _ {X K : Type 0} {rule : Ghosts K X} where
 
   -- ---- the receiver
 
-  -- how many places it reads
+  -- how many places the receiver reads
   abbrev pub places_in : Receiver X K rule → ℕ
   places_in r = slots_in r.slots.now
 
-  -- what it knows of the queue that it receives from, and of the one by which it gives back, and which they are
+  -- what the receiver knows of the queue that it receives from
   abbrev pub receives_view : Receiver X K rule → View ℕ
   receives_view r = consumer_view r.receives
 
+  -- what the receiver knows of the queue through which it gives back
   abbrev pub returns_view : Receiver X K rule → View ℕ
   returns_view r = producer_view r.returns
 
+  -- the queue from which the receiver receives
   abbrev pub receives_queue : Receiver X K rule → QueueId
   receives_queue r = consumer_queue r.receives
 
+  -- the queue through which the receiver gives back
   abbrev pub returns_queue : Receiver X K rule → QueueId
   returns_queue r = producer_queue r.returns
 
-  -- how it takes words apart
+  -- how the receiver takes words apart
   abbrev pub layout_in : Receiver X K rule → Layout
   layout_in r = r.layout
 
+  -- the shape of the receiver's channel
   abbrev pub receives_shape : Receiver X K rule → Shape
   receives_shape r =
       record { room = (layout_in r).room; places = places_in r; capacity = (receives_queue r).capacity }
 
-  -- what was sent, of a sample
+  -- the word with which a sample was sent
   abbrev pub word_in : Receiver X K rule → Sample → ℕ
   word_in r sample = word_of (layout_in r).room (number_of sample) (received sample)
 
@@ -217,18 +230,18 @@ module _ {X K : Type 0} {rule : Ghosts K X} where
       ⊎ ((receives_queue old).capacity ≡ 0) × (receives_view new ≡ receives_view old)
       ⊎ (word : ℕ) × (places_in old ≤ word % (layout_in old).room) × PopOldest (Index word) (receives_view old) (receives_view new)
 
-  -- it receives from the same queue, and gives back through the same one
+  -- the receiver receives from the same queue, and gives back through the same one
   abbrev pub IsSameReceiver : Receiver X K rule → Receiver X K rule → Type 0
   IsSameReceiver old new =
       (receives_queue new ≡ receives_queue old) × (returns_queue new ≡ returns_queue old)
 
-  -- it does so in the same way, and has received nothing
+  -- the receiver receives in the same way, and has received nothing
   abbrev pub KeepsReceives : Receiver X K rule → Receiver X K rule → Type 0
   KeepsReceives old new =
       (receives_view new ≡ receives_view old) × IsSameReceiver old new × (layout_in new ≡ layout_in old)
       × (places_in new ≡ places_in old)
 
-  -- It has received the values of these numbers.
+  -- The receiver has received the values of these numbers.
   pub record HasReceived (numbers : List ℕ) (old new : Receiver X K rule) : Type 0 where
     pub same : IsSameReceiver old new
     pub layout : layout_in new ≡ layout_in old
@@ -236,7 +249,7 @@ module _ {X K : Type 0} {rule : Ghosts K X} where
     pub receives : 0 < (receives_queue old).capacity
         → ReceivesOn (receives_shape old) numbers (receives_view old) (receives_view new)
 
-  -- It has received values, and what stands here was told of them, one of each, in their order.
+  -- The receiver has received values, and what stands here was told of them, one of each, in their order.
   pub record HasRead {A : Type 0} (tells : ℕ → A → Type 0) (told : List A) (old new : Receiver X K rule) : Type 0 where
     pub numbers : List ℕ
     pub of_each : AreTold tells numbers told
@@ -247,18 +260,18 @@ module _ {X K : Type 0} {rule : Ghosts K X} where
   IsOfReceiver r parts =
       (received_queue parts ≡ receives_queue r) × (queue_of parts.completion ≡ returns_queue r)
 
-  -- it has received nothing since it was made of its parts
+  -- the receiver has received nothing since it was made of its parts
   pub record HasWaited (parts : ReceiverParts) (r : Receiver X K rule) : Type 0 where
     pub of : IsOfReceiver r parts
     pub received : HasReceivedNumbers (receives_shape r) [] (received_view parts) (receives_view r)
 
-  -- it has received the values of these numbers until it was taken apart
+  -- the receiver has received the values of these numbers until it was taken apart
   pub record HasReceivedAll (numbers : List ℕ) (r : Receiver X K rule) (parts : ReceiverParts) : Type 0 where
     pub of : IsOfReceiver r parts
     pub receives : 0 < (receives_queue r).capacity
         → ReceivesOn (receives_shape r) numbers (receives_view r) (received_view parts)
 
-  -- the same until it was taken apart
+  -- the receiver has received values until it was taken apart, and what stands here was told of them, one of each
   pub record HasReadAll {A : Type 0} (tells : ℕ → A → Type 0) (told : List A) (r : Receiver X K rule) (parts : ReceiverParts) : Type 0 where
     pub numbers : List ℕ
     pub of_each : AreTold tells numbers told

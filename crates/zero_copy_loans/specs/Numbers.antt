@@ -18,46 +18,52 @@ pub record Shape : Type 0 where
 abbrev pub numbers_in : ℕ → List ℕ → List ℕ
 numbers_in room words = map (λ word. word / room) words
 
--- its place is one that there is, and so are those of each
+-- the word names a place of this shape
 abbrev pub HasPlace : Shape → ℕ → Type 0
 HasPlace s word = word % s.room < s.places
 
+-- each of these words names a place of this shape
 abbrev pub HavePlaces : Shape → List ℕ → Type 0
 HavePlaces s words = All (HasPlace s) words
 
--- Of what was sent a beginning was received or came back: each value once, and both in the order in which they were sent. What
--- was sent later still waits.
+-- Of what was sent a beginning was received or came back: each value once, and both in the order in which they were
+-- sent. What was sent later still waits.
 pub record IsPassedOn (sent received back : List ℕ) : Type 0 where
   pub few : length received + length back ≤ length sent
   pub merged : Merges received back (take (length received + length back) sent)
 
--- for each number one thing stands here, in the same order, and is told of it
+-- the two lists are equally long, and `tells` holds of each number and the element at its place
 abbrev pub AreTold : {A : Type 0} → (ℕ → A → Type 0) → List ℕ → List A → Type 0
 AreTold tells [] [] = Unit {0}
 AreTold tells (number ∷ numbers) (one ∷ told) = tells number one × AreTold tells numbers told
 AreTold tells _ _ = ⊥
 
--- Values of the first numbers were sent. What stands here was made of the numbers of those that were received. Where nothing came
--- back, that is of 0, 1, 2 and so on.
+-- Values of the first numbers were sent. What stands here was made of the numbers of those that were received. Where
+-- nothing came back, that is of 0, 1, 2 and so on.
 pub record ArePassedOn {A : Type 0} (f : ℕ → A) (sent : ℕ) (made : List A) (back : List ℕ) : Type 0 where
   pub received : List ℕ
   pub of_each : made ≡ map f received
   pub passed_on : IsPassedOn (range_with_len 0 sent) received back
   pub in_turn : back ≡ [] → made ≡ map f (range_with_len 0 (length made))
 
--- Who has the whole share knows all words that were sent, that came back and that were received. The latter two are a beginning of
--- the first.
+-- Who has the whole share knows all words that were sent, that came back and that were received. The latter two are a
+-- beginning of the first.
 pub record HavePassed (words back received : List ℕ) (v : View ℕ) : Type 0 where
   pub whole : IsAll v.share
   pub all : MissesNothing v
+  -- all words that were sent
   pub list : published v.seen ≡ map Index words
+  -- those that pushes took out, to hand them back
   pub pushes : taken by_push v.seen ≡ map Index back
+  -- those that pops took out
   pub pops : taken by_pop v.seen ≡ map Index received
+  -- nothing else was taken out
   pub out : length (handed_out v.seen) ≡ length received + length back
   pub passed_on : IsPassedOn words received back
 
 module _ (s : Shape) where
-  -- since it knew the first view it has sent the values of these numbers, one after the other, and those came back
+  -- Since it knew the first view the pass has sent the values of these numbers,
+  -- one after the other, and those came back.
   pub record HasSentNumbers (sent back : List ℕ) (v w : View ℕ) : Type 0 where
     pub words : List ℕ
     pub words_back : List ℕ
@@ -66,18 +72,19 @@ module _ (s : Shape) where
     pub places : HavePlaces s words
     pub pushed : HasPushedUpTo words words_back v w
 
-  -- since it knew the first view it has received the values of these numbers (a word without a place is none that was sent)
+  -- Since it knew the first view the pass has received the values of
+  -- these numbers (a word without a place is none that was sent).
   pub record HasReceivedNumbers (received : List ℕ) (v w : View ℕ) : Type 0 where
     pub words : List ℕ
     pub numbers : HavePlaces s words → numbers_in s.room words ≡ received
     pub taken : HasTaken words v w
 
-  -- whatever it had sent until then, it has sent these too, and those have come back too
+  -- whatever the pass had sent until then, it has sent these too, and those have come back too
   abbrev pub SendsOn : List ℕ → List ℕ → View ℕ → View ℕ → Type 0
   SendsOn numbers others old new =
       (v : View ℕ) (sent back : List ℕ) → HasSentNumbers sent back v old → HasSentNumbers (sent ++ numbers) (back ++ others) v new
 
-  -- whatever it had received until then, it has received these too
+  -- whatever the pass had received until then, it has received these too
   abbrev pub ReceivesOn : List ℕ → View ℕ → View ℕ → Type 0
   ReceivesOn numbers old new =
       (v : View ℕ) (received : List ℕ) → HasReceivedNumbers received v old → HasReceivedNumbers (received ++ numbers) v new

@@ -27,10 +27,11 @@ module _ {X K : Type 0} {rule : Ghosts K X} where
   abbrev pub places_of : Pool X K rule → ℕ
   places_of p = capacity_of p.set
 
+  -- how many places the lender has
   abbrev pub places_lent : Lender X K rule → ℕ
   places_lent l = capacity_of l.set.now
 
-  -- its slots
+  -- the slots of the lender
   abbrev pub slots_lent : Lender X K rule → Slots X K rule
   slots_lent l = l.slots.now
 
@@ -38,10 +39,11 @@ module _ {X K : Type 0} {rule : Ghosts K X} where
   abbrev pub place_in : Buffer X K rule → ℕ
   place_in b = value_of b.index
 
-  -- its share of the right to know all that happens to the places, and that it is as much as before: the same fraction
+  -- the lender's share of the right to know all that happens to the places
   abbrev pub share_lent : Lender X K rule → Share
   share_lent l = share l.pass
 
+  -- the lender's share is the same fraction as it was
   abbrev pub KeepsShare : Lender X K rule → Lender X K rule → Type 0
   KeepsShare old new =
       (share_lent new).part * (share_lent old).parts ≡ (share_lent old).part * (share_lent new).parts

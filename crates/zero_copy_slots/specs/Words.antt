@@ -4,24 +4,27 @@ use Rattle.zero_copy_slots.specs.declared.words.Emptied.{Emptied}
 use Rattle.zero_copy_slots.specs.declared.words.Lies.{Lies}
 use Rattle.zero_copy_slots.specs.declared.words.Seen.{Seen}
 
--- the word, and the slot that it was seen in
+-- the word that was seen
 abbrev pub seen_word : Seen → ℕ
 seen_word seen = seen.word
 
+-- the slot that was seen
 abbrev pub seen_in : Seen → ℕ
 seen_in seen = seen.slot
 
--- the slot that a value was laid into, and the number that it was laid there with
+-- the slot that a value was laid into
 abbrev pub placed_slot : Lies → ℕ
 placed_slot lies = lies.slot
 
+-- the number under which the value lies
 abbrev pub placed_number : Lies → ℕ
 placed_number lies = lies.number
 
--- the slot that was left empty, and the number that a value lay there with
+-- the slot that was left empty
 abbrev pub emptied_slot : Emptied → ℕ
 emptied_slot emptied = emptied.slot
 
+-- the number that a value lay there with, if one did
 abbrev pub emptied_number : Emptied → Option ℕ
 emptied_number emptied = emptied.number
 

@@ -16,34 +16,38 @@ use Rattle.zero_copy_streams.specs.Tickets.{numbers_of}
 
 -- ---- what the ends leave
 
+-- the queue of a sender that has ended
 abbrev pub sent_queue : Sent → QueueId
 sent_queue s = streams.sent_queue s.tickets
 
+-- the queue of a receiver that has ended
 abbrev pub received_queue : Received → QueueId
 received_queue r = streams.received_queue r.tickets
 
--- the numbers of the values that were sent, and received
+-- the numbers of the values that were sent in all
 abbrev pub sent : Sent → List ℕ
 sent s = numbers_of (streams.sent s.tickets)
 
+-- the numbers of the values that were received in all
 abbrev pub received : Received → List ℕ
 received r = numbers_of (streams.received r.tickets)
 
--- the end was sent, and came
+-- whether the sender has sent the end
 abbrev pub has_finished : Sent → Bool
 has_finished s = streams.has_finished s.tickets
 
+-- whether the receiver had met the end of the stream
 abbrev pub has_ended : Received → Bool
 has_ended r = streams.has_ended r.tickets
 
 module _ {X K : Type 0} {rule : Ghosts K X} where
   -- ---- the sender
 
-  -- the queue of its tickets
+  -- the queue of the sender's tickets
   abbrev pub sender_queue : Sender X K rule → QueueId
   sender_queue s = streams.sender_queue s.tickets
 
-  -- the numbers of the values that it has sent
+  -- the numbers of the values that the sender has sent
   abbrev pub sent_so_far : Sender X K rule → List ℕ
   sent_so_far s = numbers_of (streams.sent_so_far s.tickets)
 
@@ -51,19 +55,21 @@ module _ {X K : Type 0} {rule : Ghosts K X} where
   abbrev pub next_of : Sender X K rule → ℕ
   next_of s = s.next
 
-  -- it has sent nothing more
+  -- the sender has sent nothing more
   abbrev pub KeepsSends : Sender X K rule → Sender X K rule → Type 0
   KeepsSends old new = (new.tickets ≡ old.tickets) × (next_of new ≡ next_of old)
 
   -- ---- the receiver
 
+  -- the queue of the receiver
   abbrev pub receiver_queue : Receiver X K rule → QueueId
   receiver_queue r = streams.receiver_queue r.tickets
 
-  -- the numbers of the values that it has received
+  -- the numbers of the values that the receiver has received
   abbrev pub received_so_far : Receiver X K rule → List ℕ
   received_so_far r = numbers_of (streams.received_so_far r.tickets)
 
+  -- whether the receiver has met the end of the stream
   abbrev pub is_at_end : Receiver X K rule → Bool
   is_at_end r = streams.is_at_end r.tickets
 
@@ -73,6 +79,7 @@ unread (Err (failures.Unread number)) = number ∷ []
 unread result = []
 
 module _ {A : Type 0} where
+  -- whether the end was found
   abbrev pub is_end : Found A → Bool
   is_end found.End = true
   is_end other = false
@@ -91,13 +98,14 @@ module _ {A : Type 0} where
     HasFound (found.Unread number) old new = received_so_far new ≡ received_so_far old ++ number ∷ []
     HasFound found.End old new = received_so_far new ≡ received_so_far old
 
-    -- the same, and it was the end or not; or nothing was there yet
+    -- What `HasFound` says of what was found, and whether the end has come. If nothing was found, nothing was received, and
+    -- the end has not come.
     abbrev pub HasLooked : Option (Found A) → Receiver X K rule → Receiver X K rule → Type 0
     HasLooked (Some other) old new = HasFound other old new × (is_at_end new ≡ is_end other)
     HasLooked None old new = (received_so_far new ≡ received_so_far old) × (is_at_end new ≡ false)
 
-    -- Values were received, and what was appended is told of them, one of each, in their order. Those of the numbers here came last,
-    -- and nothing is told of them.
+    -- Values were received, and what was appended is told of them, one of each, in their order. Those of the numbers
+    -- here came last, and nothing is told of them.
     pub record HasRead (rest : List ℕ) (before after : List A) (old new : Receiver X K rule) : Type 0 where
       pub numbers : List ℕ
       pub told : List A

@@ -8,11 +8,11 @@ use Rattle.zero_copy_streams.specs.declared.stream.Passes.{Passes}
 use Rattle.zero_copy_streams.specs.declared.stream.Stream.{Stream}
 
 module _ {X K : Type 0} {CAPACITY : ℕ} {rule : Ghosts K X} where
-  -- how many slots it has
+  -- how many slots the stream has
   abbrev pub slots_of : Stream X CAPACITY K rule → ℕ
   slots_of s = slots_in s.slots
 
-  -- the queue of its tickets
+  -- the queue of the stream's tickets
   abbrev pub tickets_of : Stream X CAPACITY K rule → QueueId
   tickets_of s = queue_id (inner s.tickets)
 

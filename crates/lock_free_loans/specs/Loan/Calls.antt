@@ -14,44 +14,68 @@ use Rattle.lock_free_loans.specs.Loan.Contracts.{InTurn, HasFreed, HasEmptied, a
 
 -- ---- what a call keeps
 
--- a loan, and one that is given up
+-- What a loan keeps, and the call by which a loaned index is given up:
+-- it is a call on the set, and the queues stay as they were.
 pub record LoanKeeps (old new : LoanSender) : Type 0 where
+  -- its pass on the set goes on
   pub goes : Goes (pass_view old) (pass_view new)
+  -- what it knows of its queues stays
   pub queues : KeepsQueues old new
+  -- its set and its queues are the same
   pub same : IsSame old new
+  -- at most one operation at each was no step of a call
   pub aside : IsAsideOnce old new
   pub share : share_of new ≡ share_of old
 
--- where a value is settled, which need not be a call on the set
+-- what stays where a value that came back is settled, which need not be a call on the set
 pub record SettleKeeps (old new : LoanSender) : Type 0 where
+  -- what it knows of its queues stays
   pub queues : KeepsQueues old new
+  -- its set and its queues are the same
   pub same : IsSame old new
+  -- at most one operation at each was no step of a call
   pub aside : IsAsideOnce old new
   pub share : share_of new ≡ share_of old
 
+-- What a send keeps: it is a call on the submission queue,
+-- if that has a capacity at all, and none on the completion queue.
 pub record SendKeeps (old new : LoanSender) : Type 0 where
+  -- its view of the submission queue goes on
   pub goes : 0 < (submission_of old).capacity → Goes (submission_view old) (submission_view new)
+  -- what it knows of the completion queue stays
   pub completion : completion_view new ≡ completion_view old
+  -- its set and its queues are the same
   pub same : IsSame old new
+  -- at most one operation at each was no step of a call
   pub aside : IsAsideOnce old new
   pub share : share_of new ≡ share_of old
 
+-- what a take-back keeps: it is a call on the completion queue, and leaves the submission queue as it was
 pub record TakeBackKeeps (old new : LoanSender) : Type 0 where
+  -- its view of the completion queue goes on
   pub goes : Goes (completion_view old) (completion_view new)
+  -- what it knows of the submission queue stays
   pub submission : submission_view new ≡ submission_view old
+  -- its set and its queues are the same
   pub same : IsSame old new
+  -- at most one operation at each was no step of a call
   pub aside : IsAsideOnce old new
   pub share : share_of new ≡ share_of old
 
+-- What a reclaim keeps: its pass on the completion queue goes on,
+-- and it is no call of the sender on the submission queue.
 pub record ReclaimKeeps (old new : LoanSender) : Type 0 where
+  -- its view of the completion queue goes on
   pub goes : Goes (completion_view old) (completion_view new)
+  -- what it knows of the submission queue stays
   pub submission : submission_view new ≡ submission_view old
+  -- its set and its queues are the same
   pub same : IsSame old new
   pub share : share_of new ≡ share_of old
 
 -- ---- loan
 
--- an index that was free is loaned
+-- a loan that answered this index, which was free
 pub record LoanDone (index : ℕ) (old new : LoanSender) : Type 0 where
   pub loaned : (place_at (places_of old) index ≡ Free) × (places_of new ≡ slice_set (places_of old) index Loaned)
   pub is : IsLoaned index new
@@ -59,13 +83,13 @@ pub record LoanDone (index : ℕ) (old new : LoanSender) : Type 0 where
 
 -- ---- send
 
--- the index was sent, and nothing handed back
+-- the index was sent, and nothing was handed back
 pub record SendDone (index : ℕ) (old new : LoanSender) : Type 0 where
   pub sent : places_of new ≡ slice_set (places_of old) index Sent
   pub kept : pass_view new ≡ pass_view old
   pub added : PushAdded index (submission_view old) (submission_view new)
 
--- the push handed a value back, which is free where it is an index that is sent
+-- the push of a send handed a value back, which is free where it is an index that was sent
 pub record SendHandedBack (index value : ℕ) (old new : LoanSender) : Type 0 where
   pub back : places_of new ≡ returned value (slice_set (places_of old) index Sent)
   pub freed : InTurn HasFreed (sent_back value (slice_set (places_of old) index Sent)) (pass_view old) (pass_view new)
@@ -73,13 +97,13 @@ pub record SendHandedBack (index value : ℕ) (old new : LoanSender) : Type 0 wh
 
 -- ---- take back
 
--- the oldest value that was given back is free where it is an index that was sent
+-- a take-back took the oldest value that was given back; where that is an index that was sent, it is free
 pub record TakeBackDone (value : ℕ) (old new : LoanSender) : Type 0 where
   pub back : places_of new ≡ returned value (places_of old)
   pub popped : PopDone (Index value) (completion_view old) (completion_view new)
   pub freed : InTurn HasFreed (sent_back value (places_of old)) (pass_view old) (pass_view new)
 
--- nothing waited
+-- a take-back found nothing that was given back
 pub record TakeBackNone (old new : LoanSender) : Type 0 where
   pub none : places_of new ≡ places_of old
   pub kept : pass_view new ≡ pass_view old
@@ -87,9 +111,13 @@ pub record TakeBackNone (old new : LoanSender) : Type 0 where
 
 -- ---- reclaim
 
--- so many that were sent are free, and what was given back is out of its queue
+-- a reclaim: so many indices that were sent are free, and what was given back is out of its queue
 pub record ReclaimDone (count : ℕ) (old new : LoanSender) : Type 0 where
+  -- no index is sent any more
   pub places : places_of new ≡ map reclaimed (places_of old)
+  -- the answer is how many were
   pub number : count ≡ count_by is_sent (places_of old)
+  -- each of them was freed in turn
   pub freed : InTurn HasFreed (all_sent (places_of old)) (pass_view old) (pass_view new)
+  -- the completion queue was emptied
   pub emptied : HasEmptied (completion_view old) (completion_view new)

@@ -27,19 +27,21 @@ pub record HasFreed (index : ℕ) (old new : View ℕ) : Type 0 where
   -- at most one operation was no step of a call
   pub aside : new.aside ≤ old.aside + 1
 
--- And what the pass knew then is a run. Of several that are freed in turn this is a law of the pass that has freed them,
--- since nobody else sees the pass between two of them.
+-- An index was freed, and what the pass knew then is a run. Of several that are freed in turn this is a law of the pass
+-- that has freed them, since nobody else sees the pass between two of them.
 pub record HasFreedInRun (capacity index : ℕ) (old new : View ℕ) : Type 0 where
   pub given : HasGiven index Unlocked old new
   pub goes : Goes old new
+  -- at most one operation was no step of a call
   pub aside : new.aside ≤ old.aside + 1
+  -- what the pass knew then is a run
   pub knows : Knows one_word kinds.Indices capacity new
 
 -- the indices that are sent, in ascending order
 abbrev pub all_sent : List Place → List ℕ
 all_sent ps = filter (λ i. is_sent (place_at ps i)) (range_with_len 0 (length ps))
 
--- of a value that came back, the index, if it was sent
+-- the index that a value which came back names, if that was sent
 abbrev pub sent_back : ℕ → List Place → List ℕ
 sent_back y ps = if is_sent (place_at ps y) then y ∷ [] else []
 
@@ -56,5 +58,5 @@ pub record HasEmptied (old new : View ℕ) : Type 0 where
   pub popped : InTurn HasPoppedOne numbers old last
   pub none : HasPopped None last new
   pub empty : FoundNone last new
-  -- of each pop at most one operation was no step of a call
+  -- at most one operation of each pop was no step of a call
   pub aside : new.aside ≤ old.aside + (length numbers + 1)

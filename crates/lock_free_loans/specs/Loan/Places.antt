@@ -5,26 +5,27 @@ use Rattle.history.specs.Held.{claims, frees}
 use Rattle.lock_free_loans.specs.declared.spsc.loan.places.Place.{Place}
 use Rattle.lock_free_loans.specs.declared.spsc.loan.places.Place.TheVariants.{Free, Loaned, Sent}
 
--- loaned or sent
+-- whether the index is loaned or sent
 abbrev pub is_out : Place → Bool
 is_out Free = false
 is_out Loaned = true
 is_out Sent = true
 
+-- whether the sender has sent the index
 abbrev pub is_sent : Place → Bool
 is_sent Free = false
 is_sent Loaned = false
 is_sent Sent = true
 
--- free past the end
+-- where the sender has the index; what is past the end is free
 abbrev pub place_at : List Place → ℕ → Place
 place_at ps i = slice_index_or ps i Free
 
--- a value came back: an index that was sent is free, and any other changes nothing
+-- the table once a value came back: an index that was sent is free, and any other value changes nothing
 abbrev pub returned : ℕ → List Place → List Place
 returned y ps = if is_sent (place_at ps y) then slice_set ps y Free else ps
 
--- all that were sent are free
+-- where an index is after a reclaim: all that were sent are free
 abbrev pub reclaimed : Place → Place
 reclaimed Free = Free
 reclaimed Loaned = Loaned

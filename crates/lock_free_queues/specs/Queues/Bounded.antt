@@ -3,7 +3,7 @@ use Rattle.model.specs.declared.families.queues.QueueKind.{QueueKind}
 use Rattle.model.specs.declared.families.queues.QueueKind.TheVariants as queues
 pub use Rattle.laws_queues.specs.Kinds.{machine_kind}
 
--- a push to a full one is refused: those of indices and of values
+-- a queue of this kind refuses a push where it is full: those of indices and of values do
 abbrev pub IsBounded : QueueKind → Type 0
 IsBounded queues.Overflow = ⊥
 IsBounded kind = Unit {0}

@@ -9,6 +9,6 @@ pub use Rattle.lock_free_queues.specs.Queues.Rings.{token_queue, token_view, que
 pub use Rattle.lock_free_queues.specs.Queues.Rings.{view, producer_view, consumer_view, IsPassOf, IsSameQueue}
 pub use Rattle.lock_free_queues.specs.Queues.Rings.{SamePass, SameProducer, SameConsumer, ToProducer, ToConsumer, FromProducer, FromConsumer}
 
--- it has seen a history of a queue of this capacity
+-- what was seen is a history of a queue of this capacity
 abbrev pub HasHistory : ℕ → View ℕ → Type 0
 HasHistory capacity v = IsHistory one_word kinds.IndexQueue capacity v.seen

@@ -12,23 +12,27 @@ use Rattle.lock_free_queues.specs.declared.spsc.ring.rule.Kind as kinds
 use Rattle.lock_free_queues.specs.declared.spsc.ring.Pass.{Pass}
 use Rattle.lock_free_queues.specs.Queues.Rings.{queue_of, view}
 
--- The list is what waited as the pass stood so, at one moment of the call. Before it lies what was taken out until then.
--- What each pass has seen is a history, as `history` of a pass says.
+-- The list is what waited as the pass stood so, at one moment of the call. Before it lies what was taken out until
+-- then. What each pass has seen is a history, as `history` of a pass says.
 pub record IsWhatWaits {E T V : Type 0} {kind : kinds.Ghosts E} {words : Ghosts T} (named : V → Item T)
     (pass : Pass E T kind words) (q : Bounded V) : Type 0 where
+  -- the pass at that moment
   pub at : Pass E T kind words
   pub queue : queue_of at ≡ queue_of pass
   pub since : IsBeginning (view pass).seen (view at).seen
+  -- the list begins behind what was taken out
   pub taken : q.first ≡ length (handed_out (view at).seen)
   pub waits : waiting (view at).seen ≡ map named q.values
 
--- Of an overflowing queue: the newest of what waited then, at most the capacity. One more waits while a push is under
--- way, which then takes the oldest out.
+-- The list is the newest of what waited at one moment of the call in an overflowing queue, at most the capacity. One
+-- more waits while a push is under way, which then takes the oldest out.
 pub record IsNewestThatWaits {E : Type 0} {kind : kinds.Ghosts E} {words : Ghosts ℕ} (capacity : ℕ)
     (pass : Pass E ℕ kind words) (q : Bounded ℕ) : Type 0 where
+  -- the pass at that moment
   pub at : Pass E ℕ kind words
   pub queue : queue_of at ≡ queue_of pass
   pub since : IsBeginning (view pass).seen (view at).seen
+  -- what waited before the list, beyond the capacity
   pub older : List (Item ℕ)
   pub taken : q.first ≡ length (handed_out (view at).seen) + length older
   pub waits : waiting (view at).seen ≡ older ++ map Index q.values
@@ -38,9 +42,12 @@ pub record IsNewestThatWaits {E : Type 0} {kind : kinds.Ghosts E} {words : Ghost
 -- taken out lie before it. Who has the whole share knows that just what was published and not taken out waits.
 pub record Closes {T V : Type 0} (named : V → Item T) (capacity : ℕ) (v : View T) (q : Bounded V) : Type 0 where
   pub same : q.capacity ≡ capacity
+  -- a published value lies before the list, or waits at its place
   pub published_there : (i : ℕ) (x : V) → slice_get (published v.seen) i ≡ Some (named x)
       → (i < q.first) ⊎ ((q.first ≤ i) × (slice_get q.values (i - q.first) ≡ Some x))
+  -- what was taken out lies before the list
   pub taken : length (handed_out v.seen) ≤ q.first
+  -- a pass with the whole share knows that just these values wait
   pub whole : IsAll v.share
       → (q.first ≡ length (handed_out v.seen))
       × (published v.seen ≡ handed_out v.seen ++ map named q.values)

@@ -40,40 +40,51 @@ module _ {T : Type 0} where
     pub mine : new.party ≡ Some by
     pub called : Called by (Queues (push_of item)) (Truth taken) (push_events by item taken) old new
 
-  -- it is none, but a look at a queue whose last position is reached
+  -- the push is no call of the history, but a look at a queue whose last position is reached
   pub record WasAtEnd (old new : View T) : Type 0 where
     pub since : IsBeginning old.seen new.seen
+    -- the pass has made nothing
     pub made : new.made ≡ old.made
+    -- as many values were published as there are positions
     pub end : length (published new.seen) ≡ 2 ^ 64 - 1
+    -- nothing was published since
     pub list : published new.seen ≡ published old.seen
 
   -- The item was published after all that was seen. Its position is the number of those that were published before it,
   -- and these are all known: right after the last one that was seen.
   pub record HasPublished (item : Item T) (old new : View T) : Type 0 where
+    -- the party that pushed it
     pub by : ℕ
     pub before : List (Event T)
     pub after : List (Event T)
     pub is : new.seen ≡ before ++ Published by item ∷ after
+    -- all that had been seen came before
     pub since : IsBeginning old.seen before
+    -- nothing was published between
     pub next : published before ≡ published old.seen
+    -- nothing was published after
     pub list : published new.seen ≡ published old.seen ++ item ∷ []
 
-  -- as it acted capacity values waited
+  -- the queue was full as the push acted: as many values waited as its capacity is
   pub record WasFull (capacity : ℕ) (item : Item T) (old new : View T) : Type 0 where
+    -- the party that pushed it
     pub by : ℕ
     pub before : List (Event T)
     pub after : List (Event T)
     pub is : new.seen ≡ before ++ Acted by (Queues (push_of item)) (Truth false) ∷ after
+    -- all that had been seen came before
     pub since : IsBeginning old.seen before
+    -- nothing was published between
     pub next : published before ≡ published old.seen
     pub full : length (waiting before) ≡ capacity
+    -- nothing was published after
     pub list : published new.seen ≡ published old.seen
 
-  -- a push that was taken
+  -- a push that took its item
   abbrev pub PushDone : Item T → (old new : View T) → Type 0
   PushDone item old new = HasPushed item true old new × HasPublished item old new
 
-  -- one that was refused
+  -- a push that was refused: the queue was full, or its last position is reached
   abbrev pub PushRefused : ℕ → Item T → (old new : View T) → Type 0
   PushRefused capacity item old new = HasPushed item false old new × WasFull capacity item old new ⊎ WasAtEnd old new
 
@@ -98,49 +109,62 @@ module _ {T : Type 0} where
 
   -- the item was taken out after all that was seen, at the position right after the last one that was seen to be taken
   pub record HasTakenOut (item : Item T) (old new : View T) : Type 0 where
+    -- the party that popped it
     pub by : ℕ
     pub before : List (Event T)
     pub after : List (Event T)
     pub is : new.seen ≡ before ++ HandedOut by item ∷ after
+    -- all that had been seen came before
     pub since : IsBeginning old.seen before
+    -- nothing was taken out between
     pub next : handed_out before ≡ handed_out old.seen
+    -- nothing was taken out after
     pub list : handed_out new.seen ≡ handed_out old.seen ++ item ∷ []
 
-  -- as it acted nothing waited
+  -- the queue was empty as the pop acted
   pub record WasEmpty (old new : View T) : Type 0 where
+    -- the party of the pop
     pub by : ℕ
     pub before : List (Event T)
     pub after : List (Event T)
     pub is : new.seen ≡ before ++ Acted by (Queues Pop) (popped_item None) ∷ after
+    -- all that had been seen came before
     pub since : IsBeginning old.seen before
+    -- nothing was taken out between
     pub next : handed_out before ≡ handed_out old.seen
     pub empty : waiting before ≡ []
+    -- nothing was taken out after
     pub list : handed_out new.seen ≡ handed_out old.seen
 
   -- a pop that took an item out
   abbrev pub PopDone : Item T → (old new : View T) → Type 0
   PopDone item old new = HasPopped (Some item) old new × HasTakenOut item old new
 
-  -- one that found none
+  -- a pop that found nothing
   abbrev pub PopEmpty : (old new : View T) → Type 0
   PopEmpty old new = HasPopped None old new × WasEmpty old new
 
   -- the item was taken out after all that was seen, as the oldest that waited
   pub record HasTakenFirst (item : Item T) (old new : View T) : Type 0 where
+    -- the party that popped it
     pub by : ℕ
     pub before : List (Event T)
     pub after : List (Event T)
     pub is : new.seen ≡ before ++ HandedOut by item ∷ after
+    -- all that had been seen came before
     pub since : IsBeginning old.seen before
+    -- what waited behind it
     pub rest : List (Item T)
     pub oldest : waiting before ≡ item ∷ rest
 
-  -- as the pop acted nothing waited
+  -- the queue was empty as the pop acted
   pub record FoundNone (old new : View T) : Type 0 where
+    -- the party of the pop
     pub by : ℕ
     pub before : List (Event T)
     pub after : List (Event T)
     pub is : new.seen ≡ before ++ Acted by (Queues Pop) PoppedNone ∷ after
+    -- all that had been seen came before
     pub since : IsBeginning old.seen before
     pub empty : waiting before ≡ []
 
@@ -148,40 +172,45 @@ module _ {T : Type 0} where
   abbrev pub PopOldest : Item T → (old new : View T) → Type 0
   PopOldest item old new = HasPopped (Some item) old new × HasTakenFirst item old new
 
-  -- one that found none
+  -- a pop that found nothing
   abbrev pub PopFoundNone : (old new : View T) → Type 0
   PopFoundNone old new = HasPopped None old new × FoundNone old new
 
   -- ---- peeks
 
-  -- The peek is a call of the history that writes nothing. It answers the oldest value that waits as it ends, if one does,
-  -- and since all that was seen no value was taken out.
+  -- The peek is a call of the history that writes nothing. It answers the oldest value that waits as it ends, if one
+  -- does, and since all that was seen no value was taken out.
   pub record HasPeeked (answer : Option (Item T)) (old new : View T) : Type 0 where
     pub by : ℕ
     pub mine : new.party ≡ Some by
     pub called : Called by (Queues Peek) (popped_item answer) [] old new
+    -- the oldest that waits as it ends
     pub oldest : answer ≡ slice_get (waiting new.seen) 0
+    -- nothing was taken out since
     pub list : handed_out new.seen ≡ handed_out old.seen
 
   -- ---- lengths
 
-  -- the answer is that of the number that waited at one moment of the call
+  -- the answer is that of the number of values that waited at one moment of the call
   pub record HasMeasured (which : LengthOf) (capacity : ℕ) (answer : Answer T) (old new : View T)
       : Type 0 where
     pub by : ℕ
     pub mine : new.party ≡ Some by
     pub called : Called by (Queues (length_start which)) answer [] old new
+    -- what was seen up to the end of the call
     pub before : List (Event T)
     pub is : new.seen ≡ before ++ Finished by (Queues (length_start which)) answer ∷ []
     pub stood : HeldSometime by (λ part. answer ≡ length_answer which capacity (length (waiting part))) before
 
   -- ---- roles
 
+  -- the acquire of a role has answered whether it took the role, and written nothing beside
   pub record HasAcquired (role : Role) (taken : Bool) (old new : View T) : Type 0 where
     pub by : ℕ
     pub mine : new.party ≡ Some by
     pub called : Called by (Queues (acquire_start role)) (Truth taken) [] old new
 
+  -- the release of a role has ended, and written nothing beside
   pub record HasReleased (role : Role) (old new : View T) : Type 0 where
     pub by : ℕ
     pub mine : new.party ≡ Some by
@@ -192,11 +221,12 @@ module _ {T : Type 0} where
     pub by : ℕ
     pub mine : new.party ≡ Some by
     pub called : Called by (Queues (look_start role)) (Truth taken) [] old new
+    -- whether somebody holds the role as the call ends
     pub holder : taken ≡ not (is_none (holder_by role new.seen))
 
   -- ---- passes
 
-  -- it has made nothing, and with the whole share there was nothing more to see
+  -- the pass has made nothing, and with the whole share there was nothing more to see
   pub record HasLooked (old new : View T) : Type 0 where
     pub made : new.made ≡ old.made
     pub whole : IsAll old.share → new.seen ≡ old.seen

@@ -9,13 +9,15 @@ use Rattle.lock_free_queues.specs.declared.spsc.ring.handles.Handle.{Handle}
 use Rattle.lock_free_queues.specs.Queues.Rings.{view, SamePass}
 
 module _ {E T : Type 0} {kind : kinds.Ghosts E} {words : Ghosts T} where
+  -- the queue of a handle
   abbrev pub ring_in : Handle E T kind words → Ring E T
   ring_in h = h.ring.now
 
+  -- the pass of a handle
   abbrev pub pass_in : Handle E T kind words → Pass E T kind words
   pass_in h = h.pass
 
-  -- all that its pass knows
+  -- all that the pass of the handle knows
   abbrev pub knows : Handle E T kind words → View T
   knows h = view h.pass
 

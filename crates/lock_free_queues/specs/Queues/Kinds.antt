@@ -17,8 +17,8 @@ words_in_cells size IndexQueue capacity = capacity
 words_in_cells size Overflow capacity = capacity + 1
 words_in_cells size Queue capacity = size * capacity
 
--- At most so many values wait: the capacity, and in an overflowing queue one more while a push is under way. There are
--- as many cells.
+-- How many values wait at most, and how many cells there are: the capacity, and in an overflowing queue one more while
+-- a push is under way.
 abbrev pub most_waiting : QueueKind → ℕ → ℕ
 most_waiting kind capacity = cells_of kind capacity
 
@@ -29,12 +29,12 @@ module _ {T : Type 0} where
   NoneTaken Overflow old new = Unit {0}
   NoneTaken Queue old new = handed_out new.seen ≡ handed_out old.seen
 
-  -- nothing was written that the role's holder alone writes, where it alone does
+  -- between the two views nothing was written that the role's holder alone writes, in a queue where it alone does
   abbrev pub NoneMarked : Role → QueueKind → (old new : View T) → Type 0
   NoneMarked Producer kind old new = published new.seen ≡ published old.seen
   NoneMarked Consumer kind old new = NoneTaken kind old new
 
-  -- what the first pass of a queue knows that opens at a position: of so many pushes and pops of this
+  -- what the first pass of a queue knows that opens at a position: so many pushes and pops of one item
   abbrev pub opened_by : Coding T → QueueKind → (capacity position : ℕ) → View T
   opened_by code IndexQueue capacity position = opened_view 1 (Index 0) capacity position
   opened_by code Overflow capacity position = over_opened_view capacity position

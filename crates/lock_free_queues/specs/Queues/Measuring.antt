@@ -22,12 +22,14 @@ IsBoard {T} words kind s =
     (λ (v : View T). v.capacity) s
 
 module _ {T : Type 0} (code : Coding T) (kind : QueueKind) (which : LengthOf) where
+  -- the call on the length is about to begin or under way
   abbrev pub CountAt : View T → View T → Len → Unit {0} → Type 0
   CountAt base = At code (machine_kind kind) (counts_waiting which base.capacity) base
 
+  -- the call on the length has ended with this number
   abbrev pub CountEnds : View T → ℕ → Unit {0} → View T → Type 0
   CountEnds base = Ends code (machine_kind kind) (counts_waiting which base.capacity) base
 
-  -- it has gone on, or ended
+  -- the call on the length has gone on, or ended
   abbrev pub CountNext : View T → After Len ℕ → View T → Type 0
   CountNext base after = Next (λ (v : View T). v.capacity) CountAt CountEnds base after tt

@@ -29,50 +29,57 @@ module _ {A : Type 0} where
   StandIn (x ∷ xs) [] = ⊥
   StandIn (x ∷ xs) (y ∷ ys) = ((x ≡ y) × StandIn xs ys) ⊎ StandIn (x ∷ xs) ys
 
--- what a party did next was to act as a pop, or as a push
+-- the next event of the party is the act of a pop
 abbrev pub by_pop : List (Event ℕ) → Bool
 by_pop (Acted p (Queues Pop) answer ∷ es) = true
 by_pop es = false
 
+-- the next event of the party is the act of a push
 abbrev pub by_push : List (Event ℕ) → Bool
 by_push (Acted p (Queues (PushIndex value)) answer ∷ es) = true
 by_push es = false
 
--- what was taken out by those calls, in order
+-- what was taken out by calls of this sort, pops or pushes, in order
 abbrev pub taken : (List (Event ℕ) → Bool) → List (Event ℕ) → List (Item ℕ)
 taken by [] = []
 taken by (HandedOut p item ∷ es) =
     if by (events_by p es) then item ∷ taken by es else taken by es
 taken by (e ∷ es) = taken by es
 
--- behind what they had taken out before stand these numbers, in order
+-- behind what such calls had taken out before stand these numbers, in order
 abbrev pub TookOut : (List (Event ℕ) → Bool) → List ℕ → View ℕ → View ℕ → Type 0
 TookOut by xs v w =
     (earlier : List (Item ℕ)) → StandIn earlier (taken by v.seen)
     → StandIn (earlier ++ map Index xs) (taken by w.seen)
 
--- it has pushed these numbers, and got those back
+-- the pass has pushed these numbers, and got those back
 pub record HasPushedAll (xs back : List ℕ) (v w : View ℕ) : Type 0 where
   pub added : HasAppended publishes Index xs (length xs) (length back) v w
   pub returned : TookOut by_push back v w
 
--- so it has where the last position is not reached yet; else it got some back that it pushed
+-- Where the last position is not reached yet, it has pushed all of these and got those back; in any case it has pushed
+-- no more than these.
 pub record HasPushedUpTo (xs back : List ℕ) (v w : View ℕ) : Type 0 where
   pub few : sum_by puts w.made ≤ sum_by puts v.made + length xs
   pub share : w.share ≡ v.share
   pub all : length (published w.seen) < 2 ^ 64 - 1 → HasPushedAll xs back v w
 
--- it has popped these numbers
+-- the pass has popped these numbers
 pub record HasTaken (xs : List ℕ) (v w : View ℕ) : Type 0 where
   pub since : IsBeginning v.seen w.seen
+  -- pops took these out
   pub popped : TookOut by_pop xs v w
+  -- it has published none and taken out so many itself
   pub done : HasDone 0 (length xs) v w
   pub share : w.share ≡ v.share
+  -- a pass that missed nothing misses nothing still
   pub all : MissesNothing v → MissesNothing w
 
--- it has popped numbers until there were none, which now stand behind the old ones
+-- the pass has popped numbers until there were none, which now stand behind the old ones
 pub record HasDrained (old new : List ℕ) (v w : View ℕ) : Type 0 where
+  -- the numbers that were popped
   pub more : List ℕ
   pub numbers : new ≡ old ++ more
   pub popped : HasTaken more v w
+  -- who has the whole share and misses nothing knows that nothing waits
   pub emptied : IsAll v.share → MissesNothing v → handed_out w.seen ≡ published w.seen

@@ -17,62 +17,66 @@ use Rattle.history.specs.History.{nexts}
 use Rattle.lock_free_queues.specs.Queues.Contracts.{push_of, popped_item}
 
 module _ {T : Type 0} where
-  -- both roles are taken
+  -- the events in which party 0 takes both roles
   abbrev pub taken_roles : List (Event T)
   taken_roles =
       Begun 0 (Queues AcquireProducer) ∷ Finished 0 (Queues AcquireProducer) (Truth true)
       ∷ Begun 0 (Queues AcquireConsumer) ∷ Finished 0 (Queues AcquireConsumer) (Truth true) ∷ []
 
-  -- a push that answers so
+  -- the events of a push of the item by party 0, with this answer
   abbrev pub pushed_once : Answer T → Item T → List (Event T)
   pushed_once answer item =
       Begun 0 (Queues (push_of item)) ∷ Published 0 item
       ∷ Acted 0 (Queues (push_of item)) answer ∷ Finished 0 (Queues (push_of item)) answer ∷ []
 
-  -- a pop of what it pushed
+  -- the events of a pop of the item by party 0
   abbrev pub popped_once : Item T → List (Event T)
   popped_once item =
       Begun 0 (Queues Pop) ∷ HandedOut 0 item ∷ Acted 0 (Queues Pop) (popped_item (Some item))
       ∷ Finished 0 (Queues Pop) (popped_item (Some item)) ∷ []
 
-  -- both roles are given back
+  -- the events in which party 0 gives both roles back
   abbrev pub given_roles : List (Event T)
   given_roles =
       Begun 0 (Queues ReleaseProducer) ∷ Finished 0 (Queues ReleaseProducer) Done
       ∷ Begun 0 (Queues ReleaseConsumer) ∷ Finished 0 (Queues ReleaseConsumer) Done ∷ []
 
+  -- both roles are taken, and then so many times the item is pushed and popped
   abbrev pub rounds : Answer T → Item T → ℕ → List (Event T)
   rounds answer item zero = taken_roles
   rounds answer item (suc n) =
       rounds answer item n ++ (pushed_once answer item ++ popped_once item)
 
-  -- nothing before position 0
+  -- the history with which a queue opens at this position; at position 0 nothing has happened
   abbrev pub opened : Answer T → Item T → ℕ → List (Event T)
   opened answer item zero = []
   opened answer item (suc n) = rounds answer item (suc n) ++ given_roles
 
 module _ {T : Type 0} where
-  -- so many steps more of the one party
+  -- these turns, and then so many steps more of party 0
   abbrev pub then_next : List (Turn T) → ℕ → List (Turn T)
   then_next ts zero = ts
   then_next ts (suc k) = then_next (ts ++ Next 0 ∷ []) k
 
-  -- a call of it, of so many steps
+  -- these turns, and then those of a call of party 0 of so many steps
   abbrev pub call_turns : List (Turn T) → Start T → ℕ → List (Turn T)
   call_turns ts start steps = then_next (ts ++ Begin 0 start ∷ []) steps
 
-  -- a push or a pop loads two positions, goes through the words of a cell, and stores a position
+  -- These turns, and then those of a push or a pop:
+  -- it loads two positions, goes through the words of a cell, and stores a position.
   abbrev pub moved_turns : ℕ → Start T → List (Turn T) → List (Turn T)
   moved_turns size start ts = then_next (then_next (call_turns ts start 2) (suc (size - 1))) 1
 
-  -- the turns of the rounds, where a cell has so many words
+  -- the turns of so many rounds of a push and a pop, where a cell has so many words
   abbrev pub round_turns : ℕ → Item T → ℕ → List (Turn T)
   round_turns size item zero = call_turns (call_turns [] (Queues AcquireProducer) 1) (Queues AcquireConsumer) 1
   round_turns size item (suc n) = moved_turns size (Queues Pop) (moved_turns size (Queues (push_of item)) (round_turns size item n))
 
+  -- the turns in which both roles are given back
   abbrev pub given_turns : List (Turn T) → List (Turn T)
   given_turns ts = call_turns (call_turns ts (Queues ReleaseProducer) 1) (Queues ReleaseConsumer) 1
 
+  -- the turns with which a queue opens at this position
   abbrev pub opened_turns : ℕ → Item T → ℕ → List (Turn T)
   opened_turns size item zero = []
   opened_turns size item (suc n) = given_turns (round_turns size item (suc n))
@@ -103,10 +107,10 @@ module _ {T : Type 0} where
         others = 0;
       }
 
-  -- of a bounded queue
+  -- what a pass knows of a bounded queue that has opened at this position
   abbrev pub opened_view : ℕ → Item T → (capacity position : ℕ) → View T
   opened_view size item capacity position = opened_with size (Truth true) item capacity position
 
-  -- of an overflowing queue, of the number 0
+  -- what a pass knows of an overflowing queue that has opened at this position, with the number 0 in each cell
   abbrev pub over_opened_view : (capacity position : ℕ) → View T
   over_opened_view capacity position = opened_with 1 PoppedNone (Index 0) capacity position

@@ -18,7 +18,7 @@ pub use Rattle.lock_free_queues.specs.Queues.Rings.{view, producer_view, consume
 pub use Rattle.lock_free_queues.specs.Queues.Rings.{SamePass, SameProducer, SameConsumer, ToProducer, ToConsumer, FromProducer, FromConsumer}
 pub use Rattle.lock_free_queues.specs.Queues.Rings.{IsSameByCapacity, SameProducerByCapacity, SameConsumerByCapacity}
 
--- it has seen a history of a queue of this capacity
+-- what was seen is a history of an overflowing queue of this capacity
 abbrev pub HasHistory : ℕ → View ℕ → Type 0
 HasHistory capacity v = IsHistory one_word kinds.Overflow capacity v.seen
 
@@ -37,8 +37,8 @@ module _ {T : Type 0} where
     pub mine : new.party ≡ Some by
     pub called : Called by (Queues (PushIndex value)) (popped back) (over_push_events by value back) old new
 
--- the push is none: without capacity nothing changes, not even what was seen, and where the last position is reached it
--- is a look
+-- The push is no call of the history: without capacity nothing changes, not even what was seen, and where the last
+-- position is reached it is a look.
 abbrev pub TookNone : {T : Type 0} → ℕ → View T → View T → Type 0
 TookNone capacity old new = (capacity ≡ 0) × (new ≡ old) ⊎ WasAtEnd old new
 
@@ -47,13 +47,13 @@ module _ {T : Type 0} where
   abbrev pub PushAdded : ℕ → (old new : View T) → Type 0
   PushAdded value old new = HasOverflowed value None old new × HasPublished (Index value) old new
 
-  -- one that took the oldest number out, to hand it back
+  -- a push that took the oldest number out, to hand it back
   abbrev pub PushReplaced : (value oldest : ℕ) → (old new : View T) → Type 0
   PushReplaced value oldest old new =
       HasOverflowed value (Some oldest) old new
       × HasPublished (Index value) old new
       × HasTakenFirst (Index oldest) old new
 
-  -- one that handed a number back: the oldest, or its own, where the queue takes none
+  -- a push that handed a number back: the oldest, or its own, where the queue takes none
   abbrev pub PushHandedBack : (capacity value back : ℕ) → (old new : View T) → Type 0
   PushHandedBack capacity value back old new = PushReplaced value back old new ⊎ (back ≡ value) × TookNone capacity old new

@@ -18,13 +18,15 @@ use Rattle.lock_free_queues.specs.Queues.Rings.{code_of, token_queue, token_view
 module _ {T : Type 0} (code : Coding T) (kind : Kind) where
   -- the word was read of a machine whose history lies between the two
   pub record WasRead (capacity : ℕ) (old new : View T) (word found : ℕ) : Type 0 where
+    -- the machine that the word was read of
     pub trace : Trace T
     pub run : IsRun code kind capacity trace
     pub since : IsBeginning old.seen trace.events
     pub until : IsBeginning trace.events new.seen
+    -- the word had this value there
     pub found_is : found ≡ slice_index trace.world.words word
 
-  -- so were all words of the cells
+  -- each word of the cells was read with the value that it has in `words`
   abbrev pub CellsRead : ℕ → (old new : View T) → List ℕ → Type 0
   CellsRead capacity old new words =
       (word : ℕ) → 4 ≤ word → word < length words
@@ -34,16 +36,22 @@ module _ {T : Type 0} (code : Coding T) (kind : Kind) where
 pub record HasRead {T : Type 0} (old new : View T) : Type 0 where
   pub share : new.share ≡ old.share
   pub since : IsBeginning old.seen new.seen
+  -- the pass has made nothing
   pub made : new.made ≡ old.made
+  -- with the whole share there was nothing more to see
   pub whole : IsAll old.share → new.seen ≡ old.seen
+  -- with the whole share it misses nothing
   pub all : MissesNothing new
 
 -- The words, so many of them of cells, with both positions as they stood as the read position was read: nothing was
 -- published from the first load of the write position to the last.
 pub record LastWords {T : Type 0} (code : Coding T) (kind : Kind) (wide capacity : ℕ) (old : View T)
     (words : List ℕ) : Type 0 where
+  -- what was known as the write position was first read
   pub begun : View T
+  -- what was known as the read position was read
   pub new : View T
+  -- what was known as the write position was last read
   pub ended : View T
   pub opening : HasRead old begun
   pub reading : HasRead begun new
@@ -51,12 +59,16 @@ pub record LastWords {T : Type 0} (code : Coding T) (kind : Kind) (wide capacity
   pub small : capacity < 2 ^ 32
   pub long : length words ≡ 4 + wide
   pub fits : slice_index words 0 < 2 ^ 64
+  -- the write position, as it was first read
   pub first_read : WasRead code kind capacity begun begun 0 (slice_index words 0)
+  -- the words of the cells
   pub cells : CellsRead code kind capacity begun new words
+  -- the read position
   pub taken_read : WasRead code kind capacity new new 1 (slice_index words 1)
+  -- the write position is the same as it was last read
   pub last_read : WasRead code kind capacity ended ended 0 (slice_index words 0)
 
--- They were read by a seat, which had seen just what it had read up to the read position.
+-- The words were read by a seat, which had seen just what it had read up to the read position.
 pub record LastSeen {E T : Type 0} {kind : kinds.Ghosts E} {words : Ghosts T} (capacity : ℕ)
     (old : Held E T (RingRule E T) kind words) (read : List ℕ) : Type 0 where
   pub last : LastWords (code_of old) (machine_kind kind.KIND) (words_in_cells words.WORDS kind.KIND capacity) capacity

@@ -25,47 +25,59 @@ pub record QueueId : Type 0 where
   pub capacity : ℕ
 
 module _ {T : Type 0} where
-  -- it has seen a history of a queue of this kind and capacity
+  -- what was seen is a history of a queue of this kind and capacity
   abbrev pub HasHistory : Coding T → QueueKind → ℕ → View T → Type 0
   HasHistory code kind capacity v = IsHistory code (machine_kind kind) capacity v.seen
 
 module _ {E T : Type 0} where
+  -- which queue it is
   abbrev pub queue_id : Ring E T → QueueId
   queue_id q = record { table = home_id q.home; capacity = q.capacity }
 
+  -- the capacity of the queue
   abbrev pub capacity_of : Ring E T → ℕ
   capacity_of q = q.capacity
 
   -- the queue of one whose capacity is part of its type
   module _ {CAPACITY : ℕ} where
+    -- the queue that a queue of fixed size is made of
     abbrev pub inner : FixedSize E T CAPACITY → Ring E T
     inner q = q.ring
 
 module _ {E T : Type 0} {kind : kinds.Ghosts E} {words : Ghosts T} where
+  -- the queue of a pass or a role
   abbrev pub token_queue : Held E T (RingRule E T) kind words → QueueId
   token_queue t = record { table = t.seated.seat.table_id; capacity = t.capacity }
 
+  -- what a pass or a role's holder knows
   abbrev pub token_view : Held E T (RingRule E T) kind words → View T
   token_view t = t.seated.seat.me.0
 
+  -- the queue of the pass
   abbrev pub queue_of : Pass E T kind words → QueueId
   queue_of p = token_queue p.token
 
+  -- the queue of the producer
   abbrev pub producer_queue : Producer E T kind words → QueueId
   producer_queue p = token_queue p.token
 
+  -- the queue of the consumer
   abbrev pub consumer_queue : Consumer E T kind words → QueueId
   consumer_queue c = token_queue c.token
 
+  -- what the pass knows of the queue
   abbrev pub view : Pass E T kind words → View T
   view p = token_view p.token
 
+  -- what the producer knows of the queue
   abbrev pub producer_view : Producer E T kind words → View T
   producer_view p = token_view p.token
 
+  -- what the consumer knows of the queue
   abbrev pub consumer_view : Consumer E T kind words → View T
   consumer_view c = token_view c.token
 
+  -- the pass is one of this queue
   abbrev pub IsPassOf : Ring E T → Pass E T kind words → Type 0
   IsPassOf q p = queue_of p ≡ queue_id q
 
@@ -80,39 +92,46 @@ module _ {E T : Type 0} {kind : kinds.Ghosts E} {words : Ghosts T} where
     -- at most one operation was no step of a call
     pub aside : (token_view new).aside ≤ (token_view old).aside + 1
 
-  -- the same of a pass and of a guard, by their seats
+  -- the pass is still of the same queue, and its view goes on
   abbrev pub SamePass : Pass E T kind words → Pass E T kind words → Type 0
   SamePass old new = IsSameQueue old.token new.token
 
+  -- the producer is still of the same queue, and its view goes on
   abbrev pub SameProducer : Producer E T kind words → Producer E T kind words → Type 0
   SameProducer old new = IsSameQueue old.token new.token
 
+  -- the consumer is still of the same queue, and its view goes on
   abbrev pub SameConsumer : Consumer E T kind words → Consumer E T kind words → Type 0
   SameConsumer old new = IsSameQueue old.token new.token
 
-  -- the same of a call that takes no step where its queue has no capacity: nothing changes there
+  -- What a call leaves of a seat that takes no step where its queue has no capacity: it is of the same queue, and its
+  -- view goes on, or stays as it was where there is no capacity.
   pub record IsSameByCapacity (old new : Held E T (RingRule E T) kind words) : Type 0 where
     pub queue : token_queue new ≡ token_queue old
     pub goes : 0 < (token_queue old).capacity → Goes (token_view old) (token_view new)
     pub none : (token_queue old).capacity ≡ 0 → token_view new ≡ token_view old
 
-  -- the same of a guard, by its seat
+  -- the producer is still of the same queue, and its view goes on, or stays where the queue has no capacity
   abbrev pub SameProducerByCapacity : Producer E T kind words → Producer E T kind words → Type 0
   SameProducerByCapacity old new = IsSameByCapacity old.token new.token
 
+  -- the consumer is still of the same queue, and its view goes on, or stays where the queue has no capacity
   abbrev pub SameConsumerByCapacity : Consumer E T kind words → Consumer E T kind words → Type 0
   SameConsumerByCapacity old new = IsSameByCapacity old.token new.token
 
-  -- a role is taken with a pass, and the pass comes back with it
+  -- the producer is of the pass's queue, and its view goes on from the pass's
   abbrev pub ToProducer : Pass E T kind words → Producer E T kind words → Type 0
   ToProducer pass end = IsSameQueue pass.token end.token
 
+  -- the consumer is of the pass's queue, and its view goes on from the pass's
   abbrev pub ToConsumer : Pass E T kind words → Consumer E T kind words → Type 0
   ToConsumer pass end = IsSameQueue pass.token end.token
 
+  -- the pass is of the producer's queue, and its view goes on from the producer's
   abbrev pub FromProducer : Producer E T kind words → Pass E T kind words → Type 0
   FromProducer end pass = IsSameQueue end.token pass.token
 
+  -- the pass is of the consumer's queue, and its view goes on from the consumer's
   abbrev pub FromConsumer : Consumer E T kind words → Pass E T kind words → Type 0
   FromConsumer end pass = IsSameQueue end.token pass.token
 
@@ -127,11 +146,14 @@ module _ {E T : Type 0} {kind : kinds.Ghosts E} {words : Ghosts T} where
     pub joined : HasJoined (token_view old) (token_view other) (token_view new)
     pub all : MissesNothing (token_view new)
 
+  -- the pass is of the same queue, and has what both had
   abbrev pub PassJoins : Pass E T kind words → Pass E T kind words → Pass E T kind words → Type 0
   PassJoins old other new = Joins old.token other.token new.token
 
+  -- the producer is of the same queue, and has what both had
   abbrev pub ProducerJoins : Producer E T kind words → Pass E T kind words → Producer E T kind words → Type 0
   ProducerJoins old other new = Joins old.token other.token new.token
 
+  -- the consumer is of the same queue, and has what both had
   abbrev pub ConsumerJoins : Consumer E T kind words → Pass E T kind words → Consumer E T kind words → Type 0
   ConsumerJoins old other new = Joins old.token other.token new.token

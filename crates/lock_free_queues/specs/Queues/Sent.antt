@@ -1,5 +1,5 @@
--- What a pass has pushed and popped since it knew less, value by value, and what two passes come to once they are joined.
--- Events name a value by Index, or by Value.
+-- What a pass has pushed and popped since it knew less, value by value, and what two passes come to once they are
+-- joined. Events name a value by Index, or by Value.
 use Rattle.std.specs.Prelude.{◌≡◌, ℕ, List, ◌++◌, length, map}
 use Rattle.std.specs.List.{flat_map}
 use Rattle.model.specs.declared.event.Event.{Event}
@@ -15,16 +15,18 @@ module _ {T V : Type 0} where
   -- pass has published and taken out so many itself, and has the share that it had.
   pub record HasAppended (tells : Event T → List (Item T)) (named : V → Item T) (values : List V) (put got : ℕ)
       (old new : View T) : Type 0 where
+    -- what others added
     pub others : List (Item T)
     pub list : flat_map tells new.seen ≡ (flat_map tells old.seen ++ others) ++ map named values
+    -- the pass has published and taken out so many itself
     pub done : HasDone put got old new
     pub share : new.share ≡ old.share
 
-  -- it has pushed these values, one after the other, and popped none
+  -- the pass has pushed these values, one after the other, and popped none
   abbrev pub HasSent : (V → Item T) → List V → (old new : View T) → Type 0
   HasSent named values old new = HasAppended publishes named values (length values) 0 old new
 
-  -- it has popped these values, one after the other, and pushed none
+  -- the pass has popped these values, one after the other, and pushed none
   abbrev pub HasReceived : (V → Item T) → List V → (old new : View T) → Type 0
   HasReceived named values old new = HasAppended hands_out named values 0 (length values) old new
 
@@ -35,6 +37,7 @@ module _ {T V : Type 0} where
   -- who has the whole share knows that just these values were published, and just those taken out, each in this order
   pub record HasPassed (named : V → Item T) (sent received : List V) (v : View T) : Type 0 where
     pub whole : IsAll v.share
+    -- the pass misses nothing
     pub all : MissesNothing v
     pub published_these : published v.seen ≡ map named sent
     pub taken_these : handed_out v.seen ≡ map named received

@@ -5,10 +5,12 @@ use Rattle.model.specs.declared.event.Event.TheVariants.{Published, HandedOut}
 use Rattle.history.specs.declared.view.View.{View}
 
 module _ {T : Type 0} where
+  -- 1 for an event that publishes an item
   abbrev pub puts : Event T → ℕ
   puts (Published p item) = 1
   puts e = 0
 
+  -- 1 for an event that hands an item out
   abbrev pub gets : Event T → ℕ
   gets (HandedOut p item) = 1
   gets e = 0

@@ -1,5 +1,5 @@
--- The family of the container: its calls, its words at the opening, the states of its parties, what
--- its steps write down, and what it promises.
+-- The family of the container: its calls, its words at the opening, the states of its parties, what its steps write
+-- down, and what it promises.
 pub mod Bounds
 pub mod Calls
 pub mod Keeping

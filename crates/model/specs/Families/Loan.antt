@@ -1,5 +1,5 @@
--- The family of the loan channel: its calls, its words at the opening, what their steps write down, and what
--- they promise.
+-- The family of the loan channel: its calls, its words at the opening,
+-- what their steps write down, and what they promise.
 pub mod Bounds
 pub mod Calls
 pub mod Opening

@@ -1,5 +1,5 @@
--- The family of the queues: their calls, their words at the opening, what
--- their steps write down, and what they promise.
+-- The family of the queues: their calls, their words at the opening,
+-- what their steps write down, and what they promise.
 pub mod Book
 pub mod Bounds
 pub mod Calls

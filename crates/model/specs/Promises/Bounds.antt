@@ -6,8 +6,7 @@ use Rattle.model.specs.Promise.{Promise}
 use Rattle.model.specs.Reading.{Span, Never, Open, Ended}
 
 module _ {T : Type 0} where
-  -- a call has taken at most its steps, and begun a loop's turn again at
-  -- most as often as other parties changed words
+  -- a call has taken at most its steps, and begun a loop's turn again at most as often as other parties changed words
   pub record IsBounded (promise : Promise T) (capacity size : ℕ) (start : Start T) (g : Progress)
       : Type 0 where
     pub steps : g.steps ≤ promise.most_steps capacity size start g.backs

@@ -11,6 +11,7 @@ use Rattle.model.specs.Families.Loan.Promises as loan
 use Rattle.model.specs.Families.Queues.Promises as queues
 use Rattle.model.specs.Promise.{Promise}
 
+-- what the structure of each kind promises
 abbrev pub promise_of : {T : Type 0} → Kind → Promise T
 promise_of IndexQueue = queues.promise queue_kinds.IndexQueue
 promise_of Overflow = queues.promise queue_kinds.Overflow

@@ -7,8 +7,8 @@ use Rattle.model.specs.Reading.{moments, whose, Span, span_of}
 use Rattle.model.specs.Shape.{IsOpenFor, IsShut}
 
 module _ {T : Type 0} where
-  -- Where an event may stand in its party's span: a call begins where none is under way, acts at
-  -- most once, writes what its family says, and finishes with what its answer says.
+  -- Where an event may stand in its party's span: a call begins where none is under way, acts at most once, writes what
+  -- its family says, and finishes with what its answer says.
   abbrev pub Stands : Promise T → ℕ → Event T → Span T → Type 0
   Stands promise capacity (Begun p start) span = IsShut span
   Stands promise capacity (Acted p start answer) span =
@@ -17,6 +17,7 @@ module _ {T : Type 0} where
       IsOpenFor start (promise.wrote capacity start answer) span
   Stands promise capacity e span = promise.may_stand e span
 
+  -- the event stands where its party's span may have it
   abbrev pub StandsRight : Promise T → ℕ → List (Event T) → Event T → Type 0
   StandsRight promise capacity before e =
       IfSome (whose e) (λ p. Stands promise capacity e (span_of p before))

@@ -20,20 +20,21 @@ use Rattle.model.specs.World.{World, Trace, flight_in, progress_in}
 
 -- ---- the counts of a call
 
--- one step more where an operation was asked for, at most one
--- turn back more, and what others changed stays
+-- one step more where an operation was asked for, at most one turn back more, and what others changed stays
 pub record HasGoneOn (asks over : Bool) (old new : Progress) : Type 0 where
   pub steps : new.steps ≡ (if asks then old.steps + 1 else old.steps)
   pub backs : (new.backs ≡ old.backs) ⊎ (new.backs ≡ old.backs + 1)
   pub others : new.others ≡ old.others
   pub finished : new.finished ≡ over
 
+-- both are the counts of a call, which has gone on from the first to the second
 abbrev pub BothGoOn : (asks over : Bool) → Option Progress → Option Progress → Type 0
 BothGoOn asks over (Some old) (Some new) = HasGoneOn asks over old new
 BothGoOn asks over (Some old) None = ⊥
 BothGoOn asks over None new = ⊥
 
 module _ {T : Type 0} where
+  -- the operation that the call under way asks for, if any
   abbrev pub ask_of_flight : Coding T → Option (Flight T) → Option Ask
   ask_of_flight code None = None
   ask_of_flight code (Some flight) = ask_of (want_of code flight)
@@ -43,6 +44,7 @@ module _ {T : Type 0} where
   ask_in w (Next p) = ask_of_flight w.coding (flight_in w p)
   ask_in w turn = None
 
+  -- whose turn it is; the death of an owner is nobody's
   abbrev pub IsParty : Turn T → ℕ → Type 0
   IsParty (Begin p start) q = q ≡ p
   IsParty (Next p) q = q ≡ p
@@ -104,16 +106,20 @@ module _ {T : Type 0} where
     pub steps : after.steps ≡ before.steps
     pub backs : after.backs ≡ before.backs
     pub finished : after.finished ≡ before.finished
+    -- no word has changed
     pub same : new.words ≡ old.words → after.others ≡ before.others
+    -- a word has changed, and a call under way counts that
     pub changed : new.words ≢ old.words
         → after.others ≡ (if before.finished then before.others else before.others + 1)
 
+  -- the latest call of another party counts at most a change of a word's value; a party without a call has none still
   abbrev pub BothSee : (old new : World T) → Option Progress → Option Progress → Type 0
   BothSee old new None None = Unit {0}
   BothSee old new (Some before) (Some after) = HasSeen old new before after
   BothSee old new None (Some after) = ⊥
   BothSee old new (Some before) None = ⊥
 
+  -- each party whose turn it is not counts at most a change of a word's value
   abbrev pub CountsOthers : World T → Turn T → World T → Type 0
   CountsOthers old turn new =
       (q : ℕ) → ¬ IsParty turn q → BothSee old new (progress_in old q) (progress_in new q)
@@ -133,7 +139,7 @@ module _ {T : Type 0} where
   IsAct (Acted p start answer) = Unit {0}
   IsAct e = ⊥
 
-  -- with this event the call of the turn's party ends
+  -- the event is the end of the call of the turn's party
   abbrev pub IsEndOf : Turn T → Event T → Type 0
   IsEndOf turn (Finished p start answer) = IsParty turn p
   IsEndOf turn e = ⊥
@@ -145,15 +151,20 @@ module _ {T : Type 0} where
   -- what the step did to the structure, then the acts, then the end
   pub record WritesInOrder (promise : Promise T) (old : Trace T) (turn : Turn T)
       (events : List (Event T)) : Type 0 where
+    -- what the step did to the structure
     pub effects : List (Event T)
+    -- the calls that took effect
     pub acts : List (Event T)
+    -- the end of the party's call, if it has ended
     pub ends : List (Event T)
     pub is : events ≡ old.events ++ ((effects ++ acts) ++ ends)
     pub are_effects : AllByRecursion (IsEffectOf turn) effects
     pub are_acts : AllByRecursion IsAct acts
     pub are_ends : AllByRecursion (IsEndOf turn) ends
+    -- each act is one that the family allows here
     pub right : AllByRecursion (ActsRight promise old turn) acts
 
+  -- a turn writes down its begin, the death, or what its step did, then who acted, and then the end of the call
   abbrev pub WritesDown : Promise T → Trace T → Turn T → Trace T → Type 0
   WritesDown promise old (Begin p start) new = new.events ≡ old.events ++ Begun p start ∷ []
   WritesDown promise old (Next p) new = WritesInOrder promise old (Next p) new.events

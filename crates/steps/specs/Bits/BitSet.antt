@@ -21,18 +21,21 @@ exchange word found new =
 
 -- ---- set
 
+-- a set before its first step
 abbrev pub first_set : Set
 first_set = record { stage = sets.LoadsElement }
 
+-- the set at this stage
 abbrev pub at_set : SetStage → Set
 at_set stage = record { stage = stage }
 
--- load the element; exchange it for the element with the flag
+-- what the set asks for, step by step: load the element; exchange it for the element with the flag
 abbrev pub set_asks : SetStage → ℕ → Want (Unit {0})
 set_asks sets.LoadsElement place = load (element_of place)
 set_asks (sets.ExchangesElement found) place =
     exchange (element_of place) found (with_flag found place)
 
+-- what the set waits for
 abbrev pub set_want : Set → ℕ → Want (Unit {0})
 set_want call place = set_asks call.stage place
 
@@ -43,25 +46,29 @@ set_tests place found =
     then Done false
     else GoOn (at_set (sets.ExchangesElement found))
 
--- where the element has changed, it is tested again
+-- where the set goes on to from the old value of its word: where the element has changed, it is tested again
 abbrev pub set_takes : SetStage → (place old : ℕ) → After Set Bool
 set_takes sets.LoadsElement place old = set_tests place old
 set_takes (sets.ExchangesElement found) place old =
     if old == found then Done true else set_tests place old
 
+-- how the set goes on from the stage at which it is, by the old value of its word
 abbrev pub set_after : Set → (place old : ℕ) → After Set Bool
 set_after call place old = set_takes call.stage place old
 
+-- whether the set begins its loop again once it is handed this old value: the word has changed since it was loaded
 abbrev pub set_turns_back : SetStage → ℕ → Bool
 set_turns_back sets.LoadsElement old = false
 set_turns_back (sets.ExchangesElement found) old = not (old == found)
 
 -- ---- reset_next
 
+-- a reset of the next place before its first step
 abbrev pub first_reset : ℕ → ResetNext
 first_reset capacity =
     record { capacity = capacity; stage = resets.LoadsPosition }
 
+-- the call at this stage
 abbrev pub at_reset : ResetNext → ResetNextStage → ResetNext
 at_reset call stage = record { capacity = call.capacity; stage = stage }
 
@@ -70,8 +77,8 @@ abbrev pub place_after : (capacity start passed : ℕ) → ℕ
 place_after capacity start passed =
     if nat_lt (start + passed) capacity then start + passed else start + passed - capacity
 
--- load the reset position; load the element of each place in turn, and exchange it for the
--- element without the flag; store the position after the place
+-- What the reset asks for, step by step: load the reset position; load the element of each place in turn, and exchange
+-- it for the element without the flag; store the position after the place.
 abbrev pub reset_asks : ℕ → ResetNextStage → Want (Unit {0})
 reset_asks capacity resets.LoadsPosition = load 0
 reset_asks capacity (resets.LoadsElement start passed) =
@@ -81,27 +88,29 @@ reset_asks capacity (resets.ExchangesElement start passed found) =
     (without_flag found (place_after capacity start passed))
 reset_asks capacity (resets.StoresPosition place) = store 0 (after_position place)
 
+-- what the reset of the next place waits for
 abbrev pub reset_want : ResetNext → Want (Unit {0})
 reset_want call = reset_asks call.capacity call.stage
 
--- it comes to the next place, if there is one that it has not passed
+-- the reset goes on to the next place, if there is one that it has not passed
 abbrev pub reset_comes_to : ResetNext → (start passed : ℕ) → After ResetNext (Option ℕ)
 reset_comes_to call start passed =
     if nat_lt passed call.capacity
     then GoOn (at_reset call (resets.LoadsElement start passed))
     else Done None
 
--- where the flag is clear, it goes on to the next place
+-- the reset once it has found this element: where the flag of the place is clear, it goes on to the next place
 abbrev pub reset_tests : ResetNext → (start passed found : ℕ) → After ResetNext (Option ℕ)
 reset_tests call start passed found =
     if has_flag found (place_after call.capacity start passed)
     then GoOn (at_reset call (resets.ExchangesElement start passed found))
     else reset_comes_to call start (passed + 1)
 
+-- where a search begins: at this position, or behind all places where it is past them
 abbrev pub at_most : (capacity position : ℕ) → ℕ
 at_most capacity position = if nat_lt capacity position then capacity else position
 
--- where the element has changed, the flag is tested again
+-- where the reset goes on to from the old value of its word: where the element has changed, the flag is tested again
 abbrev pub reset_takes : ResetNext → ResetNextStage → ℕ → After ResetNext (Option ℕ)
 reset_takes call resets.LoadsPosition old =
     reset_comes_to call (at_most call.capacity old) 0
@@ -114,9 +123,11 @@ reset_takes call (resets.ExchangesElement start passed found) old =
     else reset_tests call start passed old
 reset_takes call (resets.StoresPosition place) old = Done (Some place)
 
+-- how the reset of the next place goes on from the stage at which it is, by the old value of its word
 abbrev pub reset_after : ResetNext → ℕ → After ResetNext (Option ℕ)
 reset_after call old = reset_takes call call.stage old
 
+-- whether the reset begins its loop again once it is handed this old value: the word has changed since it was loaded
 abbrev pub reset_turns_back : ResetNextStage → ℕ → Bool
 reset_turns_back resets.LoadsPosition old = false
 reset_turns_back (resets.LoadsElement start passed) old = false

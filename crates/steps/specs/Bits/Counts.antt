@@ -7,9 +7,10 @@ use Rattle.steps.specs.declared.ask.After.{After}
 use Rattle.steps.specs.declared.ask.After.TheVariants.{Done}
 use Rattle.steps.specs.declared.bits.counting_bit_set.Set.{Set}
 
--- add 1 to the count of the place
+-- a count adds 1 to the word of the place
 abbrev pub set_want : Set → ℕ → Want (Unit {0})
 set_want call place = wants.Ask (record { word = place; op = Add 1 })
 
+-- a count ends with its one step, with the number that it found
 abbrev pub set_after : Set → ℕ → After Set ℕ
 set_after call old = Done old

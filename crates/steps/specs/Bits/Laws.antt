@@ -1,5 +1,5 @@
--- What the calls of the bit sets keep to: a store tells them nothing, and those
--- that end by themselves come nearer to their end at each step.
+-- What the calls of the bit sets keep to: a store tells them nothing, and those that end by themselves come nearer to
+-- their end at each step.
 use Rattle.std.specs.Prelude.{◌≡◌, ℕ, ◌+◌, ◌<◌, ◌≤◌, IsTrue, nat_lt, refl}
 use Rattle.std.proofs.Common.{arith, ap}
 use Rattle.std.proofs.lemmas.Bool.Decides.{nat_tests}
@@ -41,27 +41,33 @@ reset_tells c (resets.LoadsElement start passed) room m n t = no_store t
 reset_tells c (resets.ExchangesElement start passed found) room m n t = no_store t
 reset_tells c (resets.StoresPosition place) room m n t = (refl, refl)
 
+-- a count at a place never stores, so there is no store whose old value it could use
 pub count_tells : (c : counts.Set) (place : ℕ) (room : Unit {0}) (m n : ℕ)
     → IsTrue (is_store (counting.set_want c place))
     → (counting.set_after c m ≡ counting.set_after c n) × (room ≡ room)
 count_tells c place room m n t = no_store t
 
+-- a count never goes on: it ends with its first step
 pub count_fewer : (c d : counts.Set) (n : ℕ) → counting.set_after c n ≡ GoOn d → 0 < 0
 count_fewer c d n goes = cc
 
+-- a look at a place never stores, so there is no store whose old value it could use
 pub is_set_tells : (c : IsSet) (place : ℕ) (room : Unit {0}) (m n : ℕ)
     → IsTrue (is_store (is_set_want c place))
     → (is_set_after c place m ≡ is_set_after c place n) × (room ≡ room)
 is_set_tells c place room m n t = no_store t
 
+-- a look at a place never goes on: it ends with its first step
 pub is_set_fewer : (c d : IsSet) (place n : ℕ) → is_set_after c place n ≡ GoOn d → 0 < 0
 is_set_fewer c d place n goes = cc
 
+-- a look at a count never stores, so there is no store whose old value it could use
 pub look_tells : (c : Count) (place : ℕ) (room : Unit {0}) (m n : ℕ)
     → IsTrue (is_store (count_want c place))
     → (count_after c m ≡ count_after c n) × (room ≡ room)
 look_tells c place room m n t = no_store t
 
+-- a look at a count never goes on: it ends with its first step
 pub look_fewer : (c d : Count) (n : ℕ) → count_after c n ≡ GoOn d → 0 < 0
 look_fewer c d n goes = cc
 
@@ -90,6 +96,7 @@ reset_all_nearer c n =
     (λ t. let further : c.word + 1 < c.end = grind (arith, nat_tests) in omega arith)
     (λ t. omega arith)
 
+-- a reset of all places that goes on has fewer steps left
 pub reset_all_fewer : (c d : ResetAll) (n : ℕ) → reset_all_after c n ≡ GoOn d
     → reset_all_left d < reset_all_left c
 reset_all_fewer c d n goes =

@@ -9,20 +9,22 @@ use Rattle.steps.specs.declared.ask.After.TheVariants.{GoOn, Done}
 use Rattle.steps.specs.declared.bits.reset_all.ResetAll.{ResetAll}
 use Rattle.steps.specs.declared.copied.OneWord.{OneWord}
 
--- the elements of a bit set stand after its reset position
+-- a reset of all bits before its first step: the elements stand behind the reset position
 abbrev pub all_bits : ℕ → ResetAll
 all_bits capacity = record { word = 1; end = 1 + elements capacity }
 
+-- a reset of all counts before its first step
 abbrev pub all_counts : ℕ → ResetAll
 all_counts capacity = record { word = 0; end = capacity }
 
--- swap the word with 0
+-- a reset of all swaps its word with 0
 abbrev pub reset_all_want : ResetAll → Want (Unit {0})
 reset_all_want call =
     if nat_lt call.word call.end
     then wants.Ask (record { word = call.word; op = Swap 0 })
     else wants.Nothing
 
+-- the reset goes on to the next word, and ends behind the last one
 abbrev pub reset_all_after : ResetAll → ℕ → After ResetAll (Unit {0})
 reset_all_after call old =
     if nat_lt (call.word + 1) call.end
@@ -33,6 +35,6 @@ reset_all_after call old =
 abbrev pub reset_all_kept : OneWord → ℕ → OneWord
 reset_all_kept room old = record { 0 = old }
 
--- it goes down at each step
+-- a number that each step of the reset lowers
 abbrev pub reset_all_left : ResetAll → ℕ
 reset_all_left call = call.end - call.word

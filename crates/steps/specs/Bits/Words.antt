@@ -17,9 +17,11 @@ element_of place = 1 + place / 64
 abbrev pub elements : ℕ → ℕ
 elements capacity = (capacity + 63) / 64
 
+-- the word with the flag of the place
 abbrev pub with_flag : (word place : ℕ) → ℕ
 with_flag word place = bit_or word (2 ^ bit_of place)
 
+-- the word without the flag of the place
 abbrev pub without_flag : (word place : ℕ) → ℕ
 without_flag word place = bit_and word (2 ^ 64 - 1 - 2 ^ bit_of place)
 

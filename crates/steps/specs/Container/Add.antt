@@ -17,6 +17,7 @@ use Rattle.steps.specs.declared.container.add.AddStage.{AddStage}
 use Rattle.steps.specs.declared.container.add.AddStage.TheVariants as adds
 use Rattle.steps.specs.declared.container.add.Owned.{Owned}
 
+-- what an add ends with: the index, or why there is none
 abbrev pub Added : Type 0
 Added = Result ℕ ContainerAddFailure
 
@@ -24,7 +25,7 @@ Added = Result ℕ ContainerAddFailure
 abbrev pub inner_acquire : ℕ → AcquireStage → Acquire
 inner_acquire capacity stage = record { capacity = capacity; stage = stage }
 
--- the counter has moved
+-- whether the add begins a loop of its acquire again once it is handed this old value: another has moved the counter
 abbrev pub add_goes_back : AddStage → ℕ → Bool
 add_goes_back (adds.Acquires stage) old = acquire_goes_back stage old
 add_goes_back (adds.LoadsCount index) old = false
@@ -34,9 +35,11 @@ add_goes_back (adds.AddsCount index) old = false
 add_goes_back (adds.AddsChange index) old = false
 
 module _ {T : Type 0} where
+  -- the call at this stage
   abbrev pub at_add : Add T → AddStage → Add T
   at_add call stage = record call { stage = stage }
 
+  -- an add to a container of this capacity before its first step
   abbrev pub first_add : ℕ → Add T
   first_add capacity =
       record {
@@ -45,8 +48,8 @@ module _ {T : Type 0} where
         of = record {};
       }
 
-  -- acquire; load the number of the element; hide what stands there; store
-  -- the words; add 1 to the number; add 1 to the changes
+  -- What the add asks for, step by step: acquire; load the number of the element; hide what stands there; store the
+  -- words; add 1 to the number; add 1 to the changes.
   abbrev pub add_asks : (T → List ℕ) → (size capacity : ℕ) → AddStage → Owned T → Want (Unit {0})
   add_asks words_of size capacity (adds.Acquires stage) given =
       acquire_asks stage given.owner
@@ -61,16 +64,19 @@ module _ {T : Type 0} where
   add_asks words_of size capacity (adds.AddsChange index) given =
       add_one (change_word capacity)
 
+  -- what the add waits for
   abbrev pub add_want : (T → List ℕ) → ℕ → Add T → Owned T → Want (Unit {0})
   add_want words_of size call given = add_asks words_of size call.capacity call.stage given
 
-  -- once it has an index it goes on to the element
+  -- the add after a step of its acquire: once it has an index it goes on to the element
   abbrev pub add_acquired : Add T → After Acquire Acquired → After (Add T) Added
   add_acquired call (GoOn acquire) =
       GoOn (at_add call (adds.Acquires acquire.stage))
   add_acquired call (Done (Ok index)) = GoOn (at_add call (adds.LoadsCount index))
   add_acquired call (Done (Err failure)) = Done (Err (add_failure failure))
 
+  -- Where the add goes on to from the old value of its word: it acquires an index, hides what still shows there, stores
+  -- the words of the value, shows them, and counts the change.
   abbrev pub add_takes : ℕ → Add T → AddStage → ℕ → After (Add T) Added
   add_takes size call (adds.Acquires stage) old =
       add_acquired call (acquire_takes (inner_acquire call.capacity stage) stage old)
@@ -88,5 +94,6 @@ module _ {T : Type 0} where
       GoOn (at_add call (adds.AddsChange index))
   add_takes size call (adds.AddsChange index) old = Done (Ok index)
 
+  -- how the add goes on from the stage at which it is, by the old value of its word
   abbrev pub add_after : ℕ → Add T → ℕ → After (Add T) Added
   add_after size call old = add_takes size call call.stage old

@@ -4,6 +4,7 @@ use Rattle.steps.specs.declared.indices.enums.UniqueIndexSetAcquireFailure.TheVa
 use Rattle.steps.specs.declared.container.enums.ContainerAddFailure.{ContainerAddFailure}
 use Rattle.steps.specs.declared.container.enums.ContainerAddFailure.TheVariants.{OutOfSpace, IsLocked}
 
+-- why an add has no index, by why its acquire has none
 abbrev pub add_failure : UniqueIndexSetAcquireFailure → ContainerAddFailure
 add_failure acquires.OutOfIndices = OutOfSpace
 add_failure acquires.IsLocked = IsLocked

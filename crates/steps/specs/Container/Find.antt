@@ -13,8 +13,8 @@ use Rattle.steps.specs.declared.container.find.Find.{Find}
 use Rattle.steps.specs.declared.container.find.FindStage.{FindStage}
 use Rattle.steps.specs.declared.container.find.FindStage.TheVariants as finds
 
--- load the cells; load the number of the element; load its words;
--- exchange the number for itself; ask about the value
+-- What the find asks for, step by step: load the cells; load the number of the element; load its words; exchange the
+-- number for itself; ask about the value.
 abbrev pub find_asks : (size capacity : ℕ) → FindStage → Want (Unit {0})
 find_asks size capacity (finds.LoadsCell index found) = load (cell_word index)
 find_asks size capacity (finds.LoadsCount index found) =
@@ -35,7 +35,7 @@ find_keeps with_word (finds.LoadsWord index found count at) room old =
 find_keeps with_word (finds.ChecksCount index found count) room old = room
 find_keeps with_word (finds.Asks index found) room old = room
 
--- it goes down at each step, since a value has at most 128 words
+-- a number that each step of the find lowers, since a value has at most 128 words
 abbrev pub find_left : (size capacity : ℕ) → FindStage → ℕ
 find_left size capacity (finds.LoadsCell index found) = 140 * (capacity - index) + 139
 find_left size capacity (finds.LoadsCount index found) = 140 * (capacity - index) + 138
@@ -46,25 +46,28 @@ find_left size capacity (finds.ChecksCount index found count) =
 find_left size capacity (finds.Asks index found) = 140 * (capacity - index)
 
 module _ {T R : Type 0} where
+  -- the call at this stage
   abbrev pub at_find : Find T R → FindStage → Find T R
   at_find call stage = record call { stage = stage }
 
+  -- a find before its first step
   abbrev pub first_find : ℕ → Find T R
   first_find capacity =
       record { capacity = capacity; stage = finds.LoadsCell 0 0; of = record {} }
 
+  -- what the find waits for
   abbrev pub find_want : ℕ → Find T R → Want (Unit {0})
   find_want size call = find_asks size call.capacity call.stage
 
-  -- the next cell, if there is one
+  -- the find goes on to the next cell, and after the last one it ends with its number
   abbrev pub find_comes_to : Find T R → (index found : ℕ) → After (Find T R) ℕ
   find_comes_to call index found =
       if nat_lt index call.capacity
       then GoOn (at_find call (finds.LoadsCell index found))
       else Done found
 
-  -- each index of the owner counts, also one without an element, one whose element has changed
-  -- meanwhile, and that on which it is told to stop
+  -- Where the find goes on to from the old value of its word: each index of the owner counts, also one without an
+  -- element, one whose element has changed meanwhile, and that on which it is told to stop.
   abbrev pub find_takes : ℕ → Find T R → FindStage → (owner old : ℕ) → After (Find T R) ℕ
   find_takes size call (finds.LoadsCell index found) owner old =
       if old == owner
@@ -85,8 +88,10 @@ module _ {T R : Type 0} where
   find_takes size call (finds.Asks index found) owner old =
       if old == 0 then Done found else find_comes_to call (index + 1) found
 
+  -- how the find goes on from the stage at which it is, by the old value of its word
   abbrev pub find_after : ℕ → Find T R → (owner old : ℕ) → After (Find T R) ℕ
   find_after size call owner old = find_takes size call call.stage owner old
 
+  -- the room of the find after a step that was handed this old value
   abbrev pub find_kept : (R → ℕ → ℕ → R) → Find T R → R → ℕ → R
   find_kept with_word call room old = find_keeps with_word call.stage room old

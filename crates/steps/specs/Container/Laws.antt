@@ -1,5 +1,5 @@
--- What the calls of the container keep to: a store tells them nothing, and those
--- that end by themselves come nearer to their end at each step.
+-- What the calls of the container keep to: a store tells them nothing, and those that end by themselves come nearer to
+-- their end at each step.
 use Rattle.std.specs.Prelude.{◌≡◌, ℕ, ◌+◌, ◌-◌, ◌*◌, ◌<◌, ◌≤◌, IsTrue, List, nat_lt, refl}
 use Rattle.std.proofs.Common.{arith, ap}
 use Rattle.std.proofs.lemmas.Bool.Decides.{nat_tests}
@@ -44,7 +44,7 @@ use Rattle.steps.specs.Container.Look.{look_asks, look_takes, look_keeps}
 -- ---- a store tells them nothing
 
 module _ {T : Type 0} (words_of : T → List ℕ) (size : ℕ) where
-  -- no store of an add tells it anything
+  -- after a store an add goes on in the same way, whatever its word held before
   pub add_tells : (c : Add T) (stage : AddStage) (given : Owned T) (room : Unit {0}) (m n : ℕ)
       → IsTrue (is_store (add_asks words_of size c.capacity stage given))
       → (add_takes size c stage m ≡ add_takes size c stage n) × (room ≡ room)
@@ -59,7 +59,7 @@ module _ {T : Type 0} (words_of : T → List ℕ) (size : ℕ) where
   add_tells c (adds.AddsCount index) given room m n t = no_store t
   add_tells c (adds.AddsChange index) given room m n t = no_store t
 
-  -- nor does one of a replacement
+  -- after a store a replace goes on in the same way, whatever its word held before
   pub replace_tells : (c : Replace T) (stage : ReplaceStage) (given : Replacement T)
       (room : Unit {0}) (m n : ℕ)
       → IsTrue (is_store (replace_asks words_of size c.capacity stage given))
@@ -136,7 +136,7 @@ module _ {T : Type 0} (size : ℕ) where
   replace_then (GoOn d) = replace_left size d.stage + 1
   replace_then (Done e) = 0
 
-  -- after each step of a replacement, fewer are left
+  -- each step of a replacement after which it goes on leaves fewer steps than were left before
   replace_stage_fewer : (c : Replace T) (stage : ReplaceStage) (given : Replacement T)
       (k : ℕ) → replace_then (replace_takes size c stage given k) ≤ replace_left size stage
   replace_stage_fewer c replaces.Refuses given k = omega arith
@@ -157,6 +157,7 @@ module _ {T : Type 0} (size : ℕ) where
   replace_stage_fewer c replaces.AddsCount given k = omega arith
   replace_stage_fewer c replaces.AddsChange given k = omega arith
 
+  -- a replace that goes on has fewer steps left
   pub replace_fewer : (c d : Replace T) (given : Replacement T) (k : ℕ)
       → replace_after size c given k ≡ GoOn d
       → replace_left size d.stage < replace_left size c.stage
@@ -164,6 +165,7 @@ module _ {T : Type 0} (size : ℕ) where
       let e = ap replace_then goes in let f = replace_stage_fewer c c.stage given k in omega arith
 
 module _ {T R : Type 0} (size : ℕ) (few : size ≤ 128) where
+  -- one more than the steps that are left of the call, and 0 once it has ended
   abbrev find_then : After (Find T R) ℕ → ℕ
   find_then (GoOn d) = find_left size d.capacity d.stage + 1
   find_then (Done e) = 0
@@ -177,7 +179,7 @@ module _ {T R : Type 0} (size : ℕ) (few : size ≤ 128) where
       (λ t. let further : index + 1 < c.capacity = grind (arith, nat_tests) in omega arith)
       (λ t. omega arith)
 
-  -- after each step of a find, fewer are left
+  -- each step of a find after which it goes on leaves fewer steps than were left before
   find_stage_fewer : (c : Find T R) (stage : FindStage) (owner k : ℕ)
       → find_then (find_takes size c stage owner k) ≤ find_left size c.capacity stage
   find_stage_fewer c (finds.LoadsCell index found) owner k =
@@ -207,6 +209,7 @@ module _ {T R : Type 0} (size : ℕ) (few : size ≤ 128) where
       (find_comes_to c (index + 1) found)
       (λ e. omega arith) (λ e. next_nearer c index found)
 
+  -- a find that goes on has fewer steps left
   pub find_fewer : (c d : Find T R) (owner n : ℕ) → find_after size c owner n ≡ GoOn d
       → find_left size d.capacity d.stage < find_left size c.capacity c.stage
   find_fewer c d owner n goes =

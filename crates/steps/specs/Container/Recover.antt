@@ -22,9 +22,9 @@ use Rattle.steps.specs.declared.container.recover.RecoverStage.{RecoverStage}
 use Rattle.steps.specs.declared.container.recover.RecoverStage.TheVariants as recovers
 use Rattle.steps.specs.declared.container.recover.DeadOwner.{DeadOwner}
 
--- load the counter; for each index load the cell, load the number of the element, load its words,
--- exchange the number for itself, ask, exchange the cell from the owner to empty, hide what stands
--- there, raise, lock; load the counter; add 1 to the changes
+-- What the recovery asks for, step by step: load the counter; for each index load the cell, load the number of the
+-- element, load its words, exchange the number for itself, ask, exchange the cell from the owner to empty, hide what
+-- stands there, raise, lock; load the counter; add 1 to the changes.
 abbrev pub recover_asks : (size capacity : ℕ) → RecoverStage → ℕ → Want (Unit {0})
 recover_asks size capacity recovers.LoadsCounter owner = load 0
 recover_asks size capacity (recovers.LoadsCell index) owner = load (cell_word index)
@@ -62,7 +62,8 @@ recover_keeps with_word (recovers.Locks index lock) room old = room
 recover_keeps with_word recovers.LoadsCounterAgain room old = room
 recover_keeps with_word (recovers.AddsChange state) room old = room
 
--- the element has changed while it was copied, or the counter has moved
+-- Whether the recovery begins a loop again once it is handed this old value: the element has changed while its value
+-- was copied, or another has moved the counter.
 abbrev pub recover_goes_back : RecoverStage → ℕ → Bool
 recover_goes_back recovers.LoadsCounter old = false
 recover_goes_back (recovers.LoadsCell index) old = false
@@ -78,17 +79,20 @@ recover_goes_back recovers.LoadsCounterAgain old = false
 recover_goes_back (recovers.AddsChange state) old = false
 
 module _ {T R : Type 0} where
+  -- the recovery goes on at this stage
   abbrev pub goes_to : Recover T R → RecoverStage → After (Recover T R) ReleaseState
   goes_to call stage = GoOn (record call { stage = stage })
 
+  -- a recovery before its first step
   abbrev pub first_recover : ℕ → Recover T R
   first_recover capacity =
       record { capacity = capacity; stage = recovers.LoadsCounter; of = record {} }
 
+  -- what the recovery waits for
   abbrev pub recover_want : ℕ → Recover T R → DeadOwner → Want (Unit {0})
   recover_want size call given = recover_asks size call.capacity call.stage given.owner
 
-  -- the next index; after the last one the counter is loaded again
+  -- the recovery goes on to the next index; after the last one it loads the counter again
   abbrev pub recover_comes_to : Recover T R → ℕ → After (Recover T R) ReleaseState
   recover_comes_to call index =
       goes_to call
@@ -96,7 +100,8 @@ module _ {T R : Type 0} where
       then recovers.LoadsCell index
       else recovers.LoadsCounterAgain)
 
-  -- an element is copied; where there is none the index is freed without a question
+  -- How the recovery goes on from the number of an element: it copies the element; where there is none the index is
+  -- freed without a question.
   abbrev pub recover_sees : Recover T R → (index count : ℕ) → After (Recover T R) ReleaseState
   recover_sees call index count =
       goes_to call
@@ -104,11 +109,11 @@ module _ {T R : Type 0} where
       then recovers.EmptiesCell index count
       else recovers.LoadsWord index count 0)
 
-  -- the change is counted whatever it answers
+  -- the recovery counts the change, whatever it answers, and ends with this state then
   abbrev pub recover_ends : Recover T R → ReleaseState → After (Recover T R) ReleaseState
   recover_ends call state = goes_to call (recovers.AddsChange state)
 
-  -- a locked set ends it; it locks in the mode for that alone
+  -- the recovery after a step of its raise: a locked set ends it, and only the mode that locks goes on to lock
   abbrev pub recover_raised : Recover T R → ℕ → ReleaseMode → After Raise ReleaseState
       → After (Recover T R) ReleaseState
   recover_raised call index mode (GoOn raise) =
@@ -118,16 +123,20 @@ module _ {T R : Type 0} where
       goes_to call (recovers.Locks index first_lock)
   recover_raised call index Default (Done Unlocked) = recover_comes_to call (index + 1)
 
-  -- it goes on, whatever its lock answers
+  -- the recovery after a step of its lock: it goes on to the next index, whatever the lock answers
   abbrev pub recover_locked : Recover T R → ℕ → After locks.Lock ReleaseState
       → After (Recover T R) ReleaseState
   recover_locked call index (GoOn lock) = goes_to call (recovers.Locks index lock)
   recover_locked call index (Done state) = recover_comes_to call (index + 1)
 
+  -- the recovery goes on to raise the counter
   abbrev pub recover_raises : Recover T R → ℕ → After (Recover T R) ReleaseState
   recover_raises call index =
       goes_to call (recovers.Raises index raises.LoadsCounter)
 
+  -- Where the recovery goes on to from the old value of its word. It copies each value of the given owner and asks
+  -- about it; an index without a value it frees without a question. After a yes it empties the cell, hides the value,
+  -- raises the counter and, in the mode that locks, tries to lock.
   abbrev pub recover_takes : ℕ → Recover T R → RecoverStage → DeadOwner → ℕ
       → After (Recover T R) ReleaseState
   recover_takes size call recovers.LoadsCounter given old =
@@ -166,8 +175,10 @@ module _ {T R : Type 0} where
       recover_ends call (if old == locked then Locked else Unlocked)
   recover_takes size call (recovers.AddsChange state) given old = Done state
 
+  -- how the recovery goes on from the stage at which it is, by the old value of its word
   abbrev pub recover_after : ℕ → Recover T R → DeadOwner → ℕ → After (Recover T R) ReleaseState
   recover_after size call given old = recover_takes size call call.stage given old
 
+  -- the room of the recovery after a step that was handed this old value
   abbrev pub recover_kept : (R → ℕ → ℕ → R) → Recover T R → R → ℕ → R
   recover_kept with_word call room old = recover_keeps with_word call.stage room old

@@ -18,10 +18,11 @@ use Rattle.steps.specs.declared.container.remove.Remove.{Remove}
 use Rattle.steps.specs.declared.container.remove.RemoveStage.{RemoveStage}
 use Rattle.steps.specs.declared.container.remove.RemoveStage.TheVariants as removes
 
+-- what a remove ends with: the state of the set, or why nothing was removed
 abbrev pub Removed : Type 0
 Removed = Result ReleaseState ContainerRemoveError
 
--- an index past the capacity is refused
+-- a remove before its first step: an index past the capacity is refused
 abbrev pub first_remove : (capacity index : ℕ) → Remove
 first_remove capacity index =
     record {
@@ -31,6 +32,7 @@ first_remove capacity index =
           else removes.Refuses;
     }
 
+-- the call at this stage
 abbrev pub at_remove : Remove → RemoveStage → Remove
 at_remove call stage = record call { stage = stage }
 
@@ -38,7 +40,8 @@ at_remove call stage = record call { stage = stage }
 abbrev pub inner_release : ℕ → ReleaseStage → Release
 inner_release capacity stage = record { capacity = capacity; stage = stage }
 
--- load the number of the element; release; hide what stands there; add 1 to the changes
+-- What the remove asks for, step by step: load the number of the element;
+-- release; hide what stands there; add 1 to the changes.
 abbrev pub remove_asks : ℕ → RemoveStage → GiveBack → Want (Unit {0})
 remove_asks capacity removes.Refuses given = wants.Nothing
 remove_asks capacity removes.LoadsCount given = load (count_word capacity given.index)
@@ -47,10 +50,11 @@ remove_asks capacity (removes.Hides count state) given =
     hide capacity given.index count
 remove_asks capacity (removes.AddsChange state) given = add_one (change_word capacity)
 
+-- what the remove waits for
 abbrev pub remove_want : Remove → GiveBack → Want (Unit {0})
 remove_want call given = remove_asks call.capacity call.stage given
 
--- a failed release ends it; where nothing stood there, nothing is hidden
+-- the remove after a step of its release: a failed release ends it; where nothing stood there, nothing is hidden
 abbrev pub remove_released : Remove → ℕ → After Release Released → After Remove Removed
 remove_released call count (GoOn release) =
     GoOn (at_remove call (removes.Releases count release.stage))
@@ -60,6 +64,8 @@ remove_released call count (Done (Ok state)) =
     else GoOn (at_remove call (removes.Hides count state))
 remove_released call count (Done (Err failure)) = Done (Err ContainerHandleNotOwnedByContainer)
 
+-- Where the remove goes on to from the old value of its word: it loads the number of the element, releases the index,
+-- hides the value, and counts the change.
 abbrev pub remove_takes : Remove → RemoveStage → GiveBack → ℕ → After Remove Removed
 remove_takes call removes.Refuses given old =
     Done (Err ContainerHandleNotOwnedByContainer)
@@ -72,10 +78,11 @@ remove_takes call (removes.Hides count state) given old =
     GoOn (at_remove call (removes.AddsChange state))
 remove_takes call (removes.AddsChange state) given old = Done (Ok state)
 
+-- how the remove goes on from the stage at which it is, by the old value of its word
 abbrev pub remove_after : Remove → GiveBack → ℕ → After Remove Removed
 remove_after call given old = remove_takes call call.stage given old
 
--- the counter has moved
+-- whether the remove begins a loop of its release again once it is handed this old value: another has moved the counter
 abbrev pub remove_goes_back : RemoveStage → ℕ → Bool
 remove_goes_back removes.Refuses old = false
 remove_goes_back removes.LoadsCount old = false

@@ -1,5 +1,4 @@
--- The replace of a container, one step after another.
--- T is the type of the values, size the number of their words.
+-- The replace of a container, one step after another. T is the type of the values, size the number of their words.
 use Rattle.std.specs.Prelude.{ℕ, ◌+◌, ◌-◌, ◌==◌, List, Result, Ok, Err, if◌then◌else◌, nat_lt, slice_index}
 use Rattle.steps.specs.Queues.Ring.{load, store}
 use Rattle.steps.specs.Indices.Robust.Parts.{cell_word}
@@ -15,10 +14,11 @@ use Rattle.steps.specs.declared.container.replace.ReplaceStage.{ReplaceStage}
 use Rattle.steps.specs.declared.container.replace.ReplaceStage.TheVariants as replaces
 use Rattle.steps.specs.declared.container.replace.Replacement.{Replacement}
 
+-- what a replace ends with: that it has replaced, or why not
 abbrev pub Replaced : Type 0
 Replaced = Result (Unit {0}) ContainerRemoveError
 
--- it goes down at each step
+-- a number that each step of the replace lowers
 abbrev pub replace_left : ℕ → ReplaceStage → ℕ
 replace_left size replaces.Refuses = 0
 replace_left size replaces.LoadsCell = size + 5
@@ -29,10 +29,11 @@ replace_left size replaces.AddsCount = 1
 replace_left size replaces.AddsChange = 0
 
 module _ {T : Type 0} where
+  -- the call at this stage
   abbrev pub at_replace : Replace T → ReplaceStage → Replace T
   at_replace call stage = record call { stage = stage }
 
-  -- an index past the capacity is refused
+  -- a replace before its first step: an index past the capacity is refused
   abbrev pub first_replace : (capacity index : ℕ) → Replace T
   first_replace capacity index =
       record {
@@ -43,8 +44,8 @@ module _ {T : Type 0} where
         of = record {};
       }
 
-  -- load the cell; load the number of the element; hide what stands there;
-  -- store the words; add 1 to the number; add 1 to the changes
+  -- What the replace asks for, step by step: load the cell; load the number of the element; hide what stands there;
+  -- store the words; add 1 to the number; add 1 to the changes.
   abbrev pub replace_asks : (T → List ℕ) → (size capacity : ℕ) → ReplaceStage → Replacement T → Want (Unit {0})
   replace_asks words_of size capacity replaces.Refuses given =
       wants.Nothing
@@ -61,10 +62,11 @@ module _ {T : Type 0} where
   replace_asks words_of size capacity replaces.AddsChange given =
       add_one (change_word capacity)
 
+  -- what the replace waits for
   abbrev pub replace_want : (T → List ℕ) → ℕ → Replace T → Replacement T → Want (Unit {0})
   replace_want words_of size call given = replace_asks words_of size call.capacity call.stage given
 
-  -- an index of another owner stays as it is
+  -- where the replace goes on to from the old value of its word: an index of another owner stays as it is
   abbrev pub replace_takes : ℕ → Replace T → ReplaceStage → Replacement T → ℕ
       → After (Replace T) Replaced
   replace_takes size call replaces.Refuses given old =
@@ -87,5 +89,6 @@ module _ {T : Type 0} where
       GoOn (at_replace call replaces.AddsChange)
   replace_takes size call replaces.AddsChange given old = Done (Ok tt)
 
+  -- how the replace goes on from the stage at which it is, by the old value of its word
   abbrev pub replace_after : ℕ → Replace T → Replacement T → ℕ → After (Replace T) Replaced
   replace_after size call given old = replace_takes size call call.stage given old

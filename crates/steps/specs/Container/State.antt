@@ -1,5 +1,5 @@
--- What a state of a container holds: for each index a number, and a value where that is odd.
--- T is the type of the values, size the number of their words.
+-- What a state of a container holds: for each index a number, and a value where that is odd. T is the type of the
+-- values, size the number of their words.
 use Rattle.std.specs.Prelude.{◌≡◌, ℕ, ◌+◌, ◌⊎◌, List, [], ◌∷◌, ◌++◌, Option, Some, None, if◌then◌else◌, replicate, not, slice_get, slice_set}
 use Rattle.std.specs.List.{FoldsTo, count_by}
 use denote.Ref.{Bor}
@@ -20,14 +20,17 @@ pub record Showing (T : Type 0) : Type 0 where
   pub elements : List (Element T)
   pub copy : List ℕ
 
+-- the numbers of a state that has seen nothing
 abbrev pub no_numbers : ℕ → Numbers
 no_numbers capacity = record { change = 0; counts = replicate capacity 0 }
 
 module _ {T : Type 0} where
+  -- an element that shows nothing
   abbrev pub no_element : (List ℕ → T) → ℕ → Element T
   no_element value_of size =
       record { count = 0; value = value_in value_of size (replicate 128 0) }
 
+  -- what a state shows that has seen nothing yet: no element at any index
   abbrev pub shows_nothing : (List ℕ → T) → (size capacity : ℕ) → Showing T
   shows_nothing value_of size capacity =
       record {
@@ -36,10 +39,11 @@ module _ {T : Type 0} where
         copy = replicate 128 0;
       }
 
-  -- a value is shown under an odd number
+  -- the value that an element shows, which it does under an odd number
   abbrev pub value_shown : Element T → Option T
   value_shown e = if is_even e.count then None else Some e.value
 
+  -- the value that an element shows, if there is one
   abbrev pub value_if : Option (Element T) → Option T
   value_if None = None
   value_if (Some e) = value_shown e
@@ -54,23 +58,26 @@ module _ {T : Type 0} where
 
   -- ---- what a look writes
 
+  -- what is shown, with this number of changes
   abbrev pub with_change : Showing T → ℕ → Showing T
   with_change s change = record s { change = change }
 
+  -- the elements once the one at the index has this number
   abbrev pub counted : Option (Element T) → List (Element T) → (index count : ℕ) → List (Element T)
   counted None elements index count = elements
   counted (Some e) elements index count =
       slice_set elements index (record { count = count; value = e.value })
 
-  -- another number at the index, with the value that stands there
+  -- what is shown with another number at the index, and the value that stands there
   abbrev pub with_count : Showing T → (index count : ℕ) → Showing T
   with_count s index count =
       record s { elements = counted (slice_get s.elements index) s.elements index count }
 
+  -- what is shown, with this word put to its place in the copy
   abbrev pub with_word : Showing T → (at word : ℕ) → Showing T
   with_word s at word = record s { copy = slice_set s.copy at word }
 
-  -- at the index this number, and the value whose words were read
+  -- what is shown with this number at the index, and the value whose words were read
   abbrev pub with_value : (List ℕ → T) → ℕ → Showing T → (index count : ℕ) → Showing T
   with_value value_of size s index count =
       record s {
@@ -80,6 +87,7 @@ module _ {T : Type 0} where
 
   -- ---- what is shown, with its indices
 
+  -- the values that are shown, with this one before them if there is one
   abbrev pub shown_first : Option T → ℕ → List (ℕ × T) → List (ℕ × T)
   shown_first None index rest = rest
   shown_first (Some value) index rest = (index, value) ∷ rest
@@ -92,9 +100,11 @@ module _ {T : Type 0} where
   -- the closure was called with these pairs, one after another, up to one on which it said Stop
   pub record HasShown {F : Type 0} (step : F → ℕ × T → CallbackProgression → F → Type 0)
       (pairs : List (ℕ × T)) (f : F) : Type 0 where
+    -- the pairs on which it said Continue
     pub before : List (ℕ × T)
     pub now : F
     pub calls : FoldsTo (λ p x q. step p x Continue q) f before now
+    -- these were all, or it was called once more and said Stop
     pub ended : (before ≡ pairs)
         ⊎ ((x : ℕ × T) × (rest : List (ℕ × T)) × (last : F) × (pairs ≡ before ++ x ∷ rest)
         × step now x Stop last)
@@ -105,13 +115,13 @@ module _ {T : Type 0} where
       → ℕ × T → CallbackProgression → F → Type 0
   at_value step p x said q = (r : Bor T) × step p x.0 r said q × (r.now ≡ x.1)
 
-  -- these numbers, where an element has another its own
+  -- these numbers, but where an element has another number, that one
   abbrev pub numbers_over : List ℕ → List (Element T) → List ℕ
   numbers_over counts [] = counts
   numbers_over [] (e ∷ elements) = []
   numbers_over (n ∷ counts) (e ∷ elements) = e.count ∷ numbers_over counts elements
 
-  -- the state has seen what it shows
+  -- the numbers that the state has seen once it has seen what it shows
   abbrev pub seen_of : Numbers → Showing T → Numbers
   seen_of seen shown =
       record { change = shown.change; counts = numbers_over seen.counts shown.elements }

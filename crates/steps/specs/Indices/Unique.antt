@@ -20,22 +20,26 @@ use Rattle.steps.specs.declared.indices.unique.ReleaseStage.TheVariants as relea
 use Rattle.steps.specs.declared.indices.looks.BorrowedIndices.{BorrowedIndices}
 use Rattle.steps.specs.declared.indices.looks.IsLocked.{IsLocked}
 
+-- an exchange of the head
 abbrev pub exchange_head : (from to : ℕ) → Want (Unit {0})
 exchange_head from to = wants.Ask (record { word = 0; op = Exchange from to })
 
 -- ---- acquire
 
+-- what an acquire ends with: an index, or why there is none
 abbrev pub Acquired : Type 0
 Acquired = Result ℕ UniqueIndexSetAcquireFailure
 
+-- an acquire before its first step
 abbrev pub first_acquire : ℕ → Acquire
 first_acquire capacity =
     record { capacity = capacity; stage = acquires.LoadsHead }
 
+-- the call at this stage
 abbrev pub at_acquire : Acquire → AcquireStage → Acquire
 at_acquire call stage = record call { stage = stage }
 
--- one index more is borrowed, and the next one is proposed
+-- the head word once one index more is borrowed and the next one is proposed
 abbrev pub head_taken : (head next : ℕ) → ℕ
 head_taken head next =
     head_word
@@ -45,11 +49,13 @@ head_taken head next =
       borrowed_indices = borrowed head + 1;
     })
 
+-- a claim of the index: its flag is set
 abbrev pub claim : (capacity index : ℕ) → Want (Unit {0})
 claim capacity index =
     wants.Ask (record { word = flag_word capacity index; op = Or (flag index) })
 
--- load the head; load the next index of the proposed one; exchange the head; claim
+-- What the acquire asks for, step by step: load the head;
+-- load the next index of the proposed one; exchange the head; claim.
 abbrev pub acquire_asks : ℕ → AcquireStage → Want (Unit {0})
 acquire_asks capacity acquires.LoadsHead = load 0
 acquire_asks capacity (acquires.LoadsNext head) = load (next_word (proposed head))
@@ -58,10 +64,11 @@ acquire_asks capacity (acquires.ExchangesHead head next) =
 acquire_asks capacity (acquires.Claims index) = claim capacity index
 acquire_asks capacity (acquires.Scans index) = claim capacity index
 
+-- what the acquire waits for
 abbrev pub acquire_want : Acquire → Want (Unit {0})
 acquire_want call = acquire_asks call.capacity call.stage
 
--- what a head word says: where it proposes no index of the set, its proposal stays
+-- how the acquire goes on from a head word: where that proposes no index of the set, its proposal stays
 abbrev pub acquire_sees : Acquire → ℕ → After Acquire Acquired
 acquire_sees call head =
     if says_locked head
@@ -72,16 +79,19 @@ acquire_sees call head =
     then GoOn (at_acquire call (acquires.LoadsNext head))
     else GoOn (at_acquire call (acquires.ExchangesHead head (proposed head)))
 
--- the proposed index is claimed first, else the flags are tried from 0 on, again and again
+-- where the acquire begins to claim: at the proposed index, or else at flag 0, from where it tries all, again and again
 abbrev pub first_claim : (capacity head : ℕ) → AcquireStage
 first_claim capacity head =
     if nat_lt (proposed head) capacity
     then acquires.Claims (proposed head)
     else acquires.Scans 0
 
+-- the index after this one; after the last one the first
 abbrev pub scanned_next : (capacity index : ℕ) → ℕ
 scanned_next capacity index = if nat_lt (index + 1) capacity then index + 1 else 0
 
+-- Where the acquire goes on to from the old value of its word: it moves the head to the next index, then claims the
+-- proposed one, and where that is claimed it tries the flags until it claims one.
 abbrev pub acquire_takes : Acquire → AcquireStage → ℕ → After Acquire Acquired
 acquire_takes call acquires.LoadsHead old = acquire_sees call old
 acquire_takes call (acquires.LoadsNext head) old =
@@ -99,10 +109,12 @@ acquire_takes call (acquires.Scans index) old =
     then GoOn (at_acquire call (acquires.Scans (scanned_next call.capacity index)))
     else Done (Ok index)
 
+-- how the acquire goes on from the stage at which it is, by the old value of its word
 abbrev pub acquire_after : Acquire → ℕ → After Acquire Acquired
 acquire_after call old = acquire_takes call call.stage old
 
--- the head has moved, or each flag was found claimed
+-- Whether the acquire begins a loop again once it is handed this old value: the head has moved, or the last of the
+-- flags is found claimed too.
 abbrev pub acquire_goes_back : ℕ → AcquireStage → ℕ → Bool
 acquire_goes_back capacity acquires.LoadsHead old = false
 acquire_goes_back capacity (acquires.LoadsNext head) old = false
@@ -113,7 +125,7 @@ acquire_goes_back capacity (acquires.Scans index) old =
 
 -- ---- release
 
--- one index less is borrowed, and this one is proposed
+-- the head word once one index less is borrowed and this one is proposed
 abbrev pub head_given_back : (head index : ℕ) → ℕ
 head_given_back head index =
     head_word
@@ -123,21 +135,23 @@ head_given_back head index =
       borrowed_indices = (borrowed head + (2 ^ 32 - 1)) % 2 ^ 32;
     })
 
--- the last index is given back, and the set is locked
+-- the head word once the last index is given back and the set is locked
 abbrev pub head_locked : (head index : ℕ) → ℕ
 head_locked head index =
     head_word
     (record { head = index; aba = (aba head + 1) % 2 ^ 16; borrowed_indices = locked })
 
+-- whether a release that may lock locks the set: its index is the last one that is borrowed
 abbrev pub locks : Bool → ℕ → Bool
 locks lock head = lock && (borrowed head == 1)
 
+-- the head word that a release leaves where it found this one
 abbrev pub head_released : Bool → (head index : ℕ) → ℕ
 head_released lock head index =
     if locks lock head then head_locked head index else head_given_back head index
 
--- clear the flag; load the head; store what it proposes as the next
--- index of this one; exchange the head; subtract 1 from the head
+-- What the release asks for, step by step: clear the flag; load the head; store what it proposes as the next index of
+-- this one; exchange the head; subtract 1 from the head.
 abbrev pub release_asks : Bool → (capacity index : ℕ) → ReleaseStage → Want (Unit {0})
 release_asks lock capacity index releases.ClearsFlag =
     wants.Ask
@@ -150,10 +164,12 @@ release_asks lock capacity index (releases.ExchangesHead head) =
 release_asks lock capacity index releases.Subtracts =
     wants.Ask (record { word = 0; op = Sub 1 })
 
+-- the state that a release answers where it found this head
 abbrev pub state_after : Bool → ℕ → ReleaseState
 state_after lock head = if locks lock head then Locked else Unlocked
 
 module _ {M : Type 0} where
+  -- a release in a set of this capacity before its first step
   abbrev pub first_release : ℕ → Release M
   first_release capacity =
       record {
@@ -162,14 +178,15 @@ module _ {M : Type 0} where
         of = record {};
       }
 
+  -- the call at this stage
   abbrev pub at_release : Release M → ReleaseStage → Release M
   at_release call stage = record call { stage = stage }
 
+  -- what the release waits for
   abbrev pub release_want : Bool → Release M → ℕ → Want (Unit {0})
   release_want lock call index = release_asks lock call.capacity index call.stage
 
-  -- where the head has moved, a release that may lock goes on from the
-  -- head found, and any other one only subtracts
+  -- where the head has moved, a release that may lock goes on from the head found, and any other one only subtracts
   abbrev pub release_takes : Bool → Release M → ReleaseStage → ℕ
       → After (Release M) ReleaseState
   release_takes lock call releases.ClearsFlag old =
@@ -186,10 +203,11 @@ module _ {M : Type 0} where
       else GoOn (at_release call releases.Subtracts)
   release_takes lock call releases.Subtracts old = Done Unlocked
 
+  -- how the release goes on from the stage at which it is, by the old value of its word
   abbrev pub release_after : Bool → Release M → ℕ → After (Release M) ReleaseState
   release_after lock call old = release_takes lock call call.stage old
 
--- the head has moved
+-- whether the release begins its loop again once it is handed this old value: it may lock, and the head has moved
 abbrev pub release_goes_back : Bool → ReleaseStage → ℕ → Bool
 release_goes_back lock releases.ClearsFlag old = false
 release_goes_back lock releases.LoadsHead old = false
@@ -197,7 +215,7 @@ release_goes_back lock (releases.StoresNext head) old = false
 release_goes_back lock (releases.ExchangesHead head) old = lock && not (old == head)
 release_goes_back lock releases.Subtracts old = false
 
--- where it does not lock, it goes down at each step
+-- a number that each step of a release that may not lock lowers
 abbrev pub release_left : ReleaseStage → ℕ
 release_left releases.ClearsFlag = 4
 release_left releases.LoadsHead = 3
@@ -207,11 +225,14 @@ release_left releases.Subtracts = 0
 
 -- ---- the number of borrowed indices, and the lock
 
+-- how many indices are borrowed: none where the set is locked
 abbrev pub borrowed_number : ℕ → ℕ
 borrowed_number head = if says_locked head then 0 else borrowed head
 
+-- a count ends with its one step
 abbrev pub borrowed_after : BorrowedIndices → ℕ → After BorrowedIndices ℕ
 borrowed_after call old = Done (borrowed_number old)
 
+-- a look at the lock ends with its one step
 abbrev pub locked_after : IsLocked → ℕ → After IsLocked Bool
 locked_after call old = Done (says_locked old)

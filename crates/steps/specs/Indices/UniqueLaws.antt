@@ -1,5 +1,5 @@
--- What the calls of the unique index set keep to: a store tells them nothing, and one that ends by
--- itself comes nearer to its end at each step.
+-- What the calls of the unique index set keep to: a store tells them nothing, and one that ends by itself comes nearer
+-- to its end at each step.
 use Rattle.std.specs.Prelude.{◌≡◌, ℕ, ◌+◌, ◌<◌, ◌≤◌, Bool, false, IsTrue, refl}
 use Rattle.std.proofs.Common.{arith, ap}
 use Rattle.steps.specs.Ask.{is_store}
@@ -41,11 +41,12 @@ module _ {M : Type 0} where
   release_tells lock c (releases.ExchangesHead head) index room m n t = no_store t
   release_tells lock c releases.Subtracts index room m n t = no_store t
 
+  -- one more than the steps that are left of the call, and 0 once it has ended
   abbrev release_then : After (Release M) ReleaseState → ℕ
   release_then (GoOn d) = release_left d.stage + 1
   release_then (Done e) = 0
 
-  -- after each step of a release in the default mode, fewer are left
+  -- each step of a release in the default mode after which it goes on leaves fewer steps than were left before
   release_stage_fewer : (c : Release M) (stage : ReleaseStage) (k : ℕ)
       → release_then (release_takes false c stage k) ≤ release_left stage
   release_stage_fewer c releases.ClearsFlag k = omega arith
@@ -56,17 +57,21 @@ module _ {M : Type 0} where
       (GoOn (at_release c releases.Subtracts)) (λ e. omega arith) (λ e. omega arith)
   release_stage_fewer c releases.Subtracts k = omega arith
 
+  -- a release that may not lock has fewer steps left where it goes on
   pub release_fewer : (c d : Release M) (k : ℕ) → release_after false c k ≡ GoOn d
       → release_left d.stage < release_left c.stage
   release_fewer c d k goes =
       let e = ap release_then goes in let f = release_stage_fewer c c.stage k in omega arith
 
+-- a load is no store, so there is no store whose old value it could use
 pub load_tells : {A : Type 0} (word : ℕ) (after : ℕ → A) (room : Unit {0}) (m n : ℕ)
     → IsTrue (is_store (load word)) → (after m ≡ after n) × (room ≡ room)
 load_tells word after room m n t = no_store t
 
+-- the count never goes on: it ends with its first step
 pub borrowed_fewer : (c d : BorrowedIndices) (n : ℕ) → borrowed_after c n ≡ GoOn d → 0 < 0
 borrowed_fewer c d n goes = cc
 
+-- the look at the lock never goes on: it ends with its first step
 pub locked_fewer : (c d : IsLocked) (n : ℕ) → locked_after c n ≡ GoOn d → 0 < 0
 locked_fewer c d n goes = cc

@@ -16,9 +16,10 @@ index_in word = word % 2 ^ 32
 abbrev pub inner_release : ℕ → ReleaseStage → Release DefaultMode
 inner_release slots stage = record { capacity = slots; stage = stage; of = record {} }
 
--- what it asks for, and how it goes on; the set's words come first
+-- what the release asks for; the set's words come first
 abbrev pub back_asks : (slots index : ℕ) → ReleaseStage → Want (Unit {0})
 back_asks slots index stage = release_asks false slots index stage
 
+-- where the release goes on to from the old value of its word
 abbrev pub back_takes : ℕ → ReleaseStage → ℕ → After (Release DefaultMode) ReleaseState
 back_takes slots stage old = release_takes false (inner_release slots stage) stage old

@@ -48,7 +48,7 @@ pub part_tells : {C E R : Type 0} (base : ℕ) (want : Want (Unit {0})) {a b : A
 part_tells base want told t =
     let same = told (shifted_store base want t) in (ap (part_after base) same.0, same.1)
 
--- nor does a store of the release of a place
+-- after a store the release of an index goes on in the same way, whatever its word held before
 back_tells : (slots index : ℕ) (stage : ReleaseStage) (m n : ℕ)
     → IsTrue (is_store (back_asks slots index stage)) → back_takes slots stage m ≡ back_takes slots stage n
 back_tells slots index stage m n t =
@@ -61,7 +61,7 @@ stored c write read full =
     then GoOn (overflow.at_push (send.inner_push c.queue (pushes.StoresWrite write read)) (pushes.MovesRead read))
     else Done Added
 
--- no store of a send tells it anything
+-- after a store a send goes on in the same way, whatever its word held before
 pub send_tells : (c : Send) (stage : SendStage) (given : ℕ) (room : Unit {0}) (m n : ℕ)
     → IsTrue (is_store (send.send_asks c.slots c.queue stage given))
     → (send.send_takes c stage given m ≡ send.send_takes c stage given n) × (room ≡ room)
@@ -85,7 +85,7 @@ send_tells c (sends.Pushes (pushes.LoadsCell read)) given room m n t =
 send_tells c (sends.Releases index stage) given room m n t =
     (ap (send.send_released c index) (back_tells c.slots index stage m n t), refl)
 
--- nor do the stores of a take-back
+-- after a store a take-back goes on in the same way, whatever its word held before
 pub take_back_tells : (c : TakeBack) (stage : TakeBackStage) (room : Unit {0}) (m n : ℕ)
     → IsTrue (is_store (take_back.take_back_asks c.slots c.queue stage))
     → (take_back.take_back_takes c stage m ≡ take_back.take_back_takes c stage n) × (room ≡ room)
@@ -100,7 +100,7 @@ take_back_tells c (take_backs.Pops (pops.StoresRead read) found) room m n t =
 take_back_tells c (take_backs.Releases index stage) room m n t =
     (ap (take_back.take_back_released c index) (back_tells c.slots index stage m n t), refl)
 
--- nor do those of a reclaim
+-- after a store a reclaim goes on in the same way, whatever its word held before
 pub reclaim_tells : (c : Reclaim) (stage : ReclaimStage) (places : List Place)
     (room : Unit {0}) (m n : ℕ)
     → IsTrue (is_store (reclaim.reclaim_asks c.slots c.queue stage))

@@ -15,7 +15,7 @@ shifted base (wants.Question question) = wants.Question question
 shifted base wants.Nothing = wants.Nothing
 
 module _ {C E : Type 0} where
-  -- it goes on and ends as the call itself
+  -- a call on a part goes on and ends as the call itself
   abbrev pub part_after : ℕ → After C E → After (Part C) E
   part_after base (GoOn call) = GoOn (record { base = base; call = call })
   part_after base (Done end) = Done end

@@ -3,12 +3,13 @@ use Rattle.std.specs.Prelude.{ℕ, zero, suc, ◌+◌, ◌-◌, Bool, true, fals
 use Rattle.steps.specs.declared.loan.places.Place.{Place}
 use Rattle.steps.specs.declared.loan.places.Place.TheVariants.{Free, Loaned, Sent}
 
+-- whether the sender has sent the index
 abbrev pub is_sent : Place → Bool
 is_sent Free = false
 is_sent Loaned = false
 is_sent Sent = true
 
--- what is past the slots is free
+-- where the sender has the index; what is past the slots is free
 abbrev pub place_at : List Place → ℕ → Place
 place_at places index = slice_index_or places index Free
 

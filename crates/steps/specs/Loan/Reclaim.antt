@@ -25,10 +25,12 @@ use Rattle.steps.specs.declared.queues.overflow.PopStage.TheVariants as overflow
 use Rattle.steps.specs.declared.queues.ring.Pop.{Pop}
 use Rattle.steps.specs.declared.queues.ring.PopStage.TheVariants as ring_stages
 
+-- a reclaim before its first step
 abbrev pub first_reclaim : (slots queue : ℕ) → Reclaim
 first_reclaim slots queue =
     record { slots = slots; queue = queue; stage = Drains (overflow.first_pop queue).stage }
 
+-- the reclaim goes on at this stage
 abbrev pub at_reclaim : Reclaim → ReclaimStage → After Reclaim ℕ
 at_reclaim call stage = GoOn (record call { stage = stage })
 
@@ -36,7 +38,8 @@ at_reclaim call stage = GoOn (record call { stage = stage })
 abbrev pub inner_overflow_pop : ℕ → PopStage → overflow_pops.Pop
 inner_overflow_pop queue stage = record { capacity = queue; stage = stage }
 
--- pop the submission queue; pop the completion queue; release
+-- What the reclaim asks for: first the pops of the submission queue,
+-- then those of the completion queue, then the releases.
 abbrev pub reclaim_asks : (slots queue : ℕ) → ReclaimStage → Want (Unit {0})
 reclaim_asks slots queue (Drains stage) =
     shifted (submission_word slots) (overflow.pop_asks queue stage)
@@ -44,10 +47,12 @@ reclaim_asks slots queue (Empties stage) =
     shifted (completion_word slots queue) (pop_asks stage)
 reclaim_asks slots queue (Releases number index stage) = back_asks slots index stage
 
+-- what the reclaim waits for
 abbrev pub reclaim_want : Reclaim → Want (Unit {0})
 reclaim_want call = reclaim_asks call.slots call.queue call.stage
 
--- each pop that answers an index is followed by another one
+-- The reclaim after a step of its pop of the submission queue:
+-- each pop that answers an index is followed by another one.
 abbrev pub reclaim_drained : Reclaim → After overflow_pops.Pop Bool → After Reclaim ℕ
 reclaim_drained call (GoOn pop) = at_reclaim call (Drains pop.stage)
 reclaim_drained call (Done true) = at_reclaim call (Drains overflow_stages.LoadsRead)
@@ -58,16 +63,21 @@ abbrev pub reclaim_releases : Reclaim → ℕ → Option ℕ → After Reclaim �
 reclaim_releases call number None = Done number
 reclaim_releases call number (Some index) = at_reclaim call (Releases number index ClearsFlag)
 
+-- the reclaim releases the next index that is sent, from this one on, or is done with this number
 abbrev pub reclaim_comes_to : Reclaim → List Place → (number from : ℕ) → After Reclaim ℕ
 reclaim_comes_to call places number from =
     reclaim_releases call number (next_sent places call.slots from)
 
+-- The reclaim after a step of its pop of the completion queue:
+-- once that queue is empty, the indices still sent are released.
 abbrev pub reclaim_emptied : Reclaim → List Place → After (Pop ℕ OneWord) Bool → After Reclaim ℕ
 reclaim_emptied call places (GoOn pop) = at_reclaim call (Empties pop.stage)
 reclaim_emptied call places (Done true) =
     at_reclaim call (Empties ring_stages.LoadsRead)
 reclaim_emptied call places (Done false) = reclaim_comes_to call places 0 0
 
+-- The reclaim after a step of its release of an index:
+-- once that has ended, one index more is back, and the next one follows.
 abbrev pub reclaim_released : Reclaim → List Place → (number index : ℕ) → After (Release DefaultMode) ReleaseState
     → After Reclaim ℕ
 reclaim_released call places number index (GoOn release) =
@@ -75,6 +85,8 @@ reclaim_released call places number index (GoOn release) =
 reclaim_released call places number index (Done state) =
     reclaim_comes_to call places ((number + 1) % 2 ^ 64) ((index + 1) % 2 ^ 32)
 
+-- Where the reclaim goes on to from the old value of its word: it drains the submission queue, empties the completion
+-- queue, and releases each index that its table has as sent.
 abbrev pub reclaim_takes : Reclaim → ReclaimStage → List Place → ℕ → After Reclaim ℕ
 reclaim_takes call (Drains stage) places old =
     reclaim_drained call
@@ -84,10 +96,12 @@ reclaim_takes call (Empties stage) places old =
 reclaim_takes call (Releases number index stage) places old =
     reclaim_released call places number index (back_takes call.slots stage old)
 
+-- how the reclaim goes on from the stage at which it is, by the old value of its word
 abbrev pub reclaim_after : Reclaim → List Place → ℕ → After Reclaim ℕ
 reclaim_after call places old = reclaim_takes call call.stage places old
 
--- the receiver has moved the read position of the submission queue
+-- Whether the reclaim begins its loop again once it is handed this old value: the read position of the submission queue
+-- has moved since the reclaim loaded it.
 abbrev pub reclaim_goes_back : ReclaimStage → ℕ → Bool
 reclaim_goes_back (Drains stage) old = overflow.goes_back stage old
 reclaim_goes_back (Empties stage) old = false

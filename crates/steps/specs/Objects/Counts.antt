@@ -14,7 +14,7 @@ states_from place (count ∷ counts) =
     then states_from (place + 1) counts
     else record { bit = place; count = count } ∷ states_from (place + 1) counts
 
--- all that stand
+-- the places that have a count, ascending, with their counts
 abbrev pub states : List ℕ → List BitState
 states counts = states_from 0 counts
 

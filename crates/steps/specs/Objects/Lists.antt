@@ -2,8 +2,8 @@
 use Rattle.std.specs.Prelude.{ℕ, ◌+◌, ◌-◌, ◌^◌, ◌==◌, ◌&&◌, Bool, not, Option, Some, None, List, [], ◌∷◌, ◌++◌, length}
 use Rattle.std.specs.Prelude.{drop, min, nat_lt, slice_get, if◌then◌else◌}
 
--- A list of at most so many values. Each value has a position, one more than the value before it;
--- the greatest number of 64 bits is the position of none.
+-- A list of at most so many values. Each value has a position, one more than the value before it; the greatest number
+-- of 64 bits is the position of none.
 pub record Bounded (V : Type 0) : Type 0 where
   pub capacity : ℕ
   -- the position of the oldest value, or of the next one where there is none
@@ -11,6 +11,7 @@ pub record Bounded (V : Type 0) : Type 0 where
   pub values : List V
 
 module _ {V : Type 0} where
+  -- an empty list whose next item has this position
   abbrev pub opened_at : (capacity position : ℕ) → Bounded V
   opened_at capacity position =
       record { capacity = capacity; first = position; values = [] }
@@ -23,6 +24,7 @@ module _ {V : Type 0} where
   abbrev pub front : Bounded V → Option V
   front q = slice_get q.values 0
 
+  -- the list without its front, which moves its first position on
   abbrev pub popped : Bounded V → Bounded V
   popped q =
       record q { first = q.first + min 1 (length q.values); values = drop 1 q.values }
@@ -38,6 +40,7 @@ module _ {V : Type 0} where
   abbrev pub takes_more : Bounded V → Bool
   takes_more q = nat_lt (length q.values) q.capacity && has_position q
 
+  -- the list with the value behind, where there is room and a position left
   abbrev pub pushed : Bounded V → V → Bounded V
   pushed q value =
       if has_position q then record q { values = appended q.capacity q.values value } else q
@@ -48,7 +51,7 @@ module _ {V : Type 0} where
   abbrev pub cut : ℕ → List V → List V
   cut capacity values = if nat_lt capacity (length values) then drop 1 values else values
 
-  -- it is answered
+  -- the front that leaves where the list is too long, which a push answers
   abbrev pub cut_off : ℕ → List V → Option V
   cut_off capacity values =
       if nat_lt capacity (length values) then slice_get values 0 else None
@@ -62,6 +65,8 @@ module _ {V : Type 0} where
   handed_back q value =
       if takes_in q then cut_off q.capacity (q.values ++ value ∷ []) else Some value
 
+  -- The list once a value is pushed: it is added behind, and the oldest one is dropped where there would be more than
+  -- the capacity; nothing is added at capacity 0 or without a position left.
   abbrev pub pushed_over : Bounded V → V → Bounded V
   pushed_over q value =
       if takes_in q

@@ -11,6 +11,7 @@ module _ {V : Type 0} where
   abbrev pub has_version : Versioned V → Bool
   has_version s = not (s.version == 2 ^ 64 - 1)
 
+  -- the value after a store, which needs a version
   abbrev pub stored : Versioned V → V → Versioned V
   stored s value =
       if has_version s then record { value = value; version = s.version + 1 } else s

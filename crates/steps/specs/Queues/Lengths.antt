@@ -12,29 +12,35 @@ use Rattle.steps.specs.declared.queues.lengths.LenStage.TheVariants.{LoadsWrite,
 abbrev pub number_waiting : (capacity write read : ℕ) → ℕ
 number_waiting capacity write read = if capacity == 0 then 0 else distance write read
 
+-- a call for the length before its first step
 abbrev pub first_len : ℕ → Len
 first_len capacity = record { capacity = capacity; stage = LoadsWrite }
 
+-- the call at this stage
 abbrev pub at_len : Len → LenStage → Len
 at_len call stage = record { capacity = call.capacity; stage = stage }
 
--- load write; load read; load write; load read
+-- what the call for the length asks for, step by step: load write; load read; load write; load read
 abbrev pub len_asks : LenStage → Want (Unit {0})
 len_asks LoadsWrite = load 0
 len_asks (LoadsRead write) = load 1
 len_asks (LoadsWriteAgain write read) = load 0
 len_asks (LoadsReadAgain write read) = load 1
 
+-- what the call for the length waits for
 abbrev pub len_want : Len → Want (Unit {0})
 len_want call = len_asks call.stage
 
--- a position that has moved since it was loaded
+-- Whether the call for the length begins again once it is handed this old value:
+-- a position has moved since it was loaded.
 abbrev pub turns_back : LenStage → ℕ → Bool
 turns_back LoadsWrite old = false
 turns_back (LoadsRead write) old = false
 turns_back (LoadsWriteAgain write read) old = not (old == write)
 turns_back (LoadsReadAgain write read) old = not (old == read)
 
+-- Where the call goes on to from the old value of its word: it loads both positions twice, and begins again unless
+-- neither has moved between.
 abbrev pub len_takes : Len → LenStage → ℕ → After Len ℕ
 len_takes call LoadsWrite old = GoOn (at_len call (LoadsRead old))
 len_takes call (LoadsRead write) old = GoOn (at_len call (LoadsWriteAgain write old))
@@ -47,5 +53,6 @@ len_takes call (LoadsReadAgain write read) old =
     then Done (number_waiting call.capacity write read)
     else GoOn (first_len call.capacity)
 
+-- how the call for the length goes on from the stage at which it is, by the old value of its word
 abbrev pub len_after : Len → ℕ → After Len ℕ
 len_after call old = len_takes call call.stage old

@@ -20,14 +20,14 @@ use Rattle.steps.specs.declared.queues.overflow.PopStage.TheVariants as pops
 abbrev pub cell_word : (capacity position : ℕ) → ℕ
 cell_word capacity position = 4 + position % (capacity + 1)
 
--- moves the word on from this position
+-- an exchange that moves the word on from this position
 abbrev pub move : (word position : ℕ) → Want (Unit {0})
 move word position =
     wants.Ask (record { word = word; op = Exchange position (after_position position) })
 
 -- ---- push
 
--- without capacity the value is handed back, and no word is asked for
+-- a push before its first step: without capacity the value is handed back, and no word is asked for
 abbrev pub first_push : ℕ → Push
 first_push capacity =
     record {
@@ -35,11 +35,12 @@ first_push capacity =
       stage = if capacity == 0 then pushes.HandsBack else pushes.LoadsWrite;
     }
 
+-- the call at this stage
 abbrev pub at_push : Push → PushStage → Push
 at_push call stage = record call { stage = stage }
 
--- load write; load read; store the cell; store write + 1;
--- move read on; load the cell of the old read
+-- What the push asks for, step by step: load write; load read; store the cell; store write + 1; move read on; load the
+-- cell of the old read.
 abbrev pub push_asks : ℕ → PushStage → ℕ → Want (Unit {0})
 push_asks capacity pushes.HandsBack value = wants.Nothing
 push_asks capacity pushes.LoadsWrite value = load 0
@@ -51,11 +52,12 @@ push_asks capacity (pushes.StoresWrite write read) value =
 push_asks capacity (pushes.MovesRead read) value = move 1 read
 push_asks capacity (pushes.LoadsCell read) value = load (cell_word capacity read)
 
+-- what the push waits for
 abbrev pub push_want : Push → ℕ → Want (Unit {0})
 push_want call value = push_asks call.capacity call.stage value
 
--- the queue was full where the read position was so far
--- behind; where it has moved since, there is room
+-- Where the push goes on to from the old value of its word: the queue was full where the read position was so far
+-- behind; where it has moved since, there is room.
 abbrev pub push_takes : Push → PushStage → ℕ → After Push PushEnd
 push_takes call pushes.HandsBack old = Done Own
 push_takes call pushes.LoadsWrite old =
@@ -72,10 +74,11 @@ push_takes call (pushes.MovesRead read) old =
     if old == read then GoOn (at_push call (pushes.LoadsCell read)) else Done Added
 push_takes call (pushes.LoadsCell read) old = Done Oldest
 
+-- how the push goes on from the stage at which it is, by the old value of its word
 abbrev pub push_after : Push → ℕ → After Push PushEnd
 push_after call old = push_takes call call.stage old
 
--- the oldest value is kept
+-- the room of the push after a step: it keeps the oldest value, once that is loaded
 abbrev pub push_keeps : OneWord → PushStage → ℕ → OneWord
 push_keeps room pushes.HandsBack old = room
 push_keeps room pushes.LoadsWrite old = room
@@ -85,16 +88,17 @@ push_keeps room (pushes.StoresWrite write read) old = room
 push_keeps room (pushes.MovesRead read) old = room
 push_keeps room (pushes.LoadsCell read) old = record { 0 = old }
 
+-- the room of the push after a step that was handed this old value
 abbrev pub push_kept : Push → OneWord → ℕ → OneWord
 push_kept call room old = push_keeps room call.stage old
 
--- of the value that was given and the one that was read
+-- what a push hands back: nothing, the value that it was given, or the oldest, which it has read
 abbrev pub push_answer : (given oldest : ℕ) → PushEnd → Option ℕ
 push_answer given oldest Added = None
 push_answer given oldest Own = Some given
 push_answer given oldest Oldest = Some oldest
 
--- it goes down at each step
+-- a number that each step of the push lowers
 abbrev pub push_left : PushStage → ℕ
 push_left pushes.HandsBack = 0
 push_left pushes.LoadsWrite = 5
@@ -106,6 +110,7 @@ push_left (pushes.LoadsCell read) = 0
 
 -- ---- pop
 
+-- a pop of a queue of this capacity before its first step: a queue of capacity 0 has nothing to load
 abbrev pub first_pop : ℕ → Pop
 first_pop capacity =
     record {
@@ -113,10 +118,11 @@ first_pop capacity =
       stage = if capacity == 0 then pops.FindsNone else pops.LoadsRead;
     }
 
+-- the call at this stage
 abbrev pub at_pop : Pop → PopStage → Pop
 at_pop call stage = record call { stage = stage }
 
--- load read; load write; load the cell; move read on
+-- what the pop asks for, step by step: load read; load write; load the cell; move read on
 abbrev pub pop_asks : ℕ → PopStage → Want (Unit {0})
 pop_asks capacity pops.FindsNone = wants.Nothing
 pop_asks capacity pops.LoadsRead = load 1
@@ -124,10 +130,12 @@ pop_asks capacity (pops.LoadsWrite read) = load 0
 pop_asks capacity (pops.LoadsCell read) = load (cell_word capacity read)
 pop_asks capacity (pops.MovesRead read) = move 1 read
 
+-- what the pop waits for
 abbrev pub pop_want : Pop → Want (Unit {0})
 pop_want call = pop_asks call.capacity call.stage
 
--- where the read position has moved, the cell is loaded again, at the position found
+-- Where the pop goes on to from the old value of its word: where the read position has moved, the cell is loaded again,
+-- at the position found.
 abbrev pub pop_takes : Pop → PopStage → ℕ → After Pop Bool
 pop_takes call pops.FindsNone old = Done false
 pop_takes call pops.LoadsRead old = GoOn (at_pop call (pops.LoadsWrite old))
@@ -138,10 +146,11 @@ pop_takes call (pops.LoadsCell read) old =
 pop_takes call (pops.MovesRead read) old =
     if old == read then Done true else GoOn (at_pop call (pops.LoadsCell old))
 
+-- how the pop goes on from the stage at which it is, by the old value of its word
 abbrev pub pop_after : Pop → ℕ → After Pop Bool
 pop_after call old = pop_takes call call.stage old
 
--- the value in the cell is kept
+-- the room of the pop after a step: it keeps the value of the cell, once that is loaded
 abbrev pub pop_keeps : OneWord → PopStage → ℕ → OneWord
 pop_keeps room pops.FindsNone old = room
 pop_keeps room pops.LoadsRead old = room
@@ -149,14 +158,17 @@ pop_keeps room (pops.LoadsWrite read) old = room
 pop_keeps room (pops.LoadsCell read) old = record { 0 = old }
 pop_keeps room (pops.MovesRead read) old = room
 
+-- the room of the pop after a step that was handed this old value
 abbrev pub pop_kept : Pop → OneWord → ℕ → OneWord
 pop_kept call room old = pop_keeps room call.stage old
 
--- the value that was read, where there was one
+-- what the pop answers: the value that it has read, if there was one
 abbrev pub pop_answer : ℕ → Bool → Option ℕ
 pop_answer value true = Some value
 pop_answer value false = None
 
+-- Whether the pop begins its loop again once it is handed this old value:
+-- the read position has moved since it was loaded.
 abbrev pub goes_back : PopStage → ℕ → Bool
 goes_back pops.FindsNone old = false
 goes_back pops.LoadsRead old = false

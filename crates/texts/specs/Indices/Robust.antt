@@ -58,6 +58,7 @@ robust_call name ws = do
 abbrev pub owned_text : (index owner : ℕ) → List ℕ
 owned_text index owner = decimal index ++ codes " " ++ decimal owner
 
+-- a call, as a schedule names it
 abbrev pub call_text : RobustStart → List ℕ
 call_text (Acquire owner) = codes "acquire " ++ decimal owner
 call_text (Release index owner mode) =
@@ -67,5 +68,6 @@ call_text (Recover mode) = codes "recover " ++ mode_text mode
 call_text BorrowedIndices = codes "borrowed_indices"
 call_text IsLocked = codes "is_locked"
 
+-- why a release failed, as it is printed
 abbrev pub failure_text : RobustUniqueIndexSetReleaseError → List ℕ
 failure_text IndexIsNotOwnedByProvidedOwner = codes "IndexIsNotOwnedByProvidedOwner"

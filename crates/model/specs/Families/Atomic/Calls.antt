@@ -22,9 +22,11 @@ use Rattle.model.specs.Step.{Going, as_call}
 
 -- ---- the words
 
+-- the word of the version
 abbrev pub version_word : ℕ
 version_word = 0
 
+-- the word of the producer's role
 abbrev pub producer_word : ℕ
 producer_word = 1
 
@@ -34,10 +36,12 @@ producer_word = 1
 abbrev pub fresh : buffers.Buffer 128
 fresh = record { words = replicate 128 0 }
 
+-- a call for the version as it begins
 abbrev pub look_version : looks.Version
 look_version = record {}
 
 module _ {T : Type 0} where
+  -- a call of the single value as it begins
   abbrev pub first : AtomicStart T → AtomicFlight T
   first starts.AcquireProducer =
       Acquire (record { call = record { word = producer_word }; given = tt; room = tt })
@@ -70,7 +74,7 @@ module _ {T : Type 0} where
   goes_back (Look run) old = false
   goes_back (Version run) old = false
 
-  -- how it goes on from the old value of its word
+  -- how a call under way goes on from the old value of its word
   abbrev pub after : Coding T → AtomicFlight T → ℕ → After (AtomicFlight T) (Answer T)
   after code (Acquire run) old =
       as_call Acquire answers.Truth

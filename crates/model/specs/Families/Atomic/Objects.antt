@@ -8,10 +8,12 @@ use Rattle.model.specs.Objects.{Object}
 use Rattle.std.specs.Prelude.{true}
 
 module _ {T : Type 0} where
+  -- the value that was stored last, after a call
   abbrev pub value_after : T → Start T → T
   value_after value (Atomic (Store new)) = new
   value_after value other = value
 
+  -- what a call answers where this value was stored last
   abbrev pub value_answer : T → Start T → Answer T
   value_answer value (Atomic (Store new)) = answers.Truth true
   value_answer value (Atomic Load) = answers.Loaded value

@@ -53,10 +53,12 @@ module _ {T : Type 0} where
   abbrev pub call_rows : Option ℕ → ℕ → AtomicStart T → List (Bool × Refusal)
   call_rows producer p start = (lacks_role producer p start, NoRole) ∷ []
 
+  -- what is tested before a party begins the call, by who holds the producer's role
   abbrev pub kept_rows : AtomicStart T → Registry T → ℕ → List (Bool × Refusal)
   kept_rows start (registries.Atomic producer) p = call_rows producer p start
   kept_rows start kept p = (true, WrongCall) ∷ []
 
+  -- how a call of the single value begins, and what is tested before
   abbrev pub begin : Kind → AtomicStart T → Beginning (Flight T) (Registry T)
   begin kind start =
       record {

@@ -27,10 +27,12 @@ abbrev pub cell_in : ℕ → List ℕ → List ℕ
 cell_in size words =
     take size (drop (cell_word size (slice_index words version_word - 1)) words)
 
+-- the operation with which a store takes effect
 abbrev pub add_to_version : Ask
 add_to_version = record { word = version_word; op = Add 1 }
 
--- it succeeds where the version is this one
+-- The operation with which a load takes effect:
+-- an exchange of the version for itself, which succeeds where it is this one.
 abbrev pub check_of_version : ℕ → Ask
 check_of_version version = record { word = version_word; op = Exchange version version }
 
@@ -43,8 +45,8 @@ module _ {T : Type 0} where
   abbrev pub value_in : Coding T → List (Event T) → T
   value_in code events = standing (value_of_zeros code) (moments events)
 
-  -- A load answers the value that stands. The version is 1 more than the number of the values that
-  -- were stored as the look ends.
+  -- A load answers the value that stands. The version is 1 more than
+  -- the number of the values that were stored as the look ends.
   abbrev pub AnswersRight : Coding T → List (Event T) → Event T → Type 0
   AnswersRight code before (Acted p (Atomic Load) answer) = answer ≡ Loaded (value_in code before)
   AnswersRight code before (Finished p (Atomic Version) answer) =
@@ -53,16 +55,19 @@ module _ {T : Type 0} where
 
   -- the words of the version's cell make the value that stands
   pub record IsValue (t : Trace T) : Type 0 where
+    -- stores and loads act as on one value
     pub moments : IsLegal (value_of_zeros t.world.coding) (moments t.events)
+    -- each answer is right
     pub answers : Each (AnswersRight t.world.coding) t.events
     pub cell : t.world.coding.value_of (cell_in t.world.coding.size t.world.words)
         ≡ value_in t.world.coding t.events
+    -- each answer on the role is right
     pub roles : Each GrantsRight t.events
+    -- the machine keeps who holds the role
     pub holder : KeepsHolder t.world.kept t.events
 
-  -- A store acts in the turn that adds 1 to the version, and a load in the one that finds the
-  -- version unchanged, with the value that stands. Each does so in a turn of its own party, and no
-  -- other call acts.
+  -- A store acts in the turn that adds 1 to the version, and a load in the one that finds the version unchanged, with
+  -- the value that stands. Each does so in a turn of its own party, and no other call acts.
   abbrev pub ActsRight : Trace T → Option Ask → (ℕ → Type 0) → Event T → Type 0
   ActsRight old ask IsTurnOf (Acted p (Atomic (Store value)) answer) =
       IsTurnOf p × (ask ≡ Some add_to_version)
@@ -74,17 +79,21 @@ module _ {T : Type 0} where
 
   -- ---- the promise
 
+  -- no event but a begin, an act and an end is written
   abbrev pub may_stand : Event T → Span T → Type 0
   may_stand e span = ⊥
 
+  -- what a call that has finished with this answer has written; a call of another family has not begun
   abbrev pub wrote : ℕ → Start T → Answer T → List (Event T) → Type 0
   wrote capacity (Atomic start) answer events = moments events ≡ moments_of start answer
   wrote capacity start answer events = ⊥
 
+  -- how many steps a call takes at most; a call of another family does not begin
   abbrev pub most : (capacity size : ℕ) → Start T → ℕ → ℕ
   most capacity size (Atomic start) backs = most_steps size start backs
   most capacity size start backs = 0
 
+  -- what the single value promises of each run
   abbrev pub promise : Promise T
   promise =
       record {

@@ -14,14 +14,17 @@ module _ {T : Type 0} where
   holder_after holder (Finished p (Atomic ReleaseProducer) answer) = None
   holder_after holder e = holder
 
+  -- who holds the producer's role after these events
   abbrev pub holder_of : List (Event T) → Option ℕ
   holder_of events = fold holder_after None events
 
   -- ---- the values that were stored, in the order in which they came to stand
 
+  -- the value that the event stores, if it stores one
   abbrev pub stores : Event T → List T
   stores (Acted p (Atomic (Store value)) answer) = value ∷ []
   stores e = []
 
+  -- all values that were stored, in order
   abbrev pub stored : List (Event T) → List T
   stored events = flat_map stores events

@@ -10,8 +10,8 @@ use Rattle.model.specs.declared.families.atomic.AtomicStart.TheVariants.{Acquire
 use Rattle.model.specs.Families.Atomic.Reading.{holder_of}
 
 module _ {T : Type 0} where
-  -- An acquire answers whether nobody holds the role. Its holder gives it back. A look answers
-  -- whether somebody holds it as the look ends.
+  -- An acquire answers whether nobody holds the role. Its holder gives it back. A look answers whether somebody holds
+  -- it as the look ends.
   abbrev pub GrantsRight : List (Event T) → Event T → Type 0
   GrantsRight before (Finished p (Atomic AcquireProducer) answer) =
       answer ≡ Truth (is_none (holder_of before))

@@ -13,8 +13,8 @@ use Rattle.model.specs.Families.Atomic.Calls.{after, goes_back}
 use Rattle.model.specs.Step.{Step, answer_in}
 
 module _ {T : Type 0} where
-  -- A store that is done with true acts at its last step, by which it adds 1 to the version, and a
-  -- load at its last, by which it finds the version unchanged.
+  -- A store that is done with true acts at its last step, by which it adds 1 to the version, and a load at its last, by
+  -- which it finds the version unchanged.
   abbrev pub acted : ℕ → AtomicStart T → Option (Answer T) → List (Event T)
   acted p (Store value) (Some (Truth true)) = Acted p (Atomic (Store value)) (Truth true) ∷ []
   acted p Load (Some answer) = Acted p (Atomic Load) answer ∷ []
@@ -28,6 +28,7 @@ module _ {T : Type 0} where
 
   -- ---- all that a step comes to
 
+  -- all that a step of a call of the single value comes to, where its word has this old value
   abbrev pub step : Coding T → ℕ → AtomicStart T → AtomicFlight T → ℕ → Option ℕ
       → Step (AtomicFlight T) (Option ℕ) T
   step code p start flight old producer =

@@ -25,12 +25,15 @@ use Rattle.model.specs.Step.{Going, as_call}
 
 -- ---- the calls that begin
 
+-- a count as it begins
 abbrev pub add_one : counting.Set
 add_one = record {}
 
+-- a look at a place as it begins
 abbrev pub look_set : LooksSet
 look_set = record {}
 
+-- a look at a count as it begins
 abbrev pub look_count : LooksCount
 look_count = record {}
 
@@ -74,17 +77,18 @@ goes_back (TakeAll run) old = false
 goes_back (IsSet run) old = false
 goes_back (CountOf run) old = false
 
--- its next step writes at most so many events, apart from the end of the call
+-- how many events the next step of a call writes at most, apart from the end of the call
 abbrev pub most_effects : BitsFlight → ℕ
 most_effects (ResetAll run) = 64
 most_effects flight = 1
 
 module _ {T : Type 0} where
+  -- what a reset of the next place answers
   abbrev pub reset_answer : Option ℕ → Answer T
   reset_answer None = answers.ResetNone
   reset_answer (Some bit) = answers.Reset bit
 
-  -- how it goes on from the old value of its word
+  -- how a call under way goes on from the old value of its word
   abbrev pub after : BitsFlight → ℕ → After BitsFlight (Answer T)
   after (Set run) old =
       as_call Set answers.Truth

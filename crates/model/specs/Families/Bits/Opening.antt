@@ -22,6 +22,7 @@ bits_words capacity = replicate (1 + elements capacity) 0
 abbrev pub counts_words : ℕ → List ℕ
 counts_words capacity = replicate capacity 0
 
+-- how a bit set opens, given its words at each capacity
 abbrev pub opening_with : (ℕ → List ℕ) → Opening
 opening_with words =
     record {
@@ -31,9 +32,11 @@ opening_with words =
       kept = λ capacity. registries.Nothing;
     }
 
+-- how a bit set opens
 abbrev pub bits_opening : Opening
 bits_opening = opening_with bits_words
 
+-- how a counting bit set opens
 abbrev pub counts_opening : Opening
 counts_opening = opening_with counts_words
 
@@ -49,10 +52,12 @@ is_past capacity (Count place) = nat_le capacity place
 abbrev pub call_rows : ℕ → BitsStart → List (Bool × Refusal)
 call_rows capacity start = (is_past capacity start, BadIndex) ∷ []
 
+-- what is tested before a party begins the call
 abbrev pub kept_rows : {T : Type 0} → ℕ → BitsStart → Registry T → ℕ → List (Bool × Refusal)
 kept_rows capacity start registries.Nothing p = call_rows capacity start
 kept_rows capacity start kept p = (true, WrongCall) ∷ []
 
+-- how a call of a bit set begins, and what is tested before
 abbrev pub begin : {T : Type 0} → Kind → ℕ → BitsStart → Beginning (Flight T) (Registry T)
 begin kind capacity start =
     record {

@@ -31,20 +31,24 @@ module _ {T : Type 0} where
   HasCleared capacity before since =
       (b : ℕ) → b < capacity → standing b before ≡ 1 → 1 ≤ clears b since
 
-  -- it has come to the bit from where the reset position stood at a moment of the call: each of the
-  -- places before it, of which the first follows the last, was clear at some moment of it
+  -- The reset has come to the bit from where the reset position stood at a moment of the call: each of the places
+  -- before it, of which the first follows the last, was clear at some moment of it.
   pub record CameTo (p capacity bit : ℕ) (events : List (Event T)) : Type 0 where
+    -- the place at which its search began
     pub start : ℕ
+    -- how many places it passed
     pub passed : ℕ
     pub within : passed < capacity
     pub is : place_after capacity start passed ≡ bit
+    -- the reset position stood there at a moment of the call
     pub begun : HeldSometime p (λ part. at_most capacity (position_of part) ≡ start) events
+    -- each place that it passed was clear at a moment of the call
     pub clear : (k : ℕ) → k < passed
         → HeldSometime p (λ part. standing (place_after capacity start k) part ≡ 0) events
 
-  -- A set answers false only if the bit stood at a moment of the call. A reset of the next one
-  -- begins at the reset position, and answers None only if each bit was clear at some moment of it.
-  -- A reset of all clears what stood. A look answers whether its bit stands as it ends.
+  -- A set answers false only if the bit stood at a moment of the call. A reset of the next one begins at the reset
+  -- position, and answers None only if each bit was clear at some moment of it. A reset of all clears what stood. A
+  -- look answers whether its bit stands as it ends.
   abbrev pub BitsAnswerRight : ℕ → List (Event T) → Event T → Type 0
   BitsAnswerRight capacity before (Finished p (Bits (Set bit)) (Truth false)) =
       HeldSometime p (λ part. standing bit part ≡ 1) before
@@ -64,6 +68,7 @@ module _ {T : Type 0} where
     pub within : (b : ℕ) → t.world.capacity ≤ b → sets b t.events ≡ 0
     pub answers : Each (BitsAnswerRight t.world.capacity) t.events
 
+  -- the bit is set by a set of it that has written nothing yet
   abbrev pub MaySet : ℕ → Start T → List (Event T) → Type 0
   MaySet bit (Bits (Set b)) wrote = (b ≡ bit) × (wrote ≡ [])
   MaySet bit start wrote = ⊥
@@ -74,13 +79,14 @@ module _ {T : Type 0} where
   MayClear bit (Bits ResetAll) wrote = (b : ℕ) → bit ≤ b → clears b wrote ≡ 0
   MayClear bit start wrote = ⊥
 
+  -- where in its party's span a bit may be set or cleared
   abbrev pub bits_stand : Event T → Span T → Type 0
   bits_stand (events.Set p bit) (Open start wrote) = MaySet bit start wrote
   bits_stand (Cleared p bit) (Open start wrote) = MayClear bit start wrote
   bits_stand e span = ⊥
 
-  -- a set that answers true has set its bit, and one that answers false nothing; a reset of the
-  -- next one has cleared the bit that it answers, or nothing; a look does nothing
+  -- a set that answers true has set its bit, and one that answers false nothing; a reset of the next one has cleared
+  -- the bit that it answers, or nothing; a look does nothing
   abbrev pub BitsWrote : ℕ → Start T → Answer T → List (Event T) → Type 0
   BitsWrote capacity (Bits (Set bit)) (Truth true) wrote =
       (length wrote ≡ 1) × (sets bit wrote ≡ 1)
@@ -92,10 +98,12 @@ module _ {T : Type 0} where
   BitsWrote capacity (Bits (IsSet bit)) (Truth answer) wrote = wrote ≡ []
   BitsWrote capacity start answer wrote = ⊥
 
+  -- how many steps a call of a bit set takes at most
   abbrev pub most_of_bits : (capacity size : ℕ) → Start T → ℕ → ℕ
   most_of_bits capacity size (Bits start) backs = most_bits_steps capacity start backs
   most_of_bits capacity size start backs = 0
 
+  -- what a bit set promises of each run
   abbrev pub bits_promise : Promise T
   bits_promise =
       record {
@@ -109,8 +117,7 @@ module _ {T : Type 0} where
 
   -- ---- a counting bit set
 
-  -- something has been taken out of each place that counted above 0 when the party's call
-  -- began, by whomever
+  -- something has been taken out of each place that counted above 0 when the party's call began, by whomever
   abbrev pub HasTaken : ℕ → List (Event T) → List (Event T) → Type 0
   HasTaken capacity before since =
       (b : ℕ) → b < capacity → 1 ≤ count_at b before → 1 ≤ takes b since
@@ -151,6 +158,8 @@ module _ {T : Type 0} where
       (b : ℕ) → b < capacity → 1 ≤ count_at b before
       → (1 ≤ takes b since) ⊎ (2 ^ 64 ≤ counts b before + counts b since)
 
+  -- As `CountsAnswerRight`, where a count may wrap: answers are modulo 2^64, and a place that was counted 2^64 times
+  -- may be passed over.
   abbrev pub CountsAnswerOn : ℕ → List (Event T) → Event T → Type 0
   CountsAnswerOn capacity before (Finished p (Bits (Set place)) (Number number)) =
       AnswersCountOn p place number before
@@ -160,8 +169,8 @@ module _ {T : Type 0} where
       (place < capacity) × (number ≡ count_at place before % 2 ^ 64)
   CountsAnswerOn capacity before e = Unit {0}
 
-  -- each place was counted as often as was taken out of it in all, and as its count says, and
-  -- 2^64 times for each time that the count wrapped
+  -- each place was counted as often as was taken out of it in all, and as its count says, and 2^64 times for each time
+  -- that the count wrapped
   pub record IsCountingOn (t : Trace T) : Type 0 where
     pub conserved : (b : ℕ)
         → (wraps : ℕ)
@@ -169,6 +178,7 @@ module _ {T : Type 0} where
     pub within : (b : ℕ) → t.world.capacity ≤ b → counts b t.events ≡ 0
     pub answers : Each (CountsAnswerOn t.world.capacity) t.events
 
+  -- the place is counted by a set of it that has written nothing yet
   abbrev pub MayCount : ℕ → Start T → List (Event T) → Type 0
   MayCount place (Bits (Set b)) wrote = (b ≡ place) × (wrote ≡ [])
   MayCount place start wrote = ⊥
@@ -179,6 +189,7 @@ module _ {T : Type 0} where
       (1 ≤ number) × ((b : ℕ) → place ≤ b → takes b wrote ≡ 0)
   MayTake place number start wrote = ⊥
 
+  -- where in its party's span a place may be counted or its count taken out
   abbrev pub counts_stand : Event T → Span T → Type 0
   counts_stand (Counted p place) (Open start wrote) = MayCount place start wrote
   counts_stand (TakenOut p place number) (Open start wrote) = MayTake place number start wrote
@@ -192,10 +203,12 @@ module _ {T : Type 0} where
   CountsWrote capacity (Bits (Count place)) (Number number) wrote = wrote ≡ []
   CountsWrote capacity start answer wrote = ⊥
 
+  -- how many steps a call of a counting bit set takes at most
   abbrev pub most_of_counts : (capacity size : ℕ) → Start T → ℕ → ℕ
   most_of_counts capacity size (Bits start) backs = most_counts_steps capacity start
   most_of_counts capacity size start backs = 0
 
+  -- what a counting bit set promises of each run
   abbrev pub counts_promise : Promise T
   counts_promise =
       record {

@@ -9,18 +9,22 @@ use Rattle.model.specs.declared.event.Start.TheVariants.{Bits}
 use Rattle.model.specs.declared.families.bits.BitsStart.TheVariants.{ResetNext}
 
 module _ {T : Type 0} where
+  -- whether the event sets the bit
   abbrev pub is_set_of : ℕ → Event T → Bool
   is_set_of bit (Set p b) = b == bit
   is_set_of bit e = false
 
+  -- whether the event clears the bit
   abbrev pub is_clear_of : ℕ → Event T → Bool
   is_clear_of bit (Cleared p b) = b == bit
   is_clear_of bit e = false
 
+  -- whether the event counts the place
   abbrev pub is_count_of : ℕ → Event T → Bool
   is_count_of place (Counted p b) = b == place
   is_count_of place e = false
 
+  -- how much the event takes out of the place
   abbrev pub take_of : ℕ → Event T → ℕ
   take_of place (TakenOut p b number) = if b == place then number else 0
   take_of place e = 0
@@ -29,6 +33,7 @@ module _ {T : Type 0} where
   abbrev pub sets : ℕ → List (Event T) → ℕ
   sets bit events = count_by (is_set_of bit) events
 
+  -- how often the bit was cleared
   abbrev pub clears : ℕ → List (Event T) → ℕ
   clears bit events = count_by (is_clear_of bit) events
 
@@ -36,6 +41,7 @@ module _ {T : Type 0} where
   abbrev pub counts : ℕ → List (Event T) → ℕ
   counts place events = count_by (is_count_of place) events
 
+  -- how much was taken out of the place in all
   abbrev pub takes : ℕ → List (Event T) → ℕ
   takes place events = sum_by (take_of place) events
 
@@ -48,6 +54,7 @@ module _ {T : Type 0} where
   position_after position (Finished p (Bits ResetNext) (Reset bit)) = after_position bit
   position_after position e = position
 
+  -- where the next search begins, after these events
   abbrev pub position_of : List (Event T) → ℕ
   position_of events = fold position_after 0 events
 

@@ -14,13 +14,13 @@ use Rattle.model.specs.Families.Bits.Calls.{after, goes_back}
 use Rattle.model.specs.Step.{Step}
 
 module _ {T : Type 0} where
-  -- an exchange that found the element as it was sets the bit
+  -- what a set writes down: an exchange that found the element as it was sets the bit
   abbrev pub set_events : (p bit : ℕ) → SetStage → ℕ → List (Event T)
   set_events p bit sets.LoadsElement old = []
   set_events p bit (sets.ExchangesElement found) old =
       if old == found then events.Set p bit ∷ [] else []
 
-  -- or clears it
+  -- what a reset of the next bit writes down: an exchange that found the element as it was clears the bit
   abbrev pub reset_events : (p capacity : ℕ) → ResetNextStage → ℕ → List (Event T)
   reset_events p capacity (resets.ExchangesElement start passed found) old =
       if old == found
@@ -48,6 +48,7 @@ module _ {T : Type 0} where
 
   -- ---- all that a step comes to
 
+  -- all that a step of a bit set's call comes to, where its word has this old value
   abbrev pub step : ℕ → BitsFlight → ℕ → Step BitsFlight (Unit {0}) T
   step p flight old =
       record {

@@ -45,7 +45,7 @@ abbrev pub place_of : (capacity index : ℕ) → ℕ
 place_of capacity index = if nat_lt index capacity then index else capacity
 
 module _ {T : Type 0} where
-  -- on a container of this capacity
+  -- an add as it begins, to a container of this capacity
   abbrev pub add_of : ℕ → T → ℕ → ContainerFlight T
   add_of capacity value owner =
       Add
@@ -55,6 +55,7 @@ module _ {T : Type 0} where
         room = tt;
       })
 
+  -- a remove as it begins, in a container of this capacity
   abbrev pub remove_of : (capacity index owner : ℕ) → ReleaseMode → ContainerFlight T
   remove_of capacity index owner mode =
       Remove
@@ -64,6 +65,7 @@ module _ {T : Type 0} where
         room = tt;
       })
 
+  -- a replace as it begins, in a container of this capacity
   abbrev pub replace_of : (capacity index : ℕ) → T → ℕ → ContainerFlight T
   replace_of capacity index value owner =
       Replace
@@ -73,10 +75,12 @@ module _ {T : Type 0} where
         room = tt;
       })
 
+  -- a find of an owner's values as it begins
   abbrev pub find_of : (capacity owner : ℕ) → ContainerFlight T
   find_of capacity owner =
       Find (record { call = first_find capacity; given = owner; room = fresh_cell })
 
+  -- a recovery of an owner as it begins, in a container of this capacity
   abbrev pub recover_of : (capacity owner : ℕ) → ReleaseMode → ContainerFlight T
   recover_of capacity owner mode =
       Recover
@@ -86,19 +90,24 @@ module _ {T : Type 0} where
         room = fresh_cell;
       })
 
+  -- a look under way as a call of the model
   abbrev pub look_flight : LookOf → look_calls.Look T → ContainerFlight T
   look_flight which call = Look which call
 
+  -- a look as it begins
   abbrev pub look_of : LookOf → ℕ → ContainerFlight T
   look_of which capacity = look_flight which (looks.first_look capacity)
 
+  -- a call on the length as it begins
   abbrev pub count_of : CountOf → ℕ → ContainerFlight T
   count_of which capacity =
       Count which (record { call = first_borrowed capacity; given = tt; room = tt })
 
+  -- a look at the lock as it begins
   abbrev pub locked_of : ContainerFlight T
   locked_of = IsLocked (record { call = record {}; given = tt; room = tt })
 
+  -- a call of the container as it begins
   abbrev pub first : ℕ → ContainerStart T → ContainerFlight T
   first capacity (starts.Add value owner) = add_of capacity value owner
   first capacity (starts.Remove index owner mode) = remove_of capacity index owner mode
@@ -138,23 +147,27 @@ module _ {T : Type 0} where
 
   -- ---- answers
 
+  -- what an add answers
   abbrev pub added : Added → Answer T
   added (Ok index) = answers.Index index
   added (Err failure) = answers.NoPlace failure
 
+  -- what a remove answers
   abbrev pub removed : Removed → Answer T
   removed (Ok state) = answers.State state
   removed (Err failure) = answers.NotRemoved failure
 
+  -- what a replace answers
   abbrev pub replaced : Replaced → Answer T
   replaced (Ok nothing) = answers.Done
   replaced (Err failure) = answers.NotRemoved failure
 
+  -- what a call on the length answers, by the number
   abbrev pub counted : CountOf → ℕ → Answer T
   counted counts.Len number = answers.Number number
   counted counts.IsEmpty number = answers.Truth (number == 0)
 
-  -- of a look that leaves this state
+  -- the answer of a look that leaves this state: a new state's number of values, or whether an update has changed it
   abbrev pub looked : LookOf → ContainerState T → Bool → Answer T
   looked kinds.GetState state changed =
       answers.Number (shown_number state.shown.elements)
@@ -164,28 +177,31 @@ module _ {T : Type 0} where
 
   -- a look, from what its party's state has seen; its answer is that of the state that it leaves
 
+  -- the state of a look's party after a step that was handed this old value, before it is settled
   abbrev pub look_shows : Coding T → look_calls.Look T → ContainerState T → ℕ → ContainerState T
   look_shows code call state old =
       record state { shown = looks.look_kept code.value_of code.size call state.shown old }
 
+  -- how a look of a party that has this state goes on: it ends with the answer that its call has of the state
   abbrev pub look_came : LookOf → ContainerState T → After (look_calls.Look T) Bool
       → After (ContainerFlight T) (Answer T)
   look_came which state (GoOn call) = GoOn (Look which call)
   look_came which state (Done changed) = Done (looked which state changed)
 
+  -- how a look goes on from the old value of its word, where its party has this state
   abbrev pub look_after : Coding T → LookOf → look_calls.Look T → ContainerState T → ℕ
       → After (ContainerFlight T) (Answer T)
   look_after code which call state old =
       look_came which (look_shows code call state old)
       (looks.look_after code.size call state.seen old)
 
-  -- without a state it does not go on
+  -- how a look goes on; without a state it stays where it is
   abbrev pub look_goes : Coding T → LookOf → look_calls.Look T → Option (ContainerState T) → ℕ
       → After (ContainerFlight T) (Answer T)
   look_goes code which call None old = GoOn (Look which call)
   look_goes code which call (Some state) old = look_after code which call state old
 
-  -- a call of a party that has this state
+  -- how a call goes on from the old value of its word, whose party has this state
   abbrev pub after : Coding T → Option (ContainerState T) → ContainerFlight T → ℕ
       → After (ContainerFlight T) (Answer T)
   after code state (Add run) old =
@@ -215,16 +231,18 @@ module _ {T : Type 0} where
 
   -- ---- what a look leaves
 
-  -- a look that answers true has seen what the state shows
+  -- the state after a step of a look: one that ends with true has seen what it shows
   abbrev pub settled_if : After (look_calls.Look T) Bool → ContainerState T → ContainerState T
   settled_if (GoOn call) state = state
   settled_if (Done true) state = settled state
   settled_if (Done false) state = state
 
+  -- the state of a look's party after a step that was handed this old value
   abbrev pub look_writes : Coding T → look_calls.Look T → ContainerState T → ℕ → ContainerState T
   look_writes code call state old =
       settled_if (looks.look_after code.size call state.seen old) (look_shows code call state old)
 
+  -- the parties' states after a step of the party's look, which writes its own alone
   abbrev pub writes_state : Coding T → ℕ → look_calls.Look T → ℕ → Option (ContainerState T)
       → List (ℕ × ContainerState T) → List (ℕ × ContainerState T)
   writes_state code p call old None states = states
@@ -240,7 +258,7 @@ module _ {T : Type 0} where
 
   -- ---- refusals
 
-  -- it adds, removes or replaces for an owner who is dead
+  -- the call adds, removes or replaces for an owner who is dead
   abbrev pub acts_for_dead : List ℕ → ContainerFlight T → Bool
   acts_for_dead dead (Add run) = has_died run.given.owner dead
   acts_for_dead dead (Remove run) = has_died run.given.owner dead
@@ -251,6 +269,7 @@ module _ {T : Type 0} where
   abbrev pub going_rows : List ℕ → ContainerFlight T → List (Bool × Refusal)
   going_rows dead flight = (acts_for_dead dead flight, OwnerIsDead) ∷ []
 
+  -- what is tested before a call goes on, by who has died
   abbrev pub kept_going_rows : ContainerFlight T → Registry T → Option Bool → List (Bool × Refusal)
   kept_going_rows flight (registries.Container dead states) said = going_rows dead flight
   kept_going_rows flight kept said = []
@@ -266,7 +285,7 @@ module _ {T : Type 0} where
         most = 2;
       }
 
-  -- and of one that has what is kept
+  -- how a party's call goes on in a machine that keeps this: a look from what the party's state has seen
   abbrev pub goes : Coding T → ℕ → ContainerFlight T → ℕ → Registry T → After (Flight T) (Answer T)
   goes code p flight old (registries.Container dead states) =
       as_call flights.Container (λ answer. answer)

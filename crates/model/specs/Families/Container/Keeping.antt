@@ -13,13 +13,13 @@ use Rattle.model.specs.Families.Container.Looks.{state_in, shows, is_looking, En
 use Rattle.model.specs.Families.Container.Reading.{Copies, acts_of}
 use Rattle.model.specs.World.{World, Trace, flight_in, progress_in}
 
--- the steps of a call that has come so far
+-- the steps of a call that has come so far; 0 without a call
 abbrev pub steps_of : Option Progress → ℕ
 steps_of None = 0
 steps_of (Some progress) = progress.steps
 
 module _ {T : Type 0} where
-  -- the turn begins a look of the party, or is a step of one
+  -- whether the turn begins a look of the party, or is a step of one
   abbrev pub is_look_of : World T → ℕ → Turn T → Bool
   is_look_of w q (Begin p (Container GetState)) = p == q
   is_look_of w q (Begin p (Container UpdateState)) = p == q
@@ -39,8 +39,8 @@ module _ {T : Type 0} where
       → state_in old.world.kept p ≡ Some state
       → state_in new.world.kept p ≡ Some state
 
-  -- An update that answers false has taken one step. That step has left its state, so the state is as it
-  -- was when the update had begun.
+  -- An update that answers false has taken one step.
+  -- That step has left its state, so the state is as it was when the update had begun.
   abbrev pub FalseAtOnce : (old new : Trace T) → Type 0
   FalseAtOnce old new =
       (p : ℕ) → EndsLook p UpdateState (Truth false) old new
@@ -58,7 +58,11 @@ module _ {T : Type 0} where
 
   -- a turn keeps the parties' states
   pub record KeepsStates (old : Trace T) (turn : Turn T) (new : Trace T) : Type 0 where
+    -- no turn but a look's changes the party's state
     pub moves : MovesInLooks old turn new
+    -- an update begins with the state that is there
     pub begins : BeginsWithState old turn new
+    -- an update that answers false has left the state in one step
     pub at_once : FalseAtOnce old new
+    -- a new state shows what its own call has copied
     pub own : ShowsOwnCopies old new

@@ -24,16 +24,16 @@ use Rattle.model.specs.Shape.{IsShut}
 use Rattle.model.specs.World.{World, Trace, flight_in}
 
 module _ {T : Type 0} where
-  -- the party's state
+  -- the party's state by what the machine keeps
   abbrev pub state_in : Registry T → ℕ → Option (ContainerState T)
   state_in (registries.Container dead all) p = states.state_of p all
   state_in kept p = None
 
-  -- what it shows at an index
+  -- what a state shows at an index
   abbrev pub shows : ContainerState T → ℕ → Option T
   shows state i = shown_at state.shown.elements i
 
-  -- the party is bringing it up to date
+  -- whether the party's call under way is a look
   abbrev pub is_looking : Option (Flight T) → Bool
   is_looking (Some (flights.Container (calls.Look which call))) = true
   is_looking flight = false
@@ -46,7 +46,7 @@ module _ {T : Type 0} where
 
   -- ---- a state at rest
 
-  -- each value that it shows was copied by its party, from its index
+  -- where no look is under way, each value that a state shows was copied by its party, from its index
   abbrev pub ShowsCopies : World T → List (Event T) → Type 0
   ShowsCopies w events =
       (p i : ℕ) (state : ContainerState T) (value : T)
@@ -65,6 +65,7 @@ module _ {T : Type 0} where
   abbrev pub StoodThrough : ℕ → ℕ → T → List (Event T) → Type 0
   StoodThrough p i value events = HeldThroughout p (λ part. contents_of i part ≡ Some value) events
 
+  -- the event is the party's own, or a death
   abbrev pub IsOwnOrDeath : ℕ → Event T → Type 0
   IsOwnOrDeath p (Died o) = Unit {0}
   IsOwnOrDeath p e = is_party p (whose e) ≡ true
@@ -77,8 +78,8 @@ module _ {T : Type 0} where
       × AllByRecursion (IsOwnOrDeath p) since)
       events
 
-  -- What the state shows after a look. Each value that was placed by a call finished before the look
-  -- began, and stood through it, is shown. Where no other call was under way, the state is the contents.
+  -- What the state shows after a look. Each value that was placed by a call finished before the look began, and stood
+  -- through it, is shown. Where no other call was under way, the state is the contents.
   pub record IsCurrent (p capacity : ℕ) (state : ContainerState T) (events : List (Event T))
       : Type 0 where
     pub stood : (i : ℕ) (value : T) → WasAnnounced p i events → StoodThrough p i value events
@@ -91,7 +92,8 @@ module _ {T : Type 0} where
   ShowsMoments p capacity state events =
       (i : ℕ) → i < capacity → HeldSometime p (λ part. shows state i ≡ contents_of i part) events
 
-  -- by the answer: a false leaves the state as it was, and a new state's number is that of its values
+  -- What a look's answer says of its state:
+  -- after a false it is as it was, and the number of a new state is that of its values.
   abbrev pub AnswersOfState : ContainerStart T → Answer T → Option (ContainerState T)
       → ContainerState T → Type 0
   AnswersOfState UpdateState (Truth false) before state = before ≡ Some state

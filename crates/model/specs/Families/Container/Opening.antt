@@ -21,8 +21,7 @@ use Rattle.model.specs.Families.Indices.Robust.Opening as robust
 use Rattle.model.specs.Opening.{Opening}
 use Rattle.model.specs.Step.{Beginning}
 
--- the words of its set of indices; then how often it has changed, the number of each element, and
--- the words of each
+-- the words of its set of indices; then how often it has changed, the number of each element, and the words of each
 abbrev pub opening_words : (size capacity : ℕ) → List ℕ
 opening_words size capacity =
     robust.opening_words capacity ++ replicate (1 + capacity + size * capacity) 0
@@ -59,8 +58,8 @@ module _ {T : Type 0} where
   call_of kind capacity start =
       if is_container kind && names_owner start then Some (first capacity start) else None
 
-  -- what is tested of a call that is to begin: that the owner for whom it is to add, remove or
-  -- replace lives, and that the one whose indices it is to free is dead
+  -- what is tested of a call that is to begin: that the owner for whom it is to add, remove or replace lives, and that
+  -- the one whose indices it is to free is dead
   abbrev pub call_rows : List ℕ → ContainerStart T → List (Bool × Refusal)
   call_rows dead (Add value owner) = (has_died owner dead, OwnerIsDead) ∷ []
   call_rows dead (Remove index owner mode) = (has_died owner dead, OwnerIsDead) ∷ []
@@ -68,10 +67,12 @@ module _ {T : Type 0} where
   call_rows dead (Recover owner mode) = (not (has_died owner dead), OwnerLives) ∷ []
   call_rows dead start = []
 
+  -- what is tested before a party begins the call, by who has died
   abbrev pub kept_rows : ContainerStart T → Registry T → ℕ → List (Bool × Refusal)
   kept_rows start (registries.Container dead states) p = call_rows dead start
   kept_rows start kept p = (true, WrongCall) ∷ []
 
+  -- how a call of the container begins, and what is tested before
   abbrev pub begin : Kind → ℕ → ContainerStart T → Beginning (Flight T) (Registry T)
   begin kind capacity start =
       record {
@@ -89,6 +90,7 @@ module _ {T : Type 0} where
       if is_some (state_of p states) then states else with_state p (fresh code capacity) states
   states_at_begin code capacity start p states = states
 
+  -- what the machine keeps of the container once the call has begun: a look has a state to go on with
   abbrev pub keeps : Coding T → ℕ → ContainerStart T → ℕ → Registry T → Registry T
   keeps code capacity start p (registries.Container dead states) =
       registries.Container dead (states_at_begin code capacity start p states)

@@ -50,7 +50,8 @@ module _ {T : Type 0} where
       MayReplace p index owner before
   ReplacesRight before e = Unit {0}
 
-  -- and so was one under way that has taken a step, and at whose index its owner was meanwhile
+  -- A replace under way that has taken a step,
+  -- and whose owner had the index at a moment of it, was begun where that might be.
   abbrev pub StandsWellFormed : ℕ → Option (Party T) → List (Event T) → Type 0
   StandsWellFormed p None events = Unit {0}
   StandsWellFormed p (Some x) events =
@@ -60,8 +61,8 @@ module _ {T : Type 0} where
       → HeldSometime p (IsFilledWith owner index) events
       → MayReplace p index owner events
 
-  -- A remove that frees was begun where its index might be given back for its owner, and a replace that
-  -- has found its owner where it might be replaced.
+  -- A remove that frees was begun where its index might be given back for its owner, and a replace that has found its
+  -- owner where it might be replaced.
   pub record IsWellFormedRun (t : Trace T) : Type 0 where
     pub frees : Each FreesRight t.events
     pub replaced : Each ReplacesRight t.events
@@ -69,8 +70,8 @@ module _ {T : Type 0} where
 
   -- ---- recovery, in every run
 
-  -- The dead owner is the recovery's. It asks about an index that its owner filled at a moment of the
-  -- call, and nothing if it began after the lock.
+  -- The dead owner is the recovery's. It asks about an index that its owner filled at a moment of the call, and nothing
+  -- if it began after the lock.
   abbrev pub AsksRight : List (Event T) → Event T → Type 0
   AsksRight before (Asked p index owner) =
       HeldSometime p (IsFilledWith owner index) before × HeldSometime p IsUnlocked before
@@ -89,13 +90,15 @@ module _ {T : Type 0} where
       × (IsOneOf (Yes index owner) (set_acts_of p before) ⊎ WasShown p index before)
   FreedRight p index owner before span = Unit {0}
 
+  -- An index that a recovery frees was its owner's,
+  -- and the recovery was told to free it, or was shown that nothing stood there.
   abbrev pub RecoversRight : List (Event T) → Event T → Type 0
   RecoversRight before (FreedOf p index owner) =
       FreedRight p index owner before (span_of p before)
   RecoversRight before e = Unit {0}
 
-  -- No index that it was told to free, or was shown, has that owner. It asked about each that was filled
-  -- with its owner through the whole call, until the call itself freed it, or was shown it.
+  -- No index that it was told to free, or was shown, has that owner. It asked about each that was filled with its owner
+  -- through the whole call, until the call itself freed it, or was shown it.
   pub record HasRecovered (p owner : ℕ) (events : List (Event T)) : Type 0 where
     pub gone : (index : ℕ)
         → IsOneOf (Yes index owner) (set_acts_of p events) ⊎ WasShown p index events
@@ -105,17 +108,19 @@ module _ {T : Type 0} where
 
   -- ---- answers, in every run
 
-  -- the indices below the bound, which is that of the container unless a no ended the call
+  -- The number that a find answers is that of its owner's indices below a bound,
+  -- which is the capacity unless a no ended the call.
   pub record IsFound (p owner capacity number : ℕ) (events : List (Event T)) : Type 0 where
     pub bound : ℕ
     pub within : bound ≤ capacity
     pub count : IsCount p (IsFilledWith owner) bound number events
 
-  -- how many indices are filled: none once the container is locked
+  -- the number is that of the filled indices; once the container is locked it is 0
   pub record IsLength (p capacity number : ℕ) (events : List (Event T)) : Type 0 where
     pub none : is_locked events ≡ true → number ≡ 0
     pub some : IsUnlocked events → IsCount p IsFilled capacity number events
 
+  -- whether the container was empty, by a number that is right as its length
   pub record IsLengthTest (p capacity : ℕ) (empty : Bool) (events : List (Event T)) : Type 0 where
     pub number : ℕ
     pub is : empty ≡ (number == 0)
@@ -162,8 +167,8 @@ module _ {T : Type 0} where
 
   -- ---- contents, in a well-formed run
 
-  -- A value is placed where nothing stands, and hidden where something does. What is copied stands there,
-  -- whole. A recovery is shown that nothing stands.
+  -- A value is placed where nothing stands, and hidden where something does. What is copied stands there, whole. A
+  -- recovery is shown that nothing stands.
   abbrev pub ContainsRight : List (Event T) → Event T → Type 0
   ContainsRight before (Placed p index value) = contents_of index before ≡ None
   ContainsRight before (Hidden p index) = contents_of index before ≢ None
@@ -189,17 +194,24 @@ module _ {T : Type 0} where
       → slice_index words (element_word capacity code.size index at)
       ≡ slice_index (code.words_of value) at)
 
+  -- the words of each element say what stands at its index by the events
   abbrev pub HasElements : Trace T → Type 0
   HasElements t =
       (index : ℕ) → index < t.world.capacity
       → HasElement t.world.coding t.world.capacity t.world.words index
       (contents_of index t.events)
 
+  -- what holds in a well-formed run: of who holds an index, of what stands there, and of the elements' words
   pub record IsContained (t : Trace T) : Type 0 where
+    -- no index is granted that is held
     pub holders : Each HoldsRight t.events
+    -- values are placed, hidden, copied and shown right
     pub contents : Each ContainsRight t.events
+    -- an add or a replace that succeeded has placed its value
     pub placed : Each PlacesRight t.events
+    -- what stood at an index that was freed is hidden
     pub hidden : Each HidesRight t.events
+    -- the words of each element say what stands there
     pub elements : HasElements t
 
   -- ---- what the words say, and what is kept beside them
@@ -210,58 +222,73 @@ module _ {T : Type 0} where
       (owner : ℕ) → has_died owner dead ≡ is_dead owner events
   KeepsDead kept events = ⊥
 
+  -- What holds of a container's machine after any turns: each event is right, and cells, lock, the dead, questions and
+  -- states agree with the events. What stands at an index is said only of well-formed runs.
   pub record IsContainer (t : Trace T) : Type 0 where
+    -- indices are filled, granted, freed and locked right
     pub does : Each (SetDoes t.world.capacity) t.events
+    -- recoveries ask right
     pub asks : Each AsksRight t.events
+    -- recoveries free right
     pub recovers : Each RecoversRight t.events
+    -- each answer is right
     pub answers : Each (AnswersRight t.world.capacity) t.events
+    -- each cell says for whom its index is filled
     pub cells : (index : ℕ) → index < t.world.capacity
         → slice_index t.world.words (cell_word index) ≡ cell_of (filled_of index t.events)
+    -- the counter says whether the container is locked
     pub lock : (slice_index t.world.words 0 == locked) ≡ is_locked t.events
+    -- the machine keeps who has died
     pub dead : KeepsDead t.world.kept t.events
+    -- each question is about the value that was copied last
     pub questions : AsksCopies t
+    -- each state shows what its party has copied
     pub states : ShowsCopies t.world t.events
+    -- what holds in a well-formed run beside that
     pub well_formed : IsWellFormedRun t → IsContained t
 
   -- ---- what a turn tells
 
-  -- The indices below the bound that a find has counted; in a well-formed run it has copied each counted one
-  -- where a value stood through the call.
+  -- The indices below the bound that a find has counted; in a well-formed run it has copied each counted one where a
+  -- value stood through the call.
   pub record IsFoundWhole (p owner bound number : ℕ) (events : List (Event T)) : Type 0 where
     pub count : IsCount p (IsFilledWith owner) bound number events
     pub copied : (index : ℕ) → index < bound → count.chosen index ≡ true
         → HeldThroughout p (λ part. is_some (contents_of index part) ≡ true) events
         → (value : T) × IsOneOf (Copies index value) (acts_of p events)
 
+  -- the indices below the bound that a find has counted, and, in a well-formed run, the values there that it has copied
   abbrev pub CountsRight : (p owner bound number : ℕ) → List (Event T) → Trace T → Type 0
   CountsRight p owner bound number events new =
       IsCount p (IsFilledWith owner) bound number events
       × (IsWellFormedRun new → IsFoundWhole p owner bound number events)
 
-  -- a find that ends in another turn than a no has come to the indices of the whole container
+  -- a find that ends in another turn than the decision no has come to the indices of the whole container
   abbrev pub FindsAll : Trace T → Turn T → Trace T → Type 0
   FindsAll old turn new =
       (p owner number : ℕ) (ends : EndsFind p owner number old new)
       → turn ≢ Decide p false
       → CountsRight p owner old.world.capacity number (old.events ++ ends.wrote) new
 
-  -- a find that a no has ended has come to those up to the one that it asked about
+  -- a find that its caller has ended with the decision no came to the indices up to the one that it asked about
   pub record IsStopped (p owner : ℕ) (old new : Trace T) : Type 0 where
+    -- the index that it asked about
     pub index : ℕ
     pub value : T
     pub number : ℕ
     pub asked : question_at old p ≡ Some (index, value)
     pub ends : new.events
         ≡ old.events ++ Finished p (Container (Find owner)) (Number number) ∷ []
+    -- it has counted the indices up to that one
     pub counts : CountsRight p owner (index + 1) number old.events new
 
-  -- a no ends a find so
+  -- a find that its caller ends with the decision no has come to the indices up to the one that it asked about
   abbrev pub FindsUpTo : Trace T → Turn T → Trace T → Type 0
   FindsUpTo old turn new =
       (p owner : ℕ) → turn ≡ Decide p false → IsIn p (Container (Find owner)) old
       → IsStopped p owner old new
 
-  -- a look that ends: its state by its answer, and in a well-formed run by what stands
+  -- what holds of the state that a look leaves: by its answer, and in a well-formed run by what stands
   abbrev pub LooksRight : Trace T → Turn T → Trace T → Type 0
   LooksRight old turn new =
       (p : ℕ) (start : ContainerStart T) (answer : Answer T) (state : ContainerState T)
@@ -272,27 +299,38 @@ module _ {T : Type 0} where
       → IsCurrent p old.world.capacity state new.events
       × MomentsOfState p old.world.capacity start answer state new.events)
 
-  -- and it leaves one
+  -- a look that ends leaves its party with a state
   abbrev pub LeavesState : Trace T → Turn T → Trace T → Type 0
   LeavesState old turn new =
       (p : ℕ) (start : ContainerStart T) (answer : Answer T) → EndsLook p start answer old new
       → is_some (state_in new.world.kept p) ≡ true
 
+  -- What a turn of a container tells: of finds and looks that end, of questions, of the parties' states, and of the
+  -- indices that a recovery visits.
   pub record TellsRight (old : Trace T) (turn : Turn T) (new : Trace T) : Type 0 where
+    -- a find that ends in a turn other than the decision no has counted all
     pub finds : FindsAll old turn new
+    -- a find that the decision no ends has counted up to its question
     pub finds_up_to : FindsUpTo old turn new
+    -- which questions are put, and what a decision does
     pub questions : QuestionsRight old turn new
+    -- a look that ends has left the right state
     pub looks : LooksRight old turn new
+    -- a look that ends leaves a state
     pub leaves : LeavesState old turn new
+    -- no other turn changes a party's state
     pub states : KeepsStates old turn new
+    -- a recovery that began after the lock comes to no index
     pub visits : VisitsUnlocked old new
 
   -- ---- the promise
 
+  -- what a call that has finished with this answer has written; a call of another family has not begun
   abbrev pub wrote : ℕ → Start T → Answer T → List (Event T) → Type 0
   wrote capacity (Container start) answer events = HasDone start answer (set_acts events) (acts events)
   wrote capacity start answer events = ⊥
 
+  -- how many steps a call takes at most; a call of another family does not begin
   abbrev pub most : (capacity size : ℕ) → Start T → ℕ → ℕ
   most capacity size (Container start) backs = most_steps capacity size start backs
   most capacity size start backs = 0
@@ -301,6 +339,7 @@ module _ {T : Type 0} where
   abbrev pub ActsRight : Trace T → Option Ask → (ℕ → Type 0) → Event T → Type 0
   ActsRight old ask IsTurnOf e = ⊥
 
+  -- what a container promises of each run
   abbrev pub promise : Promise T
   promise =
       record {

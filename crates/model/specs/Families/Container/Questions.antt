@@ -33,10 +33,12 @@ module _ {T : Type 0} where
   find_question code (find_stages.Asks index found) value = Some (index, value)
   find_question code stage value = None
 
+  -- the index and the value that a recovery asks about at this stage
   abbrev pub recover_question : Coding T → RecoverStage → T → Option (ℕ × T)
   recover_question code (recover_stages.Asks index count) value = Some (index, value)
   recover_question code stage value = None
 
+  -- the index and the value that the call under way asks about, if it is a find or a recovery at its question
   abbrev pub question_in : Coding T → Option (Flight T) → Option (ℕ × T)
   question_in code (Some (flights.Container (calls.Find run))) =
       find_question code run.call.stage (read_in code run.room)
@@ -48,7 +50,7 @@ module _ {T : Type 0} where
   abbrev pub question_at : Trace T → ℕ → Option (ℕ × T)
   question_at t p = question_in t.world.coding (flight_in t.world p)
 
-  -- it is about a value that the very call has copied, and nothing since
+  -- each question is about the value that its call has copied last
   abbrev pub AsksCopies : Trace T → Type 0
   AsksCopies t =
       (p index : ℕ) (value : T) → question_at t p ≡ Some (index, value)
@@ -64,7 +66,7 @@ module _ {T : Type 0} where
       HeldSometime p (IsFilledWith owner index) before
   WasOwners p index before span = Unit {0}
 
-  -- and ask at once about what they copy there
+  -- a find and a recovery ask at once about what they copy
   abbrev pub AsksAtOnce : (p index : ℕ) → T → Trace T → Span T → Type 0
   AsksAtOnce p index value new (Open (Container (Find owner)) wrote) =
       question_at new p ≡ Some (index, value)
@@ -72,7 +74,8 @@ module _ {T : Type 0} where
       question_at new p ≡ Some (index, value)
   AsksAtOnce p index value new span = Unit {0}
 
-  -- what it is told, it is told by a yes
+  -- An event of the turn is right: a find or a recovery copies, or is shown, an index that was its owner's, asks at
+  -- once about what it copies, and only a yes tells a recovery to free one.
   abbrev pub WritesRight : Trace T → Turn T → Trace T → Event T → Type 0
   WritesRight old turn new (Copied p index value) =
       WasOwners p index old.events (span_of p old.events)
@@ -82,7 +85,7 @@ module _ {T : Type 0} where
   WritesRight old turn new (Told p index owner) = turn ≡ Decide p true
   WritesRight old turn new e = Unit {0}
 
-  -- so it is with all that the turn has written
+  -- each event that the turn has written is right
   pub record AllRight (old : Trace T) (turn : Turn T) (new : Trace T) : Type 0 where
     pub wrote : List (Event T)
     pub is : new.events ≡ old.events ++ wrote
@@ -103,7 +106,7 @@ module _ {T : Type 0} where
 
   -- ---- what becomes of the answer
 
-  -- no question is left after it
+  -- after a decision the party has no question left
   abbrev pub IsAnswered : Turn T → Trace T → Type 0
   IsAnswered turn new =
       (p : ℕ) (said : Bool) → turn ≡ Decide p said → question_at new p ≡ None
@@ -115,24 +118,31 @@ module _ {T : Type 0} where
     pub asked : question_at old p ≡ Some (index, value)
     pub is : new.events ≡ old.events ++ Told p index owner ∷ []
 
+  -- a yes to a recovery tells it to free the index that it asked about, and the turn writes nothing else
   abbrev pub YesTells : Trace T → Turn T → Trace T → Type 0
   YesTells old turn new =
       (p owner : ℕ) (mode : ReleaseMode) → turn ≡ Decide p true
       → IsIn p (Container (Recover owner mode)) old
       → IsTold p owner old new
 
-  -- and a no writes nothing
+  -- a no to a recovery writes nothing
   abbrev pub NoTells : Trace T → Turn T → Trace T → Type 0
   NoTells old turn new =
       (p owner : ℕ) (mode : ReleaseMode) → turn ≡ Decide p false
       → IsIn p (Container (Recover owner mode)) old
       → new.events ≡ old.events
 
+  -- What a turn tells of the questions of finds and recoveries: which are put, each once, and what a decision does.
   pub record QuestionsRight (old : Trace T) (turn : Turn T) (new : Trace T) : Type 0 where
+    -- each event that the turn has written is right
     pub writes : AllRight old turn new
+    -- each question comes with the copy of its value
     pub once : AsksOnce old new
+    -- after a decision no question is left
     pub answered : IsAnswered turn new
+    -- a yes frees the index that was asked about
     pub yes : YesTells old turn new
+    -- a no writes nothing
     pub no : NoTells old turn new
 
   -- ---- the end of a find

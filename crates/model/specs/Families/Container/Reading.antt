@@ -20,6 +20,7 @@ module _ {T : Type 0} where
   contents_after i value (Hidden p index) = if index == i then None else value
   contents_after i value e = value
 
+  -- the value at index i after these events, if there is one
   abbrev pub contents_of : ℕ → List (Event T) → Option T
   contents_of i events = fold (contents_after i) None events
 
@@ -32,6 +33,7 @@ module _ {T : Type 0} where
   announced_after i stands (Hidden p index) = if index == i then false else stands
   announced_after i stands e = stands
 
+  -- whether what stands at index i was placed by a call that has finished
   abbrev pub announced_of : ℕ → List (Event T) → Bool
   announced_of i events = fold (announced_after i) false events
 
@@ -45,13 +47,13 @@ module _ {T : Type 0} where
       (index ≡ i) × (owner ≡ o) → ⊥
   TakesNot i o e = Unit {0}
 
+  -- none of these events begins to give the index back for this owner, or to replace what stands there
   abbrev pub NoneTakes : ℕ → ℕ → List (Event T) → Type 0
   NoneTakes i o [] = Unit {0}
   NoneTakes i o (e ∷ es) = TakesNot i o e × NoneTakes i o es
 
-  -- The party's replace was begun where its index was held for its owner by an add that had finished,
-  -- and no remove of it for that owner had begun since; nobody has begun a remove or a replace of it
-  -- for that owner meanwhile.
+  -- The party's replace was begun where its index was held for its owner by an add that had finished, and no remove of
+  -- it for that owner had begun since; nobody has begun a remove or a replace of it for that owner meanwhile.
   abbrev pub MayReplace : ℕ → ℕ → ℕ → List (Event T) → Type 0
   MayReplace p i o events =
       SinceBegin p (λ part since. (settled_of i part ≡ Some o) × NoneTakes i o since) events
@@ -66,6 +68,7 @@ pub data Act (T : Type 0) : Type 0 where
   Sees : (index : ℕ) → Act T
 
 module _ {T : Type 0} where
+  -- what an event does to elements, without its party
   abbrev pub act : Event T → List (Act T)
   act (Placed p index value) = Places index value ∷ []
   act (Hidden p index) = Hides index ∷ []
@@ -73,26 +76,29 @@ module _ {T : Type 0} where
   act (Shown p index) = Sees index ∷ []
   act e = []
 
+  -- what these events do to elements, in order
   abbrev pub acts : List (Event T) → List (Act T)
   acts events = flat_map act events
 
-  -- those of the party's latest call
+  -- what the party's latest call has done to elements
   abbrev pub acts_of : ℕ → List (Event T) → List (Act T)
   acts_of p events = acts (wrote_in (span_of p events))
 
-  -- the indices that a call has copied or was shown, in order
+  -- the index that an act copies or is shown, if it is such an act
   abbrev pub index_seen : Act T → List ℕ
   index_seen (Copies index value) = index ∷ []
   index_seen (Sees index) = index ∷ []
   index_seen one = []
 
+  -- the indices that were copied or shown, in order
   abbrev pub seen_in : List (Act T) → List ℕ
   seen_in all = flat_map index_seen all
 
-  -- the values that it has placed, with their indices
+  -- the value that an act places, with its index, if it places one
   abbrev pub place : Act T → List (ℕ × T)
   place (Places index value) = (index, value) ∷ []
   place one = []
 
+  -- the values that were placed, with their indices, in order
   abbrev pub places : List (Act T) → List (ℕ × T)
   places all = flat_map place all

@@ -32,7 +32,7 @@ module _ {T : Type 0} where
   VisitsRight before (FreedOf p index owner) = BeganUnlocked p before
   VisitsRight before e = Unit {0}
 
-  -- so it is of all that a turn writes
+  -- what a turn writes of a recovery, it writes of one that began before the lock
   abbrev pub VisitsUnlocked : (old new : Trace T) → Type 0
   VisitsUnlocked old new =
       (wrote : List (Event T)) → new.events ≡ old.events ++ wrote

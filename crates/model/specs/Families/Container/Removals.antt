@@ -17,8 +17,8 @@ module _ {T : Type 0} where
       (λ part. IsOneOf (Frees index owner) (set_acts_of p part) × (contents_of index part ≡ None))
       events
 
-  -- So it is of the index of a remove that answers a state, and of each index that a recovery has freed,
-  -- whatever it answers.
+  -- At a moment of a remove that answers a state, after it freed its index, nothing stood there; and the same holds for
+  -- each index that a recovery has freed, whatever it answers.
   abbrev pub HidesRight : List (Event T) → Event T → Type 0
   HidesRight before (Finished p (Container (Remove index owner mode)) (State state)) =
       EmptySinceFreed p owner index before

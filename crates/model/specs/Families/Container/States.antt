@@ -8,6 +8,7 @@ use Rattle.steps.specs.declared.container.state.ContainerState.{ContainerState}
 use Rattle.model.specs.Coding.{Coding}
 
 module _ {T : Type 0} where
+  -- the party's state, if it has one
   abbrev pub state_of : ℕ → List (ℕ × ContainerState T) → Option (ContainerState T)
   state_of p states = lookup (is_at (nat_cmp p)) states
 
@@ -21,7 +22,7 @@ module _ {T : Type 0} where
       → List (ℕ × ContainerState T)
   set_state p state states = set_value (is_at (nat_cmp p)) states state
 
-  -- it has seen nothing, and shows nothing; a machine's container has the number 0
+  -- a state that has seen nothing, and shows nothing; a machine's container has the number 0
   abbrev pub fresh : Coding T → ℕ → ContainerState T
   fresh code capacity =
       record {
@@ -31,6 +32,6 @@ module _ {T : Type 0} where
         shown = shows_nothing code.value_of code.size capacity;
       }
 
-  -- it has seen what it shows
+  -- the state once it has seen what it shows
   abbrev pub settled : ContainerState T → ContainerState T
   settled state = record state { seen = seen_of state.seen state.shown }

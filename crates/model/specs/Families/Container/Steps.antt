@@ -31,22 +31,23 @@ use Rattle.model.specs.Families.Queues.Calls.{read_in}
 use Rattle.model.specs.Step.{Step}
 
 module _ {T : Type 0} where
-  -- the count of an element was even before 1 was added to it
+  -- an addition of 1 to an even count places the value at the index
   abbrev pub placed : (p index : ℕ) → T → ℕ → List (Event T)
   placed p index value old = if is_even old then Placed p index value ∷ [] else []
 
-  -- the exchange of an odd count for the next
+  -- an exchange of an odd count for the next one hides the value at the index
   abbrev pub hidden : (p index count old : ℕ) → List (Event T)
   hidden p index count old = if old == count then Hidden p index ∷ [] else []
 
-  -- the exchange of a count for itself
+  -- an exchange of a count for itself shows that the value was copied whole
   abbrev pub copied : (p index count : ℕ) → T → ℕ → List (Event T)
   copied p index count value old = if old == count then Copied p index value ∷ [] else []
 
-  -- a recovery finds an even count
+  -- a recovery that finds an even count is shown that nothing stands at the index
   abbrev pub shown : (p index old : ℕ) → List (Event T)
   shown p index old = if is_even old then Shown p index ∷ [] else []
 
+  -- what an add's step writes down, where its word has this old value
   abbrev pub add_effects : ℕ → Owned T → AddStage → ℕ → List (Event T)
   add_effects p given (adds.Acquires stage) old =
       robust.acquire_effects p given.owner stage old
@@ -56,6 +57,7 @@ module _ {T : Type 0} where
   add_effects p given (adds.AddsCount index) old = placed p index given.value old
   add_effects p given (adds.AddsChange index) old = []
 
+  -- what a remove's step writes down, where its word has this old value
   abbrev pub remove_effects : ℕ → GiveBack → RemoveStage → ℕ → List (Event T)
   remove_effects p given removes.Refuses old = []
   remove_effects p given removes.LoadsCount old = []
@@ -65,6 +67,7 @@ module _ {T : Type 0} where
       hidden p given.index count old
   remove_effects p given (removes.AddsChange state) old = []
 
+  -- what a replace's step writes down, where its word has this old value
   abbrev pub replace_effects : ℕ → Replacement T → ReplaceStage → ℕ → List (Event T)
   replace_effects p given replaces.Refuses old = []
   replace_effects p given replaces.LoadsCell old = []
@@ -74,7 +77,7 @@ module _ {T : Type 0} where
   replace_effects p given replaces.AddsCount old = placed p given.index given.value old
   replace_effects p given replaces.AddsChange old = []
 
-  -- the value is that of the room
+  -- what a find's step writes down, where its word has this old value and the words in its room make this value
   abbrev pub find_effects : ℕ → T → FindStage → ℕ → List (Event T)
   find_effects p value (finds.LoadsCell index found) old = []
   find_effects p value (finds.LoadsCount index found) old = []
@@ -88,6 +91,8 @@ module _ {T : Type 0} where
   checked p index count value old =
       if old == count then Copied p index value ∷ [] else shown p index old
 
+  -- What a recovery's step writes down, where its word has this
+  -- old value and the words that it has copied make this value.
   abbrev pub recover_effects : ℕ → DeadOwner → T → RecoverStage → ℕ → List (Event T)
   recover_effects p given value recovers.LoadsCounter old = []
   recover_effects p given value (recovers.LoadsCell index) old = []
@@ -107,6 +112,8 @@ module _ {T : Type 0} where
   recover_effects p given value recovers.LoadsCounterAgain old = []
   recover_effects p given value (recovers.AddsChange state) old = []
 
+  -- What a look's step writes down, where its word has this old value: that it has copied a value, once the element's
+  -- number is the same.
   abbrev pub look_effects : ℕ → T → LookStage → ℕ → List (Event T)
   look_effects p value looks.LoadsChange old = []
   look_effects p value (looks.LoadsCount index) old = []
@@ -118,6 +125,7 @@ module _ {T : Type 0} where
   abbrev pub copy_in : Coding T → ContainerState T → T
   copy_in code state = value_in code.value_of code.size state.shown.copy
 
+  -- what a look's step writes down, if its party has a state
   abbrev pub look_effects_of : Coding T → ℕ → LookStage → ℕ → Option (ContainerState T)
       → List (Event T)
   look_effects_of code p stage old None = []
@@ -141,6 +149,7 @@ module _ {T : Type 0} where
       if old == count then Asked p index given.owner ∷ [] else []
   question_of p given stage old = []
 
+  -- the question that a recovery puts with its step
   abbrev pub questions : ℕ → ContainerFlight T → ℕ → List (Event T)
   questions p (Recover run) old = question_of p run.given run.call.stage old
   questions p flight old = []

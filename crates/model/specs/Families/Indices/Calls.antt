@@ -22,23 +22,27 @@ use Rattle.model.specs.Step.{Going, as_call}
 
 -- ---- the calls that begin
 
--- on a set of this capacity
+-- an acquire as it begins, on a set of this capacity
 abbrev pub acquire_of : ℕ → IndexFlight
 acquire_of capacity =
     Acquire (record { call = first_acquire capacity; given = tt; room = tt })
 
+-- a release of an index as it begins, in this mode
 abbrev pub release_of : (capacity index : ℕ) → ReleaseMode → IndexFlight
 release_of capacity index Default =
     ReleaseDefault (record { call = first_release capacity; given = index; room = tt })
 release_of capacity index LockIfLastIndex =
     ReleaseLock (record { call = first_release capacity; given = index; room = tt })
 
+-- a count as it begins
 abbrev pub borrowed_of : IndexFlight
 borrowed_of = BorrowedIndices (record { call = record {}; given = tt; room = tt })
 
+-- a look at the lock as it begins
 abbrev pub locked_of : IndexFlight
 locked_of = IsLocked (record { call = record {}; given = tt; room = tt })
 
+-- a call of the unique index set as it begins
 abbrev pub first : ℕ → IndexStart → IndexFlight
 first capacity starts.Acquire = acquire_of capacity
 first capacity (starts.Release index mode) = release_of capacity index mode
@@ -64,11 +68,12 @@ goes_back (BorrowedIndices run) old = false
 goes_back (IsLocked run) old = false
 
 module _ {T : Type 0} where
+  -- what an acquire answers
   abbrev pub acquire_answer : Acquired → Answer T
   acquire_answer (Ok index) = answers.Index index
   acquire_answer (Err failure) = answers.NoIndex failure
 
-  -- how it goes on from the old value of its word
+  -- how a call under way goes on from the old value of its word
   abbrev pub after : IndexFlight → ℕ → After IndexFlight (Answer T)
   after (Acquire run) old =
       as_call Acquire acquire_answer

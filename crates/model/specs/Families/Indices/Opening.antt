@@ -22,13 +22,13 @@ use Rattle.model.specs.Step.{Beginning}
 abbrev pub flag_words : ℕ → ℕ
 flag_words capacity = (capacity + 63) / 64
 
--- the head, which proposes index 0; after each index the next; and no flag
+-- the words of a unique index set at the opening: its head proposes index 0, each index is followed by the next one,
+-- and no flag stands
 abbrev pub opening_words : ℕ → List ℕ
 opening_words capacity =
     0 ∷ range_with_len 1 capacity ++ replicate (flag_words capacity) 0
 
--- the number of borrowed indices has 24 bits, and the greatest says that the set is locked; nobody
--- holds an index
+-- the number of borrowed indices has 24 bits, and the greatest says that the set is locked; nobody holds an index
 abbrev pub opening : Opening
 opening =
     record {
@@ -47,8 +47,8 @@ is_set kind = false
 abbrev pub call_of : Kind → ℕ → IndexStart → Option IndexFlight
 call_of kind capacity start = if is_set kind then Some (first capacity start) else None
 
--- what is tested of a party that is to begin a call: that the index which it is
--- to give back is one of the set, and that the party holds it
+-- what is tested of a party that is to begin a call: that the index which it is to give back is one of the set, and
+-- that the party holds it
 abbrev pub call_rows : ℕ → List (Option ℕ) → ℕ → IndexStart → List (Bool × Refusal)
 call_rows capacity holders p (Release index mode) =
     (nat_le capacity index, BadIndex)
@@ -58,12 +58,14 @@ call_rows capacity holders p Acquire = []
 call_rows capacity holders p BorrowedIndices = []
 call_rows capacity holders p IsLocked = []
 
+-- what is tested before a party begins the call, by who holds which index
 abbrev pub kept_rows : {T : Type 0} → ℕ → IndexStart → Registry T → ℕ → List (Bool × Refusal)
 kept_rows capacity start (registries.Indices holders) p =
     call_rows capacity holders p start
 kept_rows capacity start kept p = (true, WrongCall) ∷ []
 
 module _ {T : Type 0} where
+  -- how a call of the unique index set begins, and what is tested before
   abbrev pub begin : Kind → ℕ → IndexStart → Beginning (Flight T) (Registry T)
   begin kind capacity start =
       record {

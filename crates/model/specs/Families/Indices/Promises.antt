@@ -26,8 +26,8 @@ use Rattle.model.specs.World.{Trace}
 module _ {T : Type 0} where
   -- ---- holders and the lock
 
-  -- An index of the set is claimed where it has no holder and the set is not locked, and is freed
-  -- by its holder. The lock comes once, where no index has a holder.
+  -- An index of the set is claimed where it has no holder and the set is not locked, and is freed by its holder. The
+  -- lock comes once, where no index has a holder.
   abbrev pub HoldsRight : ℕ → List (Event T) → Event T → Type 0
   HoldsRight capacity before (Claimed p index) =
       (index < capacity) × (holder_of index before ≡ None) × (is_locked before ≡ false)
@@ -38,17 +38,17 @@ module _ {T : Type 0} where
 
   -- ---- answers
 
-  -- Between the indices that are held and those in use lies what borrowed_indices answers, and 0
-  -- once the set is locked.
+  -- Between the indices that are held and those in use lies what
+  -- borrowed_indices answers, and 0 once the set is locked.
   abbrev pub CountsRight : List (Event T) → ℕ → Type 0
   CountsRight before number =
       (is_locked before ≡ true → number ≡ 0)
       × (is_locked before ≡ false →
       ((tally_of before).held ≤ number) × (number ≤ in_use (tally_of before)))
 
-  -- What an answer says of the set as it was at the last step of the call. An acquire fails by
-  -- OutOfIndices only where without it as many indices are in use as there are, and a release
-  -- that may lock does not only where without it some index is in use.
+  -- What an answer says of the set as it was at the last step of the call. An acquire fails by OutOfIndices only where
+  -- without it as many indices are in use as there are, and a release that may lock does not only where without it some
+  -- index is in use.
   abbrev pub AnswersRight : ℕ → List (Event T) → Event T → Type 0
   AnswersRight capacity before (Finished p (Indices Acquire) (NoIndex failures.IsLocked)) =
       is_locked before ≡ true
@@ -78,25 +78,30 @@ module _ {T : Type 0} where
   GoesStraight (Indices (Release index Default)) backs = backs ≡ 0
   GoesStraight start backs = Unit {0}
 
-  -- the flags of those indices stand that have a holder, and the head says whether the set is
-  -- locked
+  -- the flags of those indices stand that have a holder, and the head says whether the set is locked
   pub record IsIndexSet (t : Trace T) : Type 0 where
+    -- indices are claimed, freed and locked right
     pub holds : Each (HoldsRight t.world.capacity) t.events
+    -- each answer is right
     pub answers : Each (AnswersRight t.world.capacity) t.events
     pub flags : (index : ℕ) → index < t.world.capacity
         → has_flag (slice_index t.world.words (flag_word t.world.capacity index)) index
         ≡ is_some (holder_of index t.events)
     pub lock : says_locked (slice_index t.world.words 0) ≡ is_locked t.events
+    -- the machine keeps who holds which index
     pub holders : KeepsHolders t.world.kept t.events
+    -- a release in the default mode has not turned back
     pub straight : (p : ℕ) (x : Party T) → party_of p t.world.latest ≡ Some x
         → GoesStraight x.start x.backs
 
   -- ---- the promise
 
+  -- what a call that has finished with this answer has written; a call of another family has not begun
   abbrev pub wrote : ℕ → Start T → Answer T → List (Event T) → Type 0
   wrote capacity (Indices start) answer events = done_by start answer ≡ Some (set_acts events)
   wrote capacity start answer events = ⊥
 
+  -- how many steps a call takes at most; a call of another family does not begin
   abbrev pub most : (capacity size : ℕ) → Start T → ℕ → ℕ
   most capacity size (Indices start) backs = most_steps capacity start backs
   most capacity size start backs = 0
@@ -105,6 +110,7 @@ module _ {T : Type 0} where
   abbrev pub ActsRight : Trace T → Option Ask → (ℕ → Type 0) → Event T → Type 0
   ActsRight old ask IsTurnOf e = ⊥
 
+  -- what the unique index set promises of each run
   abbrev pub promise : Promise T
   promise =
       record {

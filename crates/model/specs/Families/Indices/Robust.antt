@@ -1,5 +1,5 @@
--- The family of the robust index set: its calls, its words at the opening, who has died, what its
--- steps write down, and what it promises.
+-- The family of the robust index set: its calls, its words at the opening,
+-- who has died, what its steps write down, and what it promises.
 pub mod Bounds
 pub mod Calls
 pub mod Dead

@@ -17,25 +17,31 @@ pub record SetActs : Type 0 where
   pub freed : List ℕ
   pub locks : ℕ
 
+-- a call that has done nothing
 abbrev pub nothing : SetActs
 nothing = record { claimed = []; freed = []; locks = 0 }
 
+-- a call that has claimed this index
 abbrev pub claimed : ℕ → SetActs
 claimed index = record nothing { claimed = index ∷ [] }
 
+-- a call that has freed this index
 abbrev pub freed : ℕ → SetActs
 freed index = record nothing { freed = index ∷ [] }
 
+-- a call that has freed this index and locked the set
 abbrev pub freed_and_locked : ℕ → SetActs
 freed_and_locked index = record (freed index) { locks = 1 }
 
 module _ {T : Type 0} where
+  -- what a call has done, with one event more
   abbrev pub set_act : SetActs → Event T → SetActs
   set_act d (Claimed p index) = record d { claimed = d.claimed ++ index ∷ [] }
   set_act d (Freed p index) = record d { freed = d.freed ++ index ∷ [] }
   set_act d (Locked p) = record d { locks = d.locks + 1 }
   set_act d e = d
 
+  -- what a call has done that has written these events
   abbrev pub set_acts : List (Event T) → SetActs
   set_acts events = fold set_act nothing events
 
@@ -50,8 +56,8 @@ module _ {T : Type 0} where
   done_by IsLocked (Truth locked) = Some nothing
   done_by start answer = None
 
-  -- where an event may stand: an acquire claims, a release frees its index
-  -- first of all, and one in mode LockIfLastIndex may lock after that
+  -- where an event may stand: an acquire claims, a release frees its index first of all, and one in mode
+  -- LockIfLastIndex may lock after that
   abbrev pub may_stand : Event T → Span T → Type 0
   may_stand (Claimed p index) (Open (Indices Acquire) wrote) = set_acts wrote ≡ nothing
   may_stand (Freed p index) (Open (Indices (Release other mode)) wrote) =

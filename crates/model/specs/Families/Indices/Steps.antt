@@ -13,6 +13,7 @@ use Rattle.model.specs.declared.families.indices.calls.IndexFlight.TheVariants.{
 use Rattle.model.specs.Families.Indices.Calls.{after, goes_back}
 use Rattle.model.specs.Step.{Step, answer_in}
 
+-- whether the next step of a release clears the flag
 abbrev pub clears : ReleaseStage → Bool
 clears ClearsFlag = true
 clears stage = false
@@ -30,6 +31,7 @@ module _ {T : Type 0} where
   ended p (Some (State Locked)) = events.Locked p ∷ []
   ended p outcome = []
 
+  -- what a step writes down: the index that it frees, or what its end says
   abbrev pub effects : ℕ → Option ℕ → Option (Answer T) → List (Event T)
   effects p (Some index) outcome = Freed p index ∷ []
   effects p None outcome = ended p outcome
@@ -42,9 +44,11 @@ module _ {T : Type 0} where
 
   -- ---- all that a step comes to
 
+  -- what the next step of a call writes down
   abbrev pub wrote : ℕ → IndexFlight → ℕ → List (Event T)
   wrote p flight old = effects p (frees flight) (answer_in (after flight old))
 
+  -- all that a step of a unique index set's call comes to, where its word has this old value
   abbrev pub step : ℕ → IndexFlight → ℕ → List (Option ℕ)
       → Step IndexFlight (List (Option ℕ)) T
   step p flight old holders =

@@ -33,21 +33,25 @@ use Rattle.model.specs.Step.{Going, as_call}
 
 -- ---- the calls that begin, on a channel of so many slots, with a queue of this capacity
 
+-- a loan as it begins
 abbrev pub loan_of : ℕ → LoanFlight
 loan_of slots = Loan (record { call = first_acquire slots; given = tt; room = tt })
 
+-- a send of an index as it begins
 abbrev pub send_of : (slots queue index : ℕ) → LoanFlight
 send_of slots queue index =
     Send (record { call = first_send slots queue; given = index; room = tt })
 
+-- a call that gives a loaned index up as it begins
 abbrev pub give_up_of : (slots index : ℕ) → LoanFlight
 give_up_of slots index = GiveUp (record { call = first_release slots; given = index; room = tt })
 
+-- a take-back as it begins
 abbrev pub take_back_of : (slots queue : ℕ) → LoanFlight
 take_back_of slots queue =
     TakeBack (record { call = first_take_back slots queue; given = tt; room = tt })
 
--- by this receiver: a pop of the submission queue
+-- a receive by this receiver as it begins: a pop of the submission queue
 abbrev pub receive_of : (slots queue p : ℕ) → LoanFlight
 receive_of slots queue p =
     Receive p
@@ -57,7 +61,7 @@ receive_of slots queue p =
       room = fresh;
     })
 
--- and a push of the completion queue
+-- a give-back by this receiver as it begins: a push of the completion queue
 abbrev pub give_back_of : (slots queue p index : ℕ) → LoanFlight
 give_back_of slots queue p index =
     GiveBack p
@@ -67,9 +71,11 @@ give_back_of slots queue p index =
       room = tt;
     })
 
+-- a reclaim as it begins
 abbrev pub reclaim_of : (slots queue : ℕ) → LoanFlight
 reclaim_of slots queue = Reclaim (first_reclaim slots queue)
 
+-- a call of a loan channel as it begins, by what the machine keeps of the channel
 abbrev pub first : ℕ → Book → LoanStart → LoanFlight
 first slots book starts.Loan = loan_of slots
 first slots book (starts.Send index) = send_of slots book.queue index
@@ -102,6 +108,7 @@ goes_back (Receive p run) old = overflow.goes_back run.call.call.stage old
 goes_back (GiveBack p run) old = false
 goes_back (Reclaim call) old = reclaim_goes_back call.stage old
 
+-- a reclaim under way as a call of the model
 abbrev pub reclaim_flight : reclaims.Reclaim → LoanFlight
 reclaim_flight call = Reclaim call
 
@@ -152,6 +159,7 @@ abbrev pub book_rows : LoanFlight → Book → List (Bool × Refusal)
 book_rows flight book = (has_died (party_of flight) book.dead, OwnerIsDead) ∷ []
 
 module _ {T : Type 0} where
+  -- what is tested before a call goes on, by what the machine keeps of the channel
   abbrev pub going_rows : LoanFlight → Registry T → Option Bool → List (Bool × Refusal)
   going_rows flight (registries.Loan book) said = book_rows flight book
   going_rows flight kept said = []
@@ -166,7 +174,7 @@ module _ {T : Type 0} where
         most = 3;
       }
 
-  -- and where one is kept
+  -- how a call of a machine goes on, by the sender's table where one is kept
   abbrev pub goes : LoanFlight → ℕ → Registry T → After (Flight T) (Answer T)
   goes flight old (registries.Loan book) =
       as_call flights.Loan (λ answer. answer) (after book.places flight old)

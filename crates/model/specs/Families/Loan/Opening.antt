@@ -43,10 +43,11 @@ opening_book slots queue =
       dead = [];
     }
 
+-- what the machine keeps of a channel that opens
 abbrev pub opening_kept : {T : Type 0} → ℕ → ℕ → Registry T
 opening_kept slots queue = registries.Loan (opening_book slots queue)
 
--- of one number, which is both
+-- how a loan channel opens by one number, which is that of its slots and the capacity of its submission queue
 abbrev pub opening : Opening
 opening =
     record {
@@ -67,9 +68,11 @@ is_loan kind = false
 abbrev pub is_not_sender : ℕ → Bool
 is_not_sender p = not (p == 0)
 
+-- whether the party is not the receiver
 abbrev pub is_not_receiver : Book → ℕ → Bool
 is_not_receiver book p = not (p == book.receiver)
 
+-- whether the party may not begin this call: receive and give back are the receiver's, all others the sender's
 abbrev pub lacks_role : Book → ℕ → LoanStart → Bool
 lacks_role book p Receive = is_not_receiver book p
 lacks_role book p (GiveBack index) = is_not_receiver book p
@@ -82,10 +85,12 @@ asks_for (GiveUp index) = Some index
 asks_for (GiveBack index) = Some index
 asks_for start = None
 
+-- whether the call names an index that the channel has not
 abbrev pub is_past : ℕ → Option ℕ → Bool
 is_past slots None = false
 is_past slots (Some index) = nat_le slots index
 
+-- whether the call names an index that the party has not
 abbrev pub lacks_index : Book → ℕ → Option ℕ → Bool
 lacks_index book p None = false
 lacks_index book p (Some index) = not (holds (slice_index_or book.holders index None) p)
@@ -95,8 +100,8 @@ abbrev pub reclaims_early : Book → LoanStart → Bool
 reclaims_early book Reclaim = not (has_died book.receiver book.dead)
 reclaims_early book start = false
 
--- what is tested of a party that is to begin a call: the index, the role, that the party has the index and
--- lives, and that the receiver is dead
+-- what is tested of a party that is to begin a call: the index, the role, that the party has the index and lives, and
+-- that the receiver is dead
 abbrev pub call_rows : ℕ → Book → ℕ → LoanStart → List (Bool × Refusal)
 call_rows slots book p start =
     (is_past slots (asks_for start), BadIndex)
@@ -106,6 +111,7 @@ call_rows slots book p start =
     ∷ (reclaims_early book start, OwnerLives)
     ∷ []
 
+-- what is tested before a party begins the call, by what the machine keeps of the channel
 abbrev pub kept_rows : {T : Type 0} → ℕ → LoanStart → Registry T → ℕ → List (Bool × Refusal)
 kept_rows slots start (registries.Loan book) p = call_rows slots book p start
 kept_rows slots start kept p = (true, WrongCall) ∷ []
@@ -114,6 +120,7 @@ kept_rows slots start kept p = (true, WrongCall) ∷ []
 abbrev pub call_in : Kind → ℕ → LoanStart → Book → Option LoanFlight
 call_in kind slots start book = if is_loan kind then Some (first slots book start) else None
 
+-- the call as it begins, by what the machine keeps of the channel
 abbrev pub call_kept : {T : Type 0} → ℕ → LoanStart → Registry T → Option LoanFlight
 call_kept slots start (registries.Loan book) = Some (first slots book start)
 call_kept slots start kept = None
@@ -123,6 +130,7 @@ abbrev pub call_of : {T : Type 0} → Kind → ℕ → LoanStart → Registry T 
 call_of kind slots start kept = if is_loan kind then call_kept slots start kept else None
 
 module _ {T : Type 0} where
+  -- how a call of a loan channel begins, and what is tested before
   abbrev pub begin : Kind → ℕ → LoanStart → Beginning (Flight T) (Registry T)
   begin kind slots start =
       record {
@@ -137,6 +145,7 @@ abbrev pub taken_from : Book → Option ℕ → Book
 taken_from book None = book
 taken_from book (Some index) = record book { holders = slice_set book.holders index None }
 
+-- what the machine keeps of the channel once the call has begun: an index that it names is in passing
 abbrev pub keeps : {T : Type 0} → LoanStart → Registry T → Registry T
 keeps start (registries.Loan book) =
     registries.Loan (taken_from book (asks_for start))

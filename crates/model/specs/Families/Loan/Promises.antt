@@ -45,8 +45,8 @@ abbrev pub holder_in : Spot → Option ℕ
 holder_in (With p) = Some p
 holder_in spot = None
 
--- where the sender's table may say so: an index in passing in its own call is out, as it was before the call or as
--- it will be
+-- where the sender's table may say so: an index in passing in its own call is out,
+-- as it was before the call or as it will be
 abbrev pub IsIn : Place → Spot → Type 0
 IsIn places.Free spot = spot ≡ Free
 IsIn places.Loaned spot = (spot ≡ With 0) ⊎ (spot ≡ Passing 0)
@@ -54,6 +54,7 @@ IsIn places.Sent spot = (spot ≢ Free) × (spot ≢ With 0)
 
 -- ---- words
 
+-- the word of the submission queue's read position
 abbrev pub read_word : ℕ → ℕ
 read_word slots = submission_word slots + 1
 
@@ -80,6 +81,7 @@ module _ {T : Type 0} where
       (spot_of index before ≡ Passing p)
       ⊎ (IsReclaiming (span_of p before) × IsLeft before (spot_of index before))
 
+  -- an index that moves is one of the channel's, and was at the spot that it moves from
   abbrev pub ComesFrom : ℕ → Option Move → List (Event T) → Type 0
   ComesFrom slots None before = Unit {0}
   ComesFrom slots (Some move) before =
@@ -101,9 +103,9 @@ module _ {T : Type 0} where
 
   -- ---- the dead
 
-  -- Who has died begins no call, moves no index, ends no call and does not die again: the one event of a call of its own
-  -- that may come later is that its send acts, as a receive makes room. A reclaim begins only where the receiver has
-  -- died.
+  -- Who has died begins no call, moves no index, ends no call and does not die again:
+  -- the one event of a call of its own that may come later is that its send acts, as
+  -- a receive makes room. A reclaim begins only where the receiver has died.
   abbrev pub LivesRight : List (Event T) → Event T → Type 0
   LivesRight before (Begun p (Loan calls.Reclaim)) =
       (has_died_by p before ≡ false) × (has_died_by (receiver_of before) before ≡ true)
@@ -127,8 +129,9 @@ module _ {T : Type 0} where
 
   -- ---- what is kept
 
+  -- what the machine keeps of the channel agrees with the events
   pub record KeepsBook (book : Book) (events : List (Event T)) : Type 0 where
-    -- where the index is of which the sender's table says so
+    -- each index is where the sender's table has it
     pub places : (index : ℕ) → IsIn (place_at book.places index) (spot_of index events)
     -- who may send, give up or give back an index has it by the events
     pub holders : (index : ℕ)
@@ -143,6 +146,7 @@ module _ {T : Type 0} where
   sent_in code slots queue words =
       waiting_in code Overflow queue (drop (submission_word slots) words)
 
+  -- what waits in the completion queue by its words
   abbrev pub given_back_in : Coding T → (slots queue : ℕ) → List ℕ → List (Item T)
   given_back_in code slots queue words =
       waiting_in code IndexQueue slots (drop (completion_word slots queue) words)
@@ -152,12 +156,14 @@ module _ {T : Type 0} where
     pub each : (index : ℕ) → Contains items (Index index) ↔ (spot_of index events ≡ spot)
     pub once : AllPairs (λ x y. x ≢ y) items
 
+  -- What holds of a loan channel's machine after any turns, where it keeps this of the channel: the events are right
+  -- one by one, and the tables, flags and queues agree with where the events say that each index is.
   pub record IsChannelOf (book : Book) (t : Trace T) : Type 0 where
     pub moves : Each (MovesRight t.world.capacity) t.events
     pub begins : Each BeginsRight t.events
     pub answers : Each (AnswersRight t.world.capacity) t.events
     pub lives : Each LivesRight t.events
-    -- the sender's table
+    -- the sender's table says of each index what the events say
     pub table : (index : ℕ) → place_at book.places index ≡ place_of index t.events
     -- an index is in passing in a call that is under way, or has stopped
     pub passing : (index p : ℕ) → spot_of index t.events ≡ Passing p
@@ -169,7 +175,7 @@ module _ {T : Type 0} where
     pub flags : (index : ℕ) → index < t.world.capacity
         → (has_flag (slice_index t.world.words (flag_word t.world.capacity index)) index ≡ true)
         ↔ (spot_of index t.events ≢ Free)
-    -- the submission queue
+    -- what was published was handed out, or waits in the words of the submission queue
     pub sent : published t.events
         ≡ handed_out t.events ++ sent_in t.world.coding t.world.capacity book.queue t.world.words
     pub waits : AreThose Waiting
@@ -177,7 +183,7 @@ module _ {T : Type 0} where
     pub list : standing (overflowing_list book.queue) (queue_moments t.events)
         ≡ take book.queue (waiting t.events)
     pub legal : IsLegal (overflowing_list book.queue) (queue_moments t.events)
-    -- the completion queue
+    -- what was given back was taken back, or waits in the words of the completion queue
     pub returned : map Index (given_back t.events)
         ≡ map Index (taken_back t.events)
         ++ given_back_in t.world.coding t.world.capacity book.queue t.world.words
@@ -185,10 +191,12 @@ module _ {T : Type 0} where
         (given_back_in t.world.coding t.world.capacity book.queue t.world.words) t.events
     pub keeps : KeepsBook book t.events
 
+  -- what holds of a machine that keeps this of a channel; nothing else is a channel's
   abbrev pub IsChannelBy : Registry T → Trace T → Type 0
   IsChannelBy (registries.Loan book) t = IsChannelOf book t
   IsChannelBy kept t = ⊥
 
+  -- what holds of a loan channel's machine after any turns
   abbrev pub IsChannel : Trace T → Type 0
   IsChannel t = IsChannelBy t.world.kept t
 
@@ -204,8 +212,8 @@ module _ {T : Type 0} where
       Own × AddsOne (read_word old.world.capacity) old.world.words ask
   SendActs old ask Own answer = ⊥
 
-  -- A receive acts in its own turn: with an index as it adds 1 to the read position, with None only where nothing
-  -- waits as it loads the write position.
+  -- A receive acts in its own turn: with an index as it adds 1 to the read position, with None only where nothing waits
+  -- as it loads the write position.
   abbrev pub ReceiveActs : Trace T → Option Ask → Type 0 → Answer T → Type 0
   ReceiveActs old ask Own PoppedNone =
       Own × (ask ≡ Some (record { word = submission_word old.world.capacity; op = Load }))
@@ -214,6 +222,7 @@ module _ {T : Type 0} where
       Own × AddsOne (read_word old.world.capacity) old.world.words ask
   ReceiveActs old ask Own answer = ⊥
 
+  -- a send acts as `SendActs` says, a receive as `ReceiveActs` says, and no other call acts
   abbrev pub ActsRight : Trace T → Option Ask → (ℕ → Type 0) → Event T → Type 0
   ActsRight old ask IsTurnOf (Acted p (Loan (calls.Send index)) answer) =
       SendActs old ask (IsTurnOf p) answer
@@ -223,14 +232,17 @@ module _ {T : Type 0} where
 
   -- ---- the promise
 
+  -- what a call that has finished with this answer has written; a call of another family has not begun
   abbrev pub wrote : ℕ → Start T → Answer T → List (Event T) → Type 0
   wrote slots (Loan start) answer events = Wrote start answer events
   wrote slots start answer events = ⊥
 
+  -- how many steps a call takes at most; a call of another family does not begin
   abbrev pub most : (slots size : ℕ) → Start T → ℕ → ℕ
   most slots size (Loan start) backs = most_steps slots start backs
   most slots size start backs = 0
 
+  -- what a loan channel promises of each run
   abbrev pub promise : Promise T
   promise =
       record {

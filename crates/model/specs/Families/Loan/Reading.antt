@@ -16,8 +16,8 @@ use Rattle.model.specs.declared.families.queues.QueueStart.TheVariants.{PushInde
 
 -- ---- places
 
--- where an index is: nobody has it; it is in passing in a call of this party; this party has it, in no call; it
--- waits in the submission queue; or in the completion queue
+-- where an index is: nobody has it; it is in passing in a call of this party; this party has it, in no call; it waits
+-- in the submission queue; or in the completion queue
 pub data Spot : Type 0 where
   Free : Spot
   Passing : (party : ℕ) → Spot
@@ -60,9 +60,11 @@ moved i spot None = spot
 moved i spot (Some move) = if move.index == i then move.to else spot
 
 module _ {T : Type 0} where
+  -- where the index is after an event
   abbrev pub spot_after : ℕ → Spot → Event T → Spot
   spot_after i spot e = moved i spot (move_of e)
 
+  -- where the index is after these events
   abbrev pub spot_of : ℕ → List (Event T) → Spot
   spot_of i events = fold (spot_after i) Free events
 
@@ -75,6 +77,7 @@ module _ {T : Type 0} where
   place_after i place (Freed p index) = if index == i then places.Free else place
   place_after i place e = place
 
+  -- what the sender's table has of the index after these events
   abbrev pub place_of : ℕ → List (Event T) → Place
   place_of i events = fold (place_after i) places.Free events
 
@@ -85,22 +88,27 @@ module _ {T : Type 0} where
   receiver_after p (Finished q (Loan calls.Reclaim) answer) = p + 1
   receiver_after p e = p
 
+  -- which party is the receiver after these events: 1 first
   abbrev pub receiver_of : List (Event T) → ℕ
   receiver_of events = fold receiver_after 1 events
 
+  -- whether the party has died, after an event
   abbrev pub died_after : ℕ → Bool → Event T → Bool
   died_after p dead (Died q) = if q == p then true else dead
   died_after p dead e = dead
 
+  -- whether the party has died in these events
   abbrev pub has_died_by : ℕ → List (Event T) → Bool
   has_died_by p events = fold (died_after p) false events
 
   -- ---- the completion queue
 
+  -- the index that the event gives back, if it gives one back
   abbrev pub gives_back : Event T → List ℕ
   gives_back (Returned p index) = index ∷ []
   gives_back e = []
 
+  -- the index that the event takes back, if it takes one back
   abbrev pub takes_back : Event T → List ℕ
   takes_back (TakenBack p index) = index ∷ []
   takes_back e = []
@@ -109,20 +117,25 @@ module _ {T : Type 0} where
   abbrev pub given_back : List (Event T) → List ℕ
   given_back events = flat_map gives_back events
 
+  -- all indices that were taken back, in order
   abbrev pub taken_back : List (Event T) → List ℕ
   taken_back events = flat_map takes_back events
 
+  -- the index that the event frees, if it frees one
   abbrev pub frees : Event T → List ℕ
   frees (Freed p index) = index ∷ []
   frees e = []
 
+  -- all indices that were freed, in order
   abbrev pub freed : List (Event T) → List ℕ
   freed events = flat_map frees events
 
+  -- the index that the event claims, if it claims one
   abbrev pub claims : Event T → List ℕ
   claims (Claimed p index) = index ∷ []
   claims e = []
 
+  -- all indices that were claimed, in order
   abbrev pub claimed : List (Event T) → List ℕ
   claimed events = flat_map claims events
 
@@ -144,6 +157,7 @@ module _ {T : Type 0} where
       if reclaims then (Queues Pop, PoppedIndex index) ∷ [] else []
   queue_acts reclaims e = []
 
+  -- the pushes and pops that act at these events, with their answers, where a reclaim is under way before them or not
   abbrev pub as_queue : Bool → List (Event T) → List (Start T × Answer T)
   as_queue reclaims [] = []
   as_queue reclaims (e ∷ es) =

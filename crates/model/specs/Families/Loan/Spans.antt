@@ -27,6 +27,7 @@ module _ {T : Type 0} where
     pub taken_back : taken_back wrote ≡ takes
     pub freed : freed wrote ≡ frees
 
+  -- the call has moved no index
   abbrev pub HasMovedNone : List (Event T) → Type 0
   HasMovedNone wrote = HasMoved [] [] [] [] [] [] wrote
 
@@ -62,6 +63,7 @@ module _ {T : Type 0} where
   moments_of calls.Receive answer = (Loan calls.Receive, answer) ∷ []
   moments_of start answer = []
 
+  -- what a call of the channel with this answer has written: its acts, and the moves of indices
   pub record Wrote (start : LoanStart) (answer : Answer T) (wrote : List (Event T)) : Type 0 where
     pub moments : moments wrote ≡ moments_of start answer
     pub done : HasDone start answer wrote

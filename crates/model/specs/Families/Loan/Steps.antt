@@ -50,23 +50,28 @@ read_in base words = slice_index words (word_at base 1)
 abbrev pub sent_at : (base queue : ℕ) → List ℕ → ℕ → ℕ
 sent_at base queue words position = slice_index words (word_at base (cell_word queue position))
 
--- and of the completion queue, with a cell for each slot
+-- What stands in a cell of the completion queue,
+-- which begins at this word and has a cell for each slot, by its position.
 abbrev pub given_back_at : (base slots : ℕ) → List ℕ → ℕ → ℕ
 given_back_at base slots words position =
     slice_index words (word_at base (ring.cell_word slots 1 position))
 
 -- ---- a send that has published over a full queue, and acts once the read position goes on
 
+-- the index of a push that is about to move the read position from this one
 abbrev pub pending_push : (position index : ℕ) → PushStage → Option ℕ
 pending_push position index (overflow_pushes.MovesRead read) =
     if read == position then Some index else None
 pending_push position index stage = None
 
+-- the index of a send that is about to move the read position from this one
 abbrev pub pending_send : (position index : ℕ) → SendStage → Option ℕ
 pending_send position index (sends.Pushes stage) = pending_push position index stage
 pending_send position index (sends.Releases other stage) = None
 
 module _ {T : Type 0} where
+  -- The index of the call under way, if that is a send that is
+  -- about to move the read position from the one in the words.
   abbrev pub pending : List ℕ → Option (Flight T) → Option ℕ
   pending words (Some (flights.Loan (Send run))) =
       pending_send (read_in (submission_word run.call.slots) words) run.given run.call.stage
@@ -98,13 +103,14 @@ abbrev pub release_effect : ℕ → ReleaseStage → Effect
 release_effect index releases.ClearsFlag = effects.Frees index
 release_effect index stage = effects.Quiet
 
+-- what the next step of a send does: one of its push, or one of its release of the index that the push took out
 abbrev pub send_effect : (base queue : ℕ) → List ℕ → ℕ → SendStage → ℕ → Effect
 send_effect base queue words index (sends.Pushes stage) old =
     push_effect base queue words index stage old
 send_effect base queue words index (sends.Releases back stage) old =
     release_effect back stage
 
--- beside a send that waits for the read position
+-- what the next step of a receive does; `push` is the send that waits for the read position, if there is one
 abbrev pub receive_effect : (base queue : ℕ) → List ℕ → Option (ℕ × ℕ) → PopStage → ℕ → Effect
 receive_effect base queue words push (overflow_pops.LoadsWrite read) old =
     if old == read then effects.FindsNone else effects.Quiet
@@ -112,26 +118,33 @@ receive_effect base queue words push (overflow_pops.MovesRead read) old =
     if old == read then effects.Receives (sent_at base queue words read) push else effects.Quiet
 receive_effect base queue words push stage old = effects.Quiet
 
+-- what the next step of a take-back does: its pop takes an index out as it moves the read position, and then frees it
 abbrev pub take_back_effect : TakeBackStage → Effect
 take_back_effect (take_backs.Pops (pops.TheVariants.StoresRead read) found) =
     effects.TakesBack found.0
 take_back_effect (take_backs.Pops stage found) = effects.Quiet
 take_back_effect (take_backs.Releases index stage) = release_effect index stage
 
+-- what the next step of a give-back does: the index is back as the write position moves
 abbrev pub give_back_effect : ℕ → pushes.PushStage → Effect
 give_back_effect index (pushes.TheVariants.StoresWrite write) = effects.Returns index
 give_back_effect index stage = effects.Quiet
 
+-- What the next step of a reclaim does that drains the submission queue:
+-- an index is handed out as the read position moves.
 abbrev pub drains_effect : (base queue : ℕ) → List ℕ → PopStage → ℕ → Effect
 drains_effect base queue words (overflow_pops.MovesRead read) old =
     if old == read then effects.HandsOut (sent_at base queue words read) else effects.Quiet
 drains_effect base queue words stage old = effects.Quiet
 
+-- What the next step of a reclaim does that empties the completion queue:
+-- an index is taken back as the read position moves.
 abbrev pub empties_effect : (base slots : ℕ) → List ℕ → pops.PopStage → Effect
 empties_effect base slots words (pops.TheVariants.StoresRead read) =
     effects.TakesBack (given_back_at base slots words read)
 empties_effect base slots words stage = effects.Quiet
 
+-- what the next step of a reclaim does: it drains the submission queue, empties the completion queue, or frees an index
 abbrev pub reclaim_effect : (slots queue : ℕ) → List ℕ → ReclaimStage → ℕ → Effect
 reclaim_effect slots queue words (reclaims.Drains stage) old =
     drains_effect (submission_word slots) queue words stage old
@@ -140,7 +153,7 @@ reclaim_effect slots queue words (reclaims.Empties stage) old =
 reclaim_effect slots queue words (reclaims.Releases number index stage) old =
     release_effect index stage
 
--- in these words, beside a send that waits, from this old value
+-- what the next step of a call does in these words, beside a send that waits, where its word has this old value
 abbrev pub effect_of : List ℕ → Option (ℕ × ℕ) → LoanFlight → ℕ → Effect
 effect_of words push (Loan run) old = effects.Claims
 effect_of words push (Send run) old =
@@ -156,9 +169,11 @@ effect_of words push (Reclaim call) old =
 module _ {T : Type 0} where
   -- ---- the events
 
+  -- the act of a call with this answer
   abbrev pub acts : ℕ → LoanStart → Answer T → Event T
   acts p start answer = Acted p (starts.Loan start) answer
 
+  -- the claim of a loan that answers an index
   abbrev pub claimed : ℕ → Option (Answer T) → List (Event T)
   claimed p (Some (answers.Index index)) = Claimed p index ∷ []
   claimed p outcome = []
@@ -192,6 +207,7 @@ module _ {T : Type 0} where
   effects_of p (effects.TakesBack index) outcome = TakenBack p index ∷ []
   effects_of p (effects.Frees index) outcome = Freed p index ∷ []
 
+  -- what the next step of a call writes down
   abbrev pub wrote : List ℕ → Option (ℕ × ℕ) → ℕ → LoanFlight → ℕ → Option (Answer T)
       → List (Event T)
   wrote words push p flight old outcome = effects_of p (effect_of words push flight old) outcome
@@ -211,8 +227,8 @@ module _ {T : Type 0} where
       }
   book_after book e = book
 
-  -- A party has an index from the end of the call that has got it. A reclaim that is done leaves the next
-  -- receiver, whose number, at most one a turn, has 64 bits.
+  -- A party has an index from the end of the call that has got it. A reclaim that is done leaves the next receiver,
+  -- whose number, at most one a turn, has 64 bits.
   abbrev pub ended_book : ℕ → LoanStart → Option (Answer T) → Book → Book
   ended_book p calls.Loan (Some (answers.Index index)) book =
       record book { holders = slice_set book.holders index (Some p) }
@@ -224,6 +240,7 @@ module _ {T : Type 0} where
 
   -- ---- all that a step comes to
 
+  -- all that a step of a loan channel's call comes to, where its word has this old value
   abbrev pub step : List ℕ → Option (ℕ × ℕ) → ℕ → LoanStart → LoanFlight → ℕ → Book
       → Step LoanFlight Book T
   step words push p start flight old book =

@@ -36,19 +36,22 @@ module _ {T : Type 0} (code : Coding T) where
       item_at kind words (cell_of kind capacity position)
       ∷ stored kind capacity words (position + 1) count
 
-  -- those between the read position and the write position
+  -- the values that wait: those in the cells between the read position and the write position
   abbrev pub waiting_in : QueueKind → ℕ → List ℕ → List (Item T)
   waiting_in kind capacity words =
       stored kind capacity words (slice_index words read_word)
       (slice_index words write_word - slice_index words read_word)
 
-  -- The positions count what was handed out and what was published. What was handed out is a
-  -- beginning of what was published, and the rest waits in the words, at most a value a cell.
+  -- The positions count what was handed out and what was published. What was handed out is a beginning of what was
+  -- published, and the rest waits in the words, at most a value a cell.
   pub record IsBook (kind : QueueKind) (t : Trace T) : Type 0 where
+    -- the read position counts what was handed out
     pub read : slice_index t.world.words read_word ≡ length (handed_out t.events)
+    -- the write position counts what was published
     pub write : slice_index t.world.words write_word ≡ length (published t.events)
     pub rest : published t.events
         ≡ handed_out t.events ++ waiting_in kind t.world.capacity t.world.words
+    -- no more waits than there are cells
     pub few : length (waiting_in kind t.world.capacity t.world.words)
         ≤ cells_of kind t.world.capacity
 

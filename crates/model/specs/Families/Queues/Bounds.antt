@@ -7,17 +7,19 @@ use Rattle.model.specs.declared.families.queues.QueueStart.TheVariants.{Push, Po
 use Rattle.model.specs.declared.families.queues.QueueKind.{QueueKind}
 use Rattle.model.specs.declared.families.queues.QueueKind.TheVariants.{IndexQueue, Overflow, Queue}
 
--- where a value of the machine's own type has so many words
+-- the most steps of a push, where a value has so many words
 abbrev pub most_push_steps : ℕ → QueueKind → ℕ
 most_push_steps size IndexQueue = 4
 most_push_steps size Overflow = 6
 most_push_steps size Queue = 3 + size
 
+-- the most steps of a pop that has gone back so often
 abbrev pub most_pop_steps : ℕ → QueueKind → ℕ → ℕ
 most_pop_steps size IndexQueue backs = 4
 most_pop_steps size Overflow backs = 4 + 2 * backs
 most_pop_steps size Queue backs = 3 + size
 
+-- the most steps of a peek, which an overflowing queue has not
 abbrev pub most_peek_steps : ℕ → QueueKind → ℕ
 most_peek_steps size IndexQueue = 3
 most_peek_steps size Overflow = 0

@@ -31,15 +31,19 @@ use Rattle.model.specs.Step.{Going, as_call}
 
 -- ---- the words
 
+-- the word of the write position
 abbrev pub write_word : ℕ
 write_word = 0
 
+-- the word of the read position
 abbrev pub read_word : ℕ
 read_word = 1
 
+-- the word of the producer's role
 abbrev pub producer_word : ℕ
 producer_word = 2
 
+-- the word of the consumer's role
 abbrev pub consumer_word : ℕ
 consumer_word = 3
 
@@ -49,12 +53,15 @@ words_of_index = one_word.words_of
 
 -- ---- the calls that begin
 
+-- an acquire of the role of this word as it begins
 abbrev pub acquire_of : {T : Type 0} → ℕ → QueueFlight T
 acquire_of word = Role (Acquire (record { call = record { word = word }; given = tt; room = tt }))
 
+-- a release of the role of this word as it begins
 abbrev pub release_of : {T : Type 0} → ℕ → QueueFlight T
 release_of word = Role (Release (record { call = record { word = word }; given = tt; room = tt }))
 
+-- a look at the role of this word as it begins
 abbrev pub look_of : {T : Type 0} → ℕ → QueueFlight T
 look_of word = Role (Look (record { call = record { word = word }; given = tt; room = tt }))
 
@@ -62,6 +69,7 @@ look_of word = Role (Look (record { call = record { word = word }; given = tt; r
 abbrev pub fresh : OneWord
 fresh = record { 0 = 0 }
 
+-- a room for the words of a value, of which none is loaded yet
 abbrev pub fresh_cell : buffers.Buffer 128
 fresh_cell = record { words = replicate 128 0 }
 
@@ -75,6 +83,7 @@ push_index_of kinds.Overflow capacity index =
     (record { call = overflow.first_push capacity; given = index; room = fresh })))
 push_index_of kinds.Queue capacity index = None
 
+-- the push of a value as it begins, which only a queue of values has
 abbrev pub push_value_of : {T : Type 0} → QueueKind → ℕ → T → Option (QueueFlight T)
 push_value_of kinds.IndexQueue capacity value = None
 push_value_of kinds.Overflow capacity value = None
@@ -82,6 +91,7 @@ push_value_of kinds.Queue capacity value =
     Some (Values (rings.Push
     (record { call = first_push capacity; given = value; room = tt })))
 
+-- the pop as it begins, in a queue of this kind and capacity
 abbrev pub pop_of : {T : Type 0} → QueueKind → ℕ → QueueFlight T
 pop_of kinds.IndexQueue capacity =
     Indices (rings.Pop (record { call = first_pop capacity; given = tt; room = fresh }))
@@ -102,6 +112,7 @@ peek_of kinds.Queue capacity =
     Some (Values (rings.Peek
     (record { call = first_peek capacity; given = tt; room = fresh_cell })))
 
+-- a call on the length as it begins
 abbrev pub length_of : {T : Type 0} → LengthOf → ℕ → QueueFlight T
 length_of which capacity =
     Length which (record { call = first_len capacity; given = tt; room = tt })
@@ -143,10 +154,12 @@ module _ {T : Type 0} where
   want code (Overflow (overflows.Pop run)) = overflow.pop_want run.call
   want code (Length which run) = len_want run.call
 
+-- what a pop of an index answers
 abbrev pub popped : {T : Type 0} → Option ℕ → Answer T
 popped None = answers.PoppedNone
 popped (Some index) = answers.PoppedIndex index
 
+-- what a pop of a value answers
 abbrev pub popped_value : {T : Type 0} → Option T → Answer T
 popped_value None = answers.PoppedNone
 popped_value (Some value) = answers.Popped value
@@ -175,12 +188,12 @@ read_in code room = value_in code.value_of code.size room.words
 abbrev pub kept_at : buffers.Buffer 128 → (at word : ℕ) → buffers.Buffer 128
 kept_at room at word = record room { words = slice_set room.words at word }
 
--- an end that is the answer
+-- the answer of a call that answers its end
 abbrev pub as_it_is : {E G M : Type 0} → E → G → M → E
 as_it_is end given room = end
 
 module _ {T : Type 0} where
-  -- how it goes on from the old value of its word
+  -- how a call under way goes on from the old value of its word
   abbrev pub after : Coding T → QueueFlight T → ℕ → After (QueueFlight T) (Answer T)
   after code (Role (Acquire run)) old =
       as_call (λ r. Role (Acquire r)) answers.Truth

@@ -10,8 +10,8 @@ use Rattle.model.specs.Families.Queues.Reading.{waiting}
 use Rattle.model.specs.Moments.{HeldSometime}
 
 module _ {T : Type 0} where
-  -- The answer tells how many values waited at one moment of the call. A peek answers the oldest
-  -- of those that wait as it ends, or None.
+  -- The answer tells how many values waited at one moment of the call. A peek answers the oldest of those that wait as
+  -- it ends, or None.
   abbrev pub TellsLength : ℕ → List (Event T) → Event T → Type 0
   TellsLength capacity before (Finished p (Queues Len) answer) =
       HeldSometime p (λ part. answer ≡ Number (length (waiting part))) before

@@ -22,12 +22,14 @@ module _ {T : Type 0} where
 
   -- ---- the bounded list
 
+  -- the items of a bounded list after a call
   abbrev pub list_after : ℕ → List (Item T) → Start T → List (Item T)
   list_after capacity items (Queues (PushIndex index)) = appended capacity items (Index index)
   list_after capacity items (Queues (Push value)) = appended capacity items (Value value)
   list_after capacity items (Queues Pop) = drop 1 items
   list_after capacity items other = items
 
+  -- what a bounded list answers: a push whether there was room, a pop the oldest item, if there is one
   abbrev pub list_answer : ℕ → List (Item T) → Start T → Answer T
   list_answer capacity items (Queues (PushIndex index)) =
       answers.Truth (nat_lt (length items) capacity)
@@ -36,14 +38,15 @@ module _ {T : Type 0} where
   list_answer capacity items (Queues Pop) = answer_of_item (slice_get items 0)
   list_answer capacity items other = answers.Done
 
-  -- Push appends and answers true where the length is below the capacity, else it answers false and
-  -- changes nothing. Pop takes the front, or answers None.
+  -- Push appends and answers true where the length is below the capacity, else it answers false and changes nothing.
+  -- Pop takes the front, or answers None.
   abbrev pub bounded_list : ℕ → Object T (List (Item T))
   bounded_list capacity =
       record { opening = []; after = list_after capacity; answer = list_answer capacity }
 
   -- ---- the overflowing list
 
+  -- the items of a list that overflows after a call: a push drops the oldest one where it has no room
   abbrev pub overflow_after : ℕ → List (Item T) → Start T → List (Item T)
   overflow_after capacity items (Queues (PushIndex index)) =
       cut capacity (items ++ Index index ∷ [])
@@ -51,6 +54,8 @@ module _ {T : Type 0} where
   overflow_after capacity items (Queues Pop) = drop 1 items
   overflow_after capacity items other = items
 
+  -- What a list that overflows answers: a push the item that it dropped,
+  -- if it dropped one, a pop the oldest item, if there is one.
   abbrev pub overflow_answer : ℕ → List (Item T) → Start T → Answer T
   overflow_answer capacity items (Queues (PushIndex index)) =
       answer_of_item (cut_off capacity (items ++ Index index ∷ []))
@@ -59,8 +64,8 @@ module _ {T : Type 0} where
   overflow_answer capacity items (Queues Pop) = answer_of_item (slice_get items 0)
   overflow_answer capacity items other = answers.Done
 
-  -- Push appends, and where the length then passes the capacity the front leaves and is answered,
-  -- else None. Pop takes the front, or answers None.
+  -- Push appends, and where the length then passes the capacity the front leaves and is answered, else None. Pop takes
+  -- the front, or answers None.
   abbrev pub overflowing_list : ℕ → Object T (List (Item T))
   overflowing_list capacity =
       record { opening = []; after = overflow_after capacity; answer = overflow_answer capacity }

@@ -47,6 +47,7 @@ opening kind =
       kept = λ capacity. registries.Queues (record { producer = None; consumer = None });
     }
 
+-- whether the party is the one that holds a role
 abbrev pub holds : Option ℕ → ℕ → Bool
 holds None p = false
 holds (Some q) p = q == p
@@ -59,6 +60,7 @@ queue_kind any_kinds.Queue = Some kinds.Queue
 queue_kind kind = None
 
 module _ {T : Type 0} where
+  -- the call as it begins in a queue of this kind, if that has it
   abbrev first_in : Option QueueKind → ℕ → QueueStart T → Option (QueueFlight T)
   first_in None capacity start = None
   first_in (Some kind) capacity start = first kind capacity start
@@ -87,10 +89,12 @@ module _ {T : Type 0} where
   abbrev pub call_rows : Roles → ℕ → QueueStart T → List (Bool × Refusal)
   call_rows roles p start = (lacks_role roles p start, NoRole) ∷ []
 
+  -- what is tested before a party begins the call, by who holds the roles
   abbrev pub kept_rows : QueueStart T → Registry T → ℕ → List (Bool × Refusal)
   kept_rows start (registries.Queues roles) p = call_rows roles p start
   kept_rows start kept p = (true, WrongCall) ∷ []
 
+  -- how a call of a queue begins, and what is tested before
   abbrev pub begin : Kind → ℕ → QueueStart T → Beginning (Flight T) (Registry T)
   begin kind capacity start =
       record {

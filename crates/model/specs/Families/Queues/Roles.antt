@@ -12,8 +12,8 @@ use Rattle.model.specs.declared.families.queues.QueueStart.TheVariants.{HasConsu
 use Rattle.model.specs.Families.Queues.Reading.{producer_of, consumer_of}
 
 module _ {T : Type 0} where
-  -- An acquire answers whether nobody holds the role. Its holder gives it back. A look answers
-  -- whether somebody holds it as the look ends.
+  -- An acquire answers whether nobody holds the role. Its holder gives it back. A look answers whether somebody holds
+  -- it as the look ends.
   abbrev pub GrantsRight : List (Event T) → Event T → Type 0
   GrantsRight before (Finished p (Queues AcquireProducer) answer) =
       answer ≡ Truth (is_none (producer_of before))

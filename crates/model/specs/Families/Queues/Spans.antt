@@ -39,6 +39,7 @@ module _ {T : Type 0} where
   published_by_push Queue capacity item (Truth true) = item ∷ []
   published_by_push Queue capacity item answer = []
 
+  -- what a call with this answer published
   abbrev pub published_by : QueueKind → ℕ → QueueStart T → Answer T → List (Item T)
   published_by kind capacity (PushIndex index) answer =
       published_by_push kind capacity (Index index) answer
@@ -66,6 +67,7 @@ module _ {T : Type 0} where
 
   -- ---- where an event may stand
 
+  -- the push of this item
   abbrev pub push_of : Item T → Start T
   push_of (Index index) = Queues (PushIndex index)
   push_of (Value value) = Queues (Push value)
@@ -80,6 +82,6 @@ module _ {T : Type 0} where
   HandsOut Overflow call = (call ≡ Queues Pop) ⊎ (item : Item T) × (call ≡ push_of item)
   HandsOut Queue call = call ≡ Queues Pop
 
-  -- they do so once
+  -- a call hands a value out once
   abbrev pub MayHandOut : QueueKind → Span T → Type 0
   MayHandOut kind span = IsOpen (HandsOut kind) (λ wrote. handed_out wrote ≡ []) span

@@ -35,12 +35,14 @@ use Rattle.model.specs.Step.{Step, answer_in}
 
 -- ---- a push that has published over a full queue, and acts once the read position goes on
 
+-- the value of a push that is about to move the read position from this one
 abbrev pub pending_from : (position value : ℕ) → PushStage → Option ℕ
 pending_from position value (overflow_pushes.MovesRead read) =
     if read == position then Some value else None
 pending_from position value other = None
 
 module _ {T : Type 0} where
+  -- the value of the call under way, if that is a push that is about to move the read position from this one
   abbrev pub pending_at : ℕ → Option (Flight T) → Option ℕ
   pending_at position
       (Some (flights.Queues (Overflow (overflows.Push run)))) =
@@ -54,8 +56,7 @@ module _ {T : Type 0} where
       option_map (λ value. (p, value))
       (pending_at position (flight_of (doing_of (party_of p latest))))
 
-  -- the push that acts where this party moves the read position,
-  -- which the consumer alone can do by a pop
+  -- the push that acts where this party moves the read position, which the consumer alone can do by a pop
   abbrev pub beside : Roles → List ℕ → List (ℕ × Party T) → ℕ → Option (ℕ × ℕ)
   beside roles words latest p =
       if holds roles.consumer p
@@ -64,24 +65,23 @@ module _ {T : Type 0} where
 
   -- ---- what the next step of a call does
 
-  -- False is settled by the load of the read position, true by the store of the write position.
-  -- A push that meets the last write position says nothing; no machine comes so far.
+  -- False is settled by the load of the read position, true by the store of the write position. A push that meets the
+  -- last write position says nothing; no machine comes so far.
   abbrev pub push_effect : Item T → pushes.PushStage → Effect T
   push_effect item pushes.TheVariants.LoadsWrite = Quiet
   push_effect item (pushes.TheVariants.LoadsRead write) = Acts
   push_effect item (pushes.TheVariants.StoresCell write cell at) = Quiet
   push_effect item (pushes.TheVariants.StoresWrite write) = Publishes item
 
-  -- None is settled by the load of the write position, the value that
-  -- was read by the store of the read position
+  -- None is settled by the load of the write position, the value that was read by the store of the read position
   abbrev pub pop_effect : Item T → pops.PopStage → Effect T
   pop_effect item pops.TheVariants.LoadsRead = Quiet
   pop_effect item (pops.TheVariants.LoadsWrite read) = Acts
   pop_effect item (pops.TheVariants.LoadsCell read cell at) = Quiet
   pop_effect item (pops.TheVariants.StoresRead read) = HandsOut item
 
-  -- A push that found the queue full waits for the read position to go on: it acts at its own move,
-  -- or where a pop moves it first. Where it has gone on already, there is room.
+  -- A push that found the queue full waits for the read position to go on: it acts at its own move, or where a pop
+  -- moves it first. Where it has gone on already, there is room.
   abbrev pub overflow_push_effect : List ℕ → ℕ → Item T → PushStage → ℕ → Effect T
   overflow_push_effect words capacity item overflow_pushes.HandsBack old = Acts
   overflow_push_effect words capacity item overflow_pushes.LoadsWrite old = Quiet
@@ -102,6 +102,8 @@ module _ {T : Type 0} where
   takes_effect item None = HandsOut item
   takes_effect item (Some push) = MakesRoom item push.0 push.1
 
+  -- What the next step of a pop of an overflowing queue does to the queue, where its word has this old value and `push`
+  -- is the push that acts where the read position moves.
   abbrev pub overflow_pop_effect : List ℕ → Option (ℕ × ℕ) → ℕ
       → PopStage → ℕ → Effect T
   overflow_pop_effect words push capacity overflow_pops.FindsNone old = Acts
@@ -113,6 +115,7 @@ module _ {T : Type 0} where
       then takes_effect (Index (slice_index words (cell_word capacity read))) push
       else Quiet
 
+  -- what the next step of a queue's call does to the queue, where its word has this old value
   abbrev pub effect_of : Coding T → List ℕ → Option (ℕ × ℕ) → QueueFlight T → ℕ → Effect T
   effect_of code words push (Role call) old = Quiet
   effect_of code words push (Indices (rings.Push run)) old =
@@ -133,6 +136,7 @@ module _ {T : Type 0} where
 
   -- ---- the events, where this is the answer of a call that is done
 
+  -- the act of a call that has an answer
   abbrev pub acts_if_done : ℕ → QueueStart T → Option (Answer T) → List (Event T)
   acts_if_done p start None = []
   acts_if_done p start (Some answer) = Acted p (Queues start) answer ∷ []
@@ -153,6 +157,7 @@ module _ {T : Type 0} where
 
   -- ---- the roles: held from the end of an acquire that answers true to the end of the giving back
 
+  -- who has the roles once a call has ended with this answer, or goes on
   abbrev pub roles_after : ℕ → QueueStart T → Option (Answer T) → Roles → Roles
   roles_after p AcquireProducer (Some (Truth true)) roles = record roles { producer = Some p }
   roles_after p ReleaseProducer (Some answer) roles = record roles { producer = None }
@@ -162,6 +167,7 @@ module _ {T : Type 0} where
 
   -- ---- all that a step comes to
 
+  -- all that a step of a queue's call comes to, where its word has this old value
   abbrev pub step : Coding T → List ℕ → Option (ℕ × ℕ) → ℕ → QueueStart T → QueueFlight T → ℕ
       → Roles → Step (QueueFlight T) Roles T
   step code words waits p start flight old roles =

@@ -15,18 +15,21 @@ use Rattle.steps.specs.declared.indices.robust.acquire.Acquire.{Acquire}
 use Rattle.steps.specs.declared.indices.robust.acquire.AcquireStage.{AcquireStage}
 use Rattle.steps.specs.declared.indices.robust.acquire.AcquireStage.TheVariants as acquires
 
+-- what an acquire ends with: an index, or why there is none
 abbrev pub Acquired : Type 0
 Acquired = Result ℕ UniqueIndexSetAcquireFailure
 
+-- an acquire before its first step
 abbrev pub first_acquire : ℕ → Acquire
 first_acquire capacity =
     record { capacity = capacity; stage = acquires.LoadsCounter }
 
+-- the call at this stage
 abbrev pub at_acquire : Acquire → AcquireStage → Acquire
 at_acquire call stage = record call { stage = stage }
 
--- load the counter; exchange the cells from empty to the owner;
--- exchange the counter for itself; raise
+-- What the acquire asks for, step by step: load the counter; exchange the cells from empty to the owner; exchange the
+-- counter for itself; raise.
 abbrev pub acquire_asks : AcquireStage → ℕ → Want (Unit {0})
 acquire_asks acquires.LoadsCounter owner = load 0
 acquire_asks (acquires.FillsCell counter index) owner =
@@ -34,10 +37,11 @@ acquire_asks (acquires.FillsCell counter index) owner =
 acquire_asks (acquires.ChecksCounter counter) owner = exchange 0 counter counter
 acquire_asks (acquires.Raises index raise) owner = raise_want raise
 
+-- what the acquire waits for
 abbrev pub acquire_want : Acquire → ℕ → Want (Unit {0})
 acquire_want call owner = acquire_asks call.stage owner
 
--- the next cell; after the last one the counter is checked
+-- the acquire goes on to the next cell; after the last one it checks the counter
 abbrev pub acquire_tries : Acquire → (counter index : ℕ) → After Acquire Acquired
 acquire_tries call counter index =
     GoOn
@@ -46,7 +50,8 @@ acquire_tries call counter index =
     then acquires.FillsCell counter index
     else acquires.ChecksCounter counter))
 
--- what a counter says
+-- How the acquire goes on from this counter:
+-- it fails where that is the lock's or at its end, and else tries the first cell.
 abbrev pub acquire_sees : Acquire → ℕ → After Acquire Acquired
 acquire_sees call counter =
     if counter == locked
@@ -55,13 +60,15 @@ acquire_sees call counter =
     then Done (Err failures.OutOfIndices)
     else acquire_tries call counter 0
 
--- it answers the index, unless the set is locked by now
+-- the acquire after a step of its raise: it answers the index, unless the set is locked by now
 abbrev pub acquire_raised : Acquire → ℕ → After Raise ReleaseState → After Acquire Acquired
 acquire_raised call index (GoOn raise) =
     GoOn (at_acquire call (acquires.Raises index raise))
 acquire_raised call index (Done Locked) = Done (Err failures.IsLocked)
 acquire_raised call index (Done Unlocked) = Done (Ok index)
 
+-- Where the acquire goes on to from the old value of its word: it fills the first empty cell that it finds, and raises
+-- the counter then. Where no cell was empty it ends, unless the counter has moved.
 abbrev pub acquire_takes : Acquire → AcquireStage → ℕ → After Acquire Acquired
 acquire_takes call acquires.LoadsCounter old = acquire_sees call old
 acquire_takes call (acquires.FillsCell counter index) old =
@@ -73,10 +80,11 @@ acquire_takes call (acquires.ChecksCounter counter) old =
 acquire_takes call (acquires.Raises index raise) old =
     acquire_raised call index (raise_after raise old)
 
+-- how the acquire goes on from the stage at which it is, by the old value of its word
 abbrev pub acquire_after : Acquire → ℕ → After Acquire Acquired
 acquire_after call old = acquire_takes call call.stage old
 
--- the counter has moved
+-- whether the acquire begins a loop again once it is handed this old value: another has moved the counter
 abbrev pub acquire_goes_back : AcquireStage → ℕ → Bool
 acquire_goes_back acquires.LoadsCounter old = false
 acquire_goes_back (acquires.FillsCell counter index) old = false

@@ -1,5 +1,5 @@
--- What the calls of the robust set of indices keep to: none of them stores, and those
--- that end by themselves come nearer to their end at each step.
+-- What the calls of the robust set of indices keep to: none of them stores, and those that end by themselves come
+-- nearer to their end at each step.
 use Rattle.std.specs.Prelude.{◌≡◌, ℕ, ◌+◌, ◌-◌, ◌*◌, ◌<◌, ◌≤◌, IsTrue, nat_lt}
 use Rattle.std.proofs.Common.{arith, ap}
 use Rattle.std.proofs.lemmas.Bool.Decides.{nat_tests}
@@ -39,15 +39,18 @@ use Rattle.steps.specs.Indices.Robust.Looks.{borrowed_after, locked_after}
 
 -- ---- the parts ask for no store
 
+-- no step of a raise is a store
 pub raise_stores_not : {A : Type 0} (raise : Raise) → IsTrue (is_store (raise_want raise)) → A
 raise_stores_not raises.LoadsCounter t = no_store t
 raise_stores_not (raises.ExchangesCounter counter) t = no_store t
 
+-- no step of a count is a store
 count_stores_not : {A : Type 0} (count : Count) → IsTrue (is_store (count_want count)) → A
 count_stores_not counts.LoadsCounter t = no_store t
 count_stores_not (counts.LoadsCell counter index filled) t = no_store t
 count_stores_not (counts.ExchangesCounter counter filled) t = no_store t
 
+-- no step of a lock is a store
 pub lock_stores_not : {A : Type 0} (lock : Lock) → IsTrue (is_store (lock_want lock)) → A
 lock_stores_not (locks.Counts count) t = count_stores_not count t
 lock_stores_not (locks.ExchangesCounter counter) t = no_store t
@@ -64,7 +67,7 @@ acquire_tells c (acquires.ChecksCounter counter) owner room m n t = no_store t
 acquire_tells c (acquires.Raises index raise) owner room m n t =
     raise_stores_not raise t
 
--- a release has none
+-- a release has no store, so there is no store whose old value it could use
 pub release_tells : (c : Release) (stage : ReleaseStage) (given : GiveBack)
     (room : Unit {0}) (m n : ℕ) → IsTrue (is_store (release_asks stage given))
     → (release_takes c stage given m ≡ release_takes c stage given n) × (room ≡ room)
@@ -91,6 +94,7 @@ recover_tells c (recovers.Raises index raise) mode room m n t = raise_stores_not
 recover_tells c (recovers.Locks index lock) mode room m n t = lock_stores_not lock t
 recover_tells c recovers.LoadsCounterAgain mode room m n t = no_store t
 
+-- a call that counts the borrowed indices never stores, so there is no store whose old value it could use
 pub borrowed_tells : (c : BorrowedIndices) (count : Count) (room : Unit {0}) (m n : ℕ)
     → IsTrue (is_store (count_want count)) → (borrowed_after c m ≡ borrowed_after c n)
     × (room ≡ room)
@@ -112,7 +116,7 @@ next_nearer c index found =
     (λ t. let further : index + 1 < c.capacity = grind (arith, nat_tests) in omega arith)
     (λ t. omega arith)
 
--- after each step of a find, fewer are left
+-- each step of a find after which it goes on leaves fewer steps than were left before
 find_stage_fewer : (c : Find) (stage : FindStage) (owner k : ℕ)
     → find_then (find_takes c stage owner k) ≤ find_left c.capacity stage
 find_stage_fewer c (finds.LoadsCell index found) owner k =
@@ -125,10 +129,12 @@ find_stage_fewer c (finds.Asks index found) owner k =
     (find_comes_to c (index + 1) found)
     (λ e. omega arith) (λ e. next_nearer c index found)
 
+-- a find that goes on has fewer steps left
 pub find_fewer : (c d : Find) (owner n : ℕ) → find_after c owner n ≡ GoOn d
     → find_left d.capacity d.stage < find_left c.capacity c.stage
 find_fewer c d owner n goes =
     let e = ap find_then goes in let f = find_stage_fewer c c.stage owner n in omega arith
 
+-- the look at the lock never goes on: it ends with its first step
 pub locked_fewer : (c d : IsLocked) (n : ℕ) → locked_after c n ≡ GoOn d → 0 < 0
 locked_fewer c d n goes = cc

@@ -19,15 +19,17 @@ use Rattle.steps.specs.declared.indices.robust.recover.Recover.{Recover}
 use Rattle.steps.specs.declared.indices.robust.recover.RecoverStage.{RecoverStage}
 use Rattle.steps.specs.declared.indices.robust.recover.RecoverStage.TheVariants as recovers
 
+-- a recovery before its first step
 abbrev pub first_recover : ℕ → Recover
 first_recover capacity =
     record { capacity = capacity; stage = recovers.LoadsCounter }
 
+-- the call at this stage
 abbrev pub at_recover : Recover → RecoverStage → Recover
 at_recover call stage = record call { stage = stage }
 
--- load the counter; for each index load the cell, ask, exchange the
--- cell from the owner found to empty, raise, lock; load the counter
+-- What the recovery asks for, step by step: load the counter; for each index load the cell, ask, exchange the cell from
+-- the owner found to empty, raise, lock; load the counter.
 abbrev pub recover_asks : RecoverStage → Want (Unit {0})
 recover_asks recovers.LoadsCounter = load 0
 recover_asks (recovers.LoadsCell index) = load (cell_word index)
@@ -39,10 +41,11 @@ recover_asks (recovers.Raises index raise) = raise_want raise
 recover_asks (recovers.Locks index lock) = lock_want lock
 recover_asks recovers.LoadsCounterAgain = load 0
 
+-- what the recovery waits for
 abbrev pub recover_want : Recover → Want (Unit {0})
 recover_want call = recover_asks call.stage
 
--- the next index; after the last one the counter is loaded again
+-- the recovery goes on to the next index; after the last one it loads the counter again
 abbrev pub recover_comes_to : Recover → ℕ → After Recover ReleaseState
 recover_comes_to call index =
     GoOn
@@ -51,7 +54,7 @@ recover_comes_to call index =
     then recovers.LoadsCell index
     else recovers.LoadsCounterAgain))
 
--- a locked set ends it; it locks in the mode for that alone
+-- the recovery after a step of its raise: a locked set ends it, and only the mode that locks goes on to lock
 abbrev pub recover_raised : Recover → ℕ → ReleaseMode → After Raise ReleaseState
     → After Recover ReleaseState
 recover_raised call index mode (GoOn raise) =
@@ -61,12 +64,14 @@ recover_raised call index LockIfLastIndex (Done Unlocked) =
     GoOn (at_recover call (recovers.Locks index first_lock))
 recover_raised call index Default (Done Unlocked) = recover_comes_to call (index + 1)
 
--- it goes on, whatever its lock answers
+-- the recovery after a step of its lock: it goes on to the next index, whatever the lock answers
 abbrev pub recover_locked : Recover → ℕ → After locks.Lock ReleaseState → After Recover ReleaseState
 recover_locked call index (GoOn lock) =
     GoOn (at_recover call (recovers.Locks index lock))
 recover_locked call index (Done state) = recover_comes_to call (index + 1)
 
+-- Where the recovery goes on to from the old value of its word: it visits each filled cell, asks whether its owner is
+-- dead, and after a yes it empties the cell, raises the counter and, in the mode that locks, tries to lock.
 abbrev pub recover_takes : Recover → RecoverStage → ReleaseMode → ℕ
     → After Recover ReleaseState
 recover_takes call recovers.LoadsCounter mode old =
@@ -90,10 +95,11 @@ recover_takes call (recovers.Locks index lock) mode old =
 recover_takes call recovers.LoadsCounterAgain mode old =
     Done (if old == locked then Locked else Unlocked)
 
+-- how the recovery goes on from the stage at which it is, by the old value of its word
 abbrev pub recover_after : Recover → ReleaseMode → ℕ → After Recover ReleaseState
 recover_after call mode old = recover_takes call call.stage mode old
 
--- the owner and the index of a cell that it has emptied
+-- the owner and the index of the cell that the step has emptied, if it has emptied one
 abbrev pub recover_frees : RecoverStage → ℕ → Option (ℕ × ℕ)
 recover_frees recovers.LoadsCounter old = None
 recover_frees (recovers.LoadsCell index) old = None
@@ -104,7 +110,7 @@ recover_frees (recovers.Raises index raise) old = None
 recover_frees (recovers.Locks index lock) old = None
 recover_frees recovers.LoadsCounterAgain old = None
 
--- the counter has moved
+-- whether the recovery begins a loop again once it is handed this old value: another has moved the counter
 abbrev pub recover_goes_back : RecoverStage → ℕ → Bool
 recover_goes_back recovers.LoadsCounter old = false
 recover_goes_back (recovers.LoadsCell index) old = false

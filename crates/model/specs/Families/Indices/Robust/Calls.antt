@@ -24,11 +24,12 @@ use Rattle.model.specs.Step.{Going, as_call}
 
 -- ---- the calls that begin
 
--- on a set of this capacity
+-- an acquire for this owner as it begins, on a set of this capacity
 abbrev pub acquire_of : (capacity owner : ℕ) → RobustFlight
 acquire_of capacity owner =
     Acquire (record { call = first_acquire capacity; given = owner; room = tt })
 
+-- a release of an index for its owner as it begins, in this mode
 abbrev pub release_of : (capacity index owner : ℕ) → ReleaseMode → RobustFlight
 release_of capacity index owner mode =
     Release
@@ -38,21 +39,26 @@ release_of capacity index owner mode =
       room = tt;
     })
 
+-- a find of an owner's indices as it begins
 abbrev pub find_of : (capacity owner : ℕ) → RobustFlight
 find_of capacity owner =
     Find (record { call = first_find capacity; given = owner; room = tt })
 
+-- a recovery as it begins
 abbrev pub recover_of : ℕ → ReleaseMode → RobustFlight
 recover_of capacity mode =
     Recover (record { call = first_recover capacity; given = mode; room = tt })
 
+-- a count as it begins
 abbrev pub borrowed_of : ℕ → RobustFlight
 borrowed_of capacity =
     BorrowedIndices (record { call = first_borrowed capacity; given = tt; room = tt })
 
+-- a look at the lock as it begins
 abbrev pub locked_of : RobustFlight
 locked_of = IsLocked (record { call = record {}; given = tt; room = tt })
 
+-- a call of the robust set as it begins
 abbrev pub first : ℕ → RobustStart → RobustFlight
 first capacity (starts.Acquire owner) = acquire_of capacity owner
 first capacity (starts.Release index owner mode) =
@@ -83,15 +89,17 @@ goes_back (BorrowedIndices run) old = borrowed_goes_back run.call old
 goes_back (IsLocked run) old = false
 
 module _ {T : Type 0} where
+  -- what an acquire answers
   abbrev pub acquire_answer : Acquired → Answer T
   acquire_answer (Ok index) = answers.Index index
   acquire_answer (Err failure) = answers.NoIndex failure
 
+  -- what a release answers
   abbrev pub release_answer : Released → Answer T
   release_answer (Ok state) = answers.State state
   release_answer (Err failure) = answers.NotOwned failure
 
-  -- how it goes on from the old value of its word
+  -- how a call under way goes on from the old value of its word
   abbrev pub after : RobustFlight → ℕ → After RobustFlight (Answer T)
   after (Acquire run) old =
       as_call Acquire acquire_answer

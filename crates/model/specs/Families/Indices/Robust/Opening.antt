@@ -42,6 +42,7 @@ is_set kind = false
 abbrev pub is_owner : ℕ → Bool
 is_owner owner = nat_lt owner empty
 
+-- whether the number that the call names as owner is one that an owner may have
 abbrev pub names_owner : RobustStart → Bool
 names_owner (Acquire owner) = is_owner owner
 names_owner (Release index owner mode) = is_owner owner
@@ -55,8 +56,8 @@ abbrev pub call_of : Kind → ℕ → RobustStart → Option RobustFlight
 call_of kind capacity start =
     if is_set kind && names_owner start then Some (first capacity start) else None
 
--- what is tested of a call that is to begin: that the index which it is to give back is one of the
--- set, and that the owner for whom it is to acquire or release lives
+-- what is tested of a call that is to begin: that the index which it is to give back is one of the set, and that the
+-- owner for whom it is to acquire or release lives
 abbrev pub call_rows : ℕ → List ℕ → RobustStart → List (Bool × Refusal)
 call_rows capacity dead (Acquire owner) = (has_died owner dead, OwnerIsDead) ∷ []
 call_rows capacity dead (Release index owner mode) =
@@ -66,11 +67,13 @@ call_rows capacity dead (Recover mode) = []
 call_rows capacity dead BorrowedIndices = []
 call_rows capacity dead IsLocked = []
 
+-- what is tested before a party begins the call, by who has died
 abbrev pub kept_rows : {T : Type 0} → ℕ → RobustStart → Registry T → ℕ → List (Bool × Refusal)
 kept_rows capacity start (registries.Owners dead) p = call_rows capacity dead start
 kept_rows capacity start kept p = (true, WrongCall) ∷ []
 
 module _ {T : Type 0} where
+  -- how a call of the robust set begins, and what is tested before
   abbrev pub begin : Kind → ℕ → RobustStart → Beginning (Flight T) (Registry T)
   begin kind capacity start =
       record {

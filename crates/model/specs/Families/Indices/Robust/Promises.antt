@@ -37,7 +37,7 @@ use Rattle.model.specs.Reading.{Each, Span, Open, span_of}
 use Rattle.model.specs.Shape.{IsOpenFor}
 use Rattle.model.specs.World.{Trace, flight_in}
 
--- so many numbers below the bound are chosen
+-- how many numbers below the bound are chosen
 abbrev pub count_below : (ℕ → Bool) → ℕ → ℕ
 count_below chosen zero = 0
 count_below chosen (suc n) = (if chosen n then 1 else 0) + count_below chosen n
@@ -47,7 +47,7 @@ abbrev pub asked_by : Want (Unit {0}) → Option ℕ
 asked_by (wants.Question (questions.Index index)) = Some index
 asked_by want = None
 
--- the same, with its owner
+-- the index that a call asks about, with its owner, if it asks so
 abbrev pub owned_by : Want (Unit {0}) → Option (ℕ × ℕ)
 owned_by (wants.Question (questions.Owned owner index)) =
     Some (index, owner)
@@ -61,12 +61,15 @@ cell_of (Some owner) = owner
 module _ {T : Type 0} where
   -- ---- moments of a call
 
+  -- the index is filled for some owner
   abbrev pub IsFilled : ℕ → List (Event T) → Type 0
   IsFilled index events = is_some (filled_of index events) ≡ true
 
+  -- the index is filled for this owner
   abbrev pub IsFilledWith : (owner index : ℕ) → List (Event T) → Type 0
   IsFilledWith owner index events = filled_of index events ≡ Some owner
 
+  -- the set is not locked
   abbrev pub IsUnlocked : List (Event T) → Type 0
   IsUnlocked events = is_locked events ≡ false
 
@@ -85,9 +88,9 @@ module _ {T : Type 0} where
       is_dead owner before ≡ false
   LivesToRelease owner before span = Unit {0}
 
-  -- An index of the set is filled where it is not, and granted, for an owner who lives. It is freed
-  -- where it is filled with that owner, by a release while he lives. The lock comes once, and after
-  -- it nothing is granted; a call that began after it fills nothing. An owner dies once.
+  -- An index of the set is filled where it is not, and granted, for an owner who lives. It is freed where it is filled
+  -- with that owner, by a release while he lives. The lock comes once, and after it nothing is granted; a call that
+  -- began after it fills nothing. An owner dies once.
   abbrev pub SetDoes : ℕ → List (Event T) → Event T → Type 0
   SetDoes capacity before (Filled p index owner) =
       (index < capacity) × (filled_of index before ≡ None) × (is_dead owner before ≡ false)
@@ -100,8 +103,8 @@ module _ {T : Type 0} where
   SetDoes capacity before (Died owner) = is_dead owner before ≡ false
   SetDoes capacity before e = Unit {0}
 
-  -- A recovery asks about an index that is filled with the owner named, and nothing if it began
-  -- after the lock. It is told to free one of a dead owner.
+  -- A recovery asks about an index that is filled with the owner named, and nothing if it began after the lock. It is
+  -- told to free one of a dead owner.
   abbrev pub AsksRight : List (Event T) → Event T → Type 0
   AsksRight before (Asked p index owner) =
       (filled_of index before ≡ Some owner) × HeldSometime p IsUnlocked before
@@ -110,9 +113,8 @@ module _ {T : Type 0} where
 
   -- ---- holders, in a well-formed run
 
-  -- A release or a remove that frees was begun where its index might be given back for its owner: the
-  -- acquire or the add that was granted it had finished, and no other release or remove of it for that
-  -- owner had begun since.
+  -- A release or a remove that frees was begun where its index might be given back for its owner: the acquire or the
+  -- add that was granted it had finished, and no other release or remove of it for that owner had begun since.
   abbrev pub MayGiveBack : (p index : ℕ) → List (Event T) → Span T → Type 0
   MayGiveBack p index before (Open (Robust (Release i owner mode)) wrote) =
       SinceBegin p (λ part since. settled_of index part ≡ Some owner) before
@@ -120,10 +122,12 @@ module _ {T : Type 0} where
       SinceBegin p (λ part since. settled_of index part ≡ Some owner) before
   MayGiveBack p index before span = Unit {0}
 
+  -- an index is freed only where the call might give it back
   abbrev pub FreesRight : List (Event T) → Event T → Type 0
   FreesRight before (FreedOf p index owner) = MayGiveBack p index before (span_of p before)
   FreesRight before e = Unit {0}
 
+  -- each index that is freed might be given back: the run is well-formed
   abbrev pub IsWellFormed : List (Event T) → Type 0
   IsWellFormed events = Each FreesRight events
 
@@ -135,23 +139,27 @@ module _ {T : Type 0} where
 
   -- ---- answers
 
-  -- of the indices below the bound so many were P that each which was so through the whole call is
-  -- among them, and none that was so at no moment of it
+  -- `number` counts indices below the bound: each for which P held through the whole call, and none for which it held
+  -- at no moment of it.
   pub record IsCount (p : ℕ) (P : ℕ → List (Event T) → Type 0) (bound number : ℕ)
       (events : List (Event T)) : Type 0 where
+    -- the indices that are counted
     pub chosen : ℕ → Bool
     pub is : count_below chosen bound ≡ number
+    -- P held for each of them at a moment of the call
     pub once : (index : ℕ) → index < bound → chosen index ≡ true → HeldSometime p (P index) events
+    -- each for which P held through the whole call is one
     pub through : (index : ℕ) → index < bound → HeldThroughout p (P index) events
         → chosen index ≡ true
 
-  -- the indices below the bound, which is that of the set unless a no ended the call
+  -- The number that a find answers is that of its owner's indices below a bound,
+  -- which is the capacity unless a no ended the call.
   pub record IsFound (p owner capacity number : ℕ) (events : List (Event T)) : Type 0 where
     pub bound : ℕ
     pub within : bound ≤ capacity
     pub count : IsCount p (IsFilledWith owner) bound number events
 
-  -- some index was filled at a moment of the call after it had freed its own
+  -- some index was filled at a moment of the call after the call had freed this index
   pub record FilledSinceFreed (p owner index : ℕ) (events : List (Event T)) : Type 0 where
     pub other : ℕ
     pub once : HeldSometime p
@@ -162,8 +170,8 @@ module _ {T : Type 0} where
   StillToFree p owner index part =
       IsFilledWith owner index part ⊎ IsOneOf (Frees index owner) (set_acts_of p part)
 
-  -- No index that it was told to free has that owner. It asked about each that was filled with one
-  -- owner through the whole call, until the call itself freed it.
+  -- No index that it was told to free has that owner. It asked about each that was filled with one owner through the
+  -- whole call, until the call itself freed it.
   pub record HasRecovered (p : ℕ) (events : List (Event T)) : Type 0 where
     pub gone : (index owner : ℕ) → IsOneOf (Yes index owner) (set_acts_of p events)
         → filled_of index events ≢ Some owner
@@ -206,22 +214,33 @@ module _ {T : Type 0} where
       (owner : ℕ) → has_died owner dead ≡ is_dead owner events
   KeepsDead kept events = ⊥
 
+  -- What holds of a robust set's machine after any turns: each event is right, and cells, lock and the dead agree with
+  -- the events. Who holds an index is said only of well-formed runs.
   pub record IsRobustSet (t : Trace T) : Type 0 where
+    -- indices are filled, granted, freed and locked right
     pub does : Each (SetDoes t.world.capacity) t.events
+    -- recoveries ask right
     pub asks : Each AsksRight t.events
+    -- in a well-formed run no index is granted that is held
     pub holds : IsWellFormed t.events → Each HoldsRight t.events
+    -- each answer is right
     pub answers : Each (AnswersRight t.world.capacity) t.events
+    -- each cell says for whom its index is filled
     pub cells : (index : ℕ) → index < t.world.capacity
         → slice_index t.world.words (cell_word index) ≡ cell_of (filled_of index t.events)
+    -- the counter says whether the set is locked
     pub lock : (slice_index t.world.words 0 == locked) ≡ is_locked t.events
+    -- the machine keeps who has died
     pub dead : KeepsDead t.world.kept t.events
 
   -- ---- the promise
 
+  -- what a call that has finished with this answer has written; a call of another family has not begun
   abbrev pub wrote : ℕ → Start T → Answer T → List (Event T) → Type 0
   wrote capacity (Robust start) answer events = HasDone start answer (set_acts events)
   wrote capacity start answer events = ⊥
 
+  -- how many steps a call takes at most; a call of another family does not begin
   abbrev pub most : (capacity size : ℕ) → Start T → ℕ → ℕ
   most capacity size (Robust start) backs = most_steps capacity start backs
   most capacity size start backs = 0
@@ -230,7 +249,7 @@ module _ {T : Type 0} where
   abbrev pub ActsRight : Trace T → Option Ask → (ℕ → Type 0) → Event T → Type 0
   ActsRight old ask IsTurnOf e = ⊥
 
-  -- a find that ends in another turn than a no has come to the indices of the whole set
+  -- a find that ends in another turn than the decision no has come to the indices of the whole set
   abbrev pub FindsAll : Trace T → Turn T → Trace T → Type 0
   FindsAll old turn new =
       (p owner number : ℕ)
@@ -243,25 +262,28 @@ module _ {T : Type 0} where
   asked_of code None = None
   asked_of code (Some flight) = asked_by (want_of code flight)
 
-  -- a find that a no has ended: it has come to the indices up to the one that it asked about
+  -- a find that its caller has ended with the decision no came to the indices up to the one that it asked about
   pub record IsStopped (p owner : ℕ) (old new : Trace T) : Type 0 where
+    -- the index that it asked about
     pub index : ℕ
     pub number : ℕ
     pub asked : asked_of old.world.coding (flight_in old.world p) ≡ Some index
     pub ends : new.events
         ≡ old.events ++ Finished p (Robust (Find owner)) (Number number) ∷ []
+    -- it has counted the indices up to that one
     pub count : IsCount p (IsFilledWith owner) (index + 1) number old.events
 
-  -- the party's call is this one
+  -- the party's call under way is this one
   abbrev pub IsIn : ℕ → Start T → Trace T → Type 0
   IsIn p start t = IsOpenFor start (λ wrote. Unit {0}) (span_of p t.events)
 
-  -- a no ends a find so
+  -- a find that its caller ends with the decision no has come to the indices up to the one that it asked about
   abbrev pub FindsUpTo : Trace T → Turn T → Trace T → Type 0
   FindsUpTo old turn new =
       (p owner : ℕ) → turn ≡ Decide p false → IsIn p (Robust (Find owner)) old
       → IsStopped p owner old new
 
+  -- what a turn tells of finds
   abbrev pub FindsRight : Trace T → Turn T → Trace T → Type 0
   FindsRight old turn new = FindsAll old turn new × FindsUpTo old turn new
 
@@ -279,18 +301,19 @@ module _ {T : Type 0} where
       × (owned_of old.world.coding (flight_in old.world p) ≡ Some (index, owner))
   ToldRight old turn e = Unit {0}
 
-  -- so it is with all that a turn has written
+  -- each yes that a turn has written down is one to a question about just that index of that owner
   pub record TellsOnce (old : Trace T) (turn : Turn T) (new : Trace T) : Type 0 where
     pub wrote : List (Event T)
     pub is : new.events ≡ old.events ++ wrote
     pub told : AllByRecursion (ToldRight old turn) wrote
 
-  -- and each yes tells a recovery of an index, and writes nothing else
+  -- a yes has told the party's recovery to free one index, and the turn wrote nothing else
   pub record IsTold (p : ℕ) (old new : Trace T) : Type 0 where
     pub index : ℕ
     pub owner : ℕ
     pub is : new.events ≡ old.events ++ Told p index owner ∷ []
 
+  -- a yes to a recovery tells it of one index, and the turn writes nothing else
   abbrev pub YesTells : Trace T → Turn T → Trace T → Type 0
   YesTells old turn new =
       (p : ℕ) (mode : ReleaseMode) → turn ≡ Decide p true → IsIn p (Robust (Recover mode)) old
@@ -301,6 +324,7 @@ module _ {T : Type 0} where
   TellsRight old turn new =
       FindsRight old turn new × TellsOnce old turn new × YesTells old turn new
 
+  -- what a robust set promises of each run
   abbrev pub promise : Promise T
   promise =
       record {

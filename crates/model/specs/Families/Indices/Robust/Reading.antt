@@ -24,20 +24,22 @@ module _ {T : Type 0} where
   filled_after i owner (FreedOf p index o) = if index == i then None else owner
   filled_after i owner e = owner
 
+  -- the owner for whom index i is filled after these events
   abbrev pub filled_of : ℕ → List (Event T) → Option ℕ
   filled_of i events = fold (filled_after i) None events
 
-  -- it is held by an owner from its Granted to its next Freed
+  -- an index is held by an owner from its Granted to its next Freed
   abbrev pub holder_after : ℕ → Option ℕ → Event T → Option ℕ
   holder_after i owner (Granted p index o) = if index == i then Some o else owner
   holder_after i owner (FreedOf p index o) = if index == i then None else owner
   holder_after i owner e = owner
 
+  -- who holds index i after these events
   abbrev pub holder_of : ℕ → List (Event T) → Option ℕ
   holder_of i events = fold (holder_after i) None events
 
-  -- It may be given back for an owner once the acquire or the add that was granted it has finished,
-  -- until a release or a remove of it for that owner begins.
+  -- It may be given back for an owner once the acquire or the add that was granted it has finished, until a release or
+  -- a remove of it for that owner begins.
   abbrev pub settled_after : ℕ → Option ℕ → Event T → Option ℕ
   settled_after i owner (Finished p (Robust (Acquire o)) (Index index)) =
       if index == i then Some o else owner
@@ -50,6 +52,7 @@ module _ {T : Type 0} where
   settled_after i owner (FreedOf p index o) = if index == i then None else owner
   settled_after i owner e = owner
 
+  -- the owner for whom index i may be given back after these events, if there is one
   abbrev pub settled_of : ℕ → List (Event T) → Option ℕ
   settled_of i events = fold (settled_after i) None events
 
@@ -58,13 +61,14 @@ module _ {T : Type 0} where
   dead_after owner dead (Died o) = (o == owner) || dead
   dead_after owner dead e = dead
 
+  -- whether the owner has died in these events
   abbrev pub is_dead : ℕ → List (Event T) → Bool
   is_dead owner events = fold (dead_after owner) false events
 
 -- ---- what a call does
 
--- to the set: it fills an index for an owner, grants it, frees it; asks whether to free an index
--- of an owner, and hears yes; or locks the set
+-- What a call does to the set: it fills an index for an owner, grants it, frees it; asks whether to free an index of an
+-- owner, and hears yes; or locks the set.
 pub data SetAct : Type 0 where
   Fills : (index owner : ℕ) → SetAct
   Grants : (index owner : ℕ) → SetAct
@@ -74,6 +78,7 @@ pub data SetAct : Type 0 where
   Locks : SetAct
 
 module _ {T : Type 0} where
+  -- what an event does to the set, without its party
   abbrev pub set_act : Event T → List SetAct
   set_act (Filled p index owner) = Fills index owner ∷ []
   set_act (Granted p index owner) = Grants index owner ∷ []
@@ -83,9 +88,11 @@ module _ {T : Type 0} where
   set_act (events.Locked p) = Locks ∷ []
   set_act e = []
 
+  -- what these events do to the set
   abbrev pub set_acts : List (Event T) → List SetAct
   set_acts events = flat_map set_act events
 
+  -- what a party's latest call has written
   abbrev pub wrote_in : Span T → List (Event T)
   wrote_in Never = []
   wrote_in (Open start wrote) = wrote
@@ -95,13 +102,13 @@ module _ {T : Type 0} where
   abbrev pub set_acts_of : ℕ → List (Event T) → List SetAct
   set_acts_of p events = set_acts (wrote_in (span_of p events))
 
--- it is one of them
+-- `one` is an element of the list
 pub record IsOneOf {A : Type 0} (one : A) (all : List A) : Type 0 where
   pub before : List A
   pub after : List A
   pub is : all ≡ before ++ one ∷ after
 
--- it is the latest of them
+-- `one` is the last element of the list
 pub record IsLatest {A : Type 0} (one : A) (all : List A) : Type 0 where
   pub before : List A
   pub is : all ≡ before ++ one ∷ []
@@ -111,5 +118,6 @@ abbrev pub index_asked : SetAct → List ℕ
 index_asked (Asks index owner) = index ∷ []
 index_asked one = []
 
+-- the indices about which was asked, in order
 abbrev pub asked_in : List SetAct → List ℕ
 asked_in all = flat_map index_asked all

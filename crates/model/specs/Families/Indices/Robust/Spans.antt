@@ -14,17 +14,16 @@ use Rattle.model.specs.declared.families.indices.robust.RobustStart.TheVariants.
 use Rattle.model.specs.Families.Indices.Robust.Reading.{SetAct, Fills, Grants, Frees, Asks, Yes, Locks, set_acts, IsLatest, asked_in}
 use Rattle.model.specs.Reading.{Span, Open}
 
--- it has just freed an index
+-- the call has just freed an index
 pub record HasJustFreed (all : List SetAct) : Type 0 where
   pub index : ℕ
   pub owner : ℕ
   pub latest : IsLatest (Frees index owner) all
 
 module _ {T : Type 0} where
-  -- Where an event may stand. An acquire fills an index for its owner, and then is granted it. A
-  -- release frees its index first of all. A recovery asks about indices ascending, may be told to
-  -- free the index that it asked about, and then may free it. Who may lock does so right after
-  -- it has freed, in mode LockIfLastIndex alone.
+  -- Where an event may stand. An acquire fills an index for its owner, and then is granted it. A release frees its
+  -- index first of all. A recovery asks about indices ascending, may be told to free the index that it asked about, and
+  -- then may free it. Who may lock does so right after it has freed, in mode LockIfLastIndex alone.
   abbrev pub may_stand : Event T → Span T → Type 0
   may_stand (Filled p index owner) (Open (Robust (Acquire o)) wrote) =
       (owner ≡ o) × (set_acts wrote ≡ [])
@@ -43,8 +42,7 @@ module _ {T : Type 0} where
   may_stand (Locked p) (Open (Robust (Recover LockIfLastIndex)) wrote) = HasJustFreed (set_acts wrote)
   may_stand e span = ⊥
 
--- an acquire that was not granted an index may have filled one all the same, where the set was
--- locked meanwhile
+-- an acquire that was not granted an index may have filled one all the same, where the set was locked meanwhile
 pub record FilledLate (owner : ℕ) (all : List SetAct) : Type 0 where
   pub index : ℕ
   pub is : all ≡ Fills index owner ∷ []

@@ -23,11 +23,11 @@ use Rattle.model.specs.Families.Indices.Robust.Calls.{after, goes_back}
 use Rattle.model.specs.Step.{Step}
 
 module _ {T : Type 0} where
-  -- the exchange of a cell from its owner to empty
+  -- an exchange of the cell that found its owner there frees the index
   abbrev pub freed : (p index owner old : ℕ) → List (Event T)
   freed p index owner old = if old == owner then FreedOf p index owner ∷ [] else []
 
-  -- the exchange of the counter to locked
+  -- an exchange of the counter that found the number expected locks the set
   abbrev pub locked_by : ℕ → Lock → ℕ → List (Event T)
   locked_by p (locks.Counts count) old = []
   locked_by p (locks.ExchangesCounter counter) old =
@@ -47,6 +47,8 @@ module _ {T : Type 0} where
   acquire_effects p owner (acquires.Raises index raise) old =
       granted p index owner (raise_after raise old)
 
+  -- What a release's step writes down, where its word has this old value:
+  -- that it frees the index, or that it locks the set.
   abbrev pub release_effects : ℕ → GiveBack → ReleaseStage → ℕ → List (Event T)
   release_effects p given releases.EmptiesCell old =
       freed p given.index given.owner old
@@ -65,14 +67,14 @@ module _ {T : Type 0} where
   recover_effects p (recovers.Locks index lock) old = locked_by p lock old
   recover_effects p recovers.LoadsCounterAgain old = []
 
-  -- a find and the calls that look write nothing
+  -- what a step writes down, where its word has this old value: a find and the calls that look write nothing
   abbrev pub effects : ℕ → RobustFlight → ℕ → List (Event T)
   effects p (Acquire run) old = acquire_effects p run.given run.call.stage old
   effects p (Release run) old = release_effects p run.given run.call.stage old
   effects p (Recover run) old = recover_effects p run.call.stage old
   effects p flight old = []
 
-  -- all that a step comes to
+  -- all that a step of a robust set's call comes to, where its word has this old value
   abbrev pub step : ℕ → RobustFlight → ℕ → List ℕ → Step RobustFlight (List ℕ) T
   step p flight old dead =
       record {
