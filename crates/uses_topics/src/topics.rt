@@ -236,6 +236,7 @@ fn run_beside<R: Threads + Wait + Print + Sync>(
     talk_and_tell(rt, alloc, one, &mut other)
 }
 
+/// Makes the first bus, and runs the rest beside its publisher.
 fn run<R: Threads + Wait + Print + Sync>(rt: &R, alloc: Global) -> Result<(), RunError> {
     let (mut bus, pass) = Bus::new(alloc, SIZES)?;
     let mut one = bus.publisher(rt, alloc, pass, spares(alloc)?)?;

@@ -197,6 +197,7 @@ fn go_through<'a, R: Wait + Print>(
     leave_all(rt, publisher, one)
 }
 
+/// Makes the bus, and goes through all steps with its publisher.
 fn run<R: Wait + Print>(rt: &R, alloc: Global) -> Result<(), RunError> {
     let (mut bus, pass) = Bus::new(alloc, SIZES)?;
     let mut publisher = bus.publisher(rt, alloc, pass, spares(alloc)?)?;

@@ -1,22 +1,25 @@
 -- The table stays right.
-use Rattle.std.proofs.Common.{◌≡◌, ◌≢◌, inl, inr, lit<, ℕ, zero, suc, ◌+◌, ◌<◌, ◌==◌, Bool, true, false, nat_lt}
-use Rattle.std.proofs.Common.{true≢false, if◌then◌else◌, ◌⊎◌, Some, None, List, [], ◌∷◌, length, set, replicate}
+use Rattle.std.proofs.Common.{◌≡◌, ◌≢◌, inl, inr, lit<, Result, Ok, Err, IfErr, ℕ, zero, suc, ◌+◌, ◌<◌, ◌==◌, Bool, true, false, nat_lt}
+use Rattle.std.proofs.Common.{true≢false, if◌then◌else◌, ◌⊎◌, Some, None, List, [], ◌∷◌, ◌++◌, length, length-append, set, replicate, ◌≤◌}
 use Rattle.std.proofs.Common.{get_or-set_same, get_or-set_other, subst, sym, refl, ap, ◌∙◌, ⊎_elim, arith}
 use Rattle.std.proofs.lemmas.Bool.{cases_eq}
 use Rattle.std.proofs.lemmas.Bool.Decides.{nat_tests}
 use Rattle.std.proofs.lemmas.List.Sums.{sum_by-cons}
+use Rattle.std.proofs.lemmas.Nat.Bits.{bit_at-zero}
 use Rattle.std.specs.Int.{bit_at}
 use Rattle.threaded.specs.Shares.{IsAll}
 use Rattle.history.specs.declared.view.View.{View}
-use Rattle.lock_free_sets.specs.Unique.Held.{one_if, times, HeldBy, HoldsAll, HoldsNothing}
-use Rattle.lock_free_sets.specs.Unique.Contracts.{HasAcquired, HasCounted}
-use Rattle.lock_free_sets.proofs.Unique.Holding.{counted_moves}
-use Rattle.lock_free_sets.proofs.Unique.Tables as tables
+use Rattle.history.specs.Held.{Holds}
+use Rattle.lock_free_sets.specs.Unique.Held.{one_if, times, HeldBy, HoldsAll, HoldsNothing, IsSound}
+use Rattle.lock_free_sets.specs.Unique.Contracts.{HasAcquired, HasCounted, HasGiven, WasRefused}
+use Rattle.lock_free_sets.proofs.Unique.Holding.{counted_moves, given_moves, refused_moves, taken_moves, times_both, times_one}
 use Rattle.lock_free_sets.proofs.Unique.Tables.{as_number, none_if}
+use Rattle.steps.specs.declared.indices.enums.ReleaseState.{ReleaseState}
+use Rattle.steps.specs.declared.indices.enums.UniqueIndexSetAcquireFailure.{UniqueIndexSetAcquireFailure}
 use Rattle.zero_copy_bus.specs.declared.holders.Holder.{Holder}
 use Rattle.zero_copy_bus.specs.declared.holders.Holders.{Holders}
 use Rattle.zero_copy_bus.specs.Books.{holders_at, AllFree, ChangesAt, Exchanges, GainsNone, GainsOnly, HasNone, HasSlot, held_number}
-use Rattle.zero_copy_bus.specs.Books.{IsBookOf, KeepsAllOrNone, KeepsLoans, KeepsOthers}
+use Rattle.zero_copy_bus.specs.Books.{HoldsEach, IsBookOf, KeepsAllOrNone, KeepsBook, KeepsLoans, KeepsOthers}
 use Rattle.zero_copy_bus.specs.Holders.{is_held, nobody, Has, SameBut}
 
 -- ---- places of a table
@@ -28,6 +31,14 @@ free_is h free = ap (λ n. record { bits = n }) (none h.bits free)
     none : (n : ℕ) → nat_lt 0 n ≡ false → n ≡ 0
     none zero not = refl
     none (suc n) not = absurd (let it : nat_lt 0 (suc n) ≡ true = grind (arith, nat_tests) in true≢false (sym it ∙ not))
+
+-- a slot that one has is held
+pub is_somebody : (h : Holders) (holder : Holder) → Has h holder → is_held h ≡ true
+is_somebody h holder has = some h.bits has
+  where
+    some : (n : ℕ) → bit_at n holder.bit ≡ 1 → nat_lt 0 n ≡ true
+    some zero one = absurd (let none = bit_at-zero holder.bit in omega arith)
+    some (suc n) one = grind (arith, nat_tests)
 
 -- where no place within is held, none is
 pub all_free : (table : List Holders) → ((slot : ℕ) → slot < length table → is_held (holders_at table slot) ≡ false) → AllFree table
@@ -103,35 +114,215 @@ once_where_held (suc i) n (h ∷ table) =
 
 -- ---- the book
 
-module _ {v : View ℕ} {table : List Holders} (book : IsBookOf v table) where
-  -- what is acquired was free, and is held then
-  pub was_free : (i : ℕ) (w : View ℕ) → HasAcquired i v w → is_held (holders_at table i) ≡ false
-  was_free i w taken = tables.was_free nobody is_held v table book.held i w taken
+-- one slot more is kept
+times_then : (i j : ℕ) (kept : List ℕ) → times j (kept ++ i ∷ []) ≡ times j kept + one_if i j
+times_then i j kept =
+    let both = times_both j kept (i ∷ []) in
+    let one = times_one i j in
+    omega arith
 
-  pub is_taken : (i : ℕ) (h : Holders) → i < length table → (w : View ℕ) → is_held h ≡ true → HasAcquired i v w → IsBookOf w (set table i h)
-  is_taken i h lt w held taken = record { held = tables.is_taken nobody is_held v table book.held i h lt w held taken }
+one_is : (i : ℕ) → one_if i i ≡ 1
+one_is i = let same : (i == i) ≡ true = grind (arith, nat_tests) in rw same refl
 
+-- where one slot of a table changes, each is held or not as before, and that one as it is then
+held_then : (table : List Holders) (i j : ℕ) (h : Holders) → i < length table
+    → as_number (is_held (holders_at (set table i h) j)) + (if i == j then as_number (is_held (holders_at table i)) else 0)
+    ≡ as_number (is_held (holders_at table j)) + (if i == j then as_number (is_held h) else 0)
+held_then table i j h lt = ⊎_elim here there (cases_eq j i)
+  where
+    here : j ≡ i → as_number (is_held (holders_at (set table i h) j)) + (if i == j then as_number (is_held (holders_at table i)) else 0)
+        ≡ as_number (is_held (holders_at table j)) + (if i == j then as_number (is_held h) else 0)
+    here e =
+        let same : (i == i) ≡ true = grind (arith, nat_tests) in
+        let now : as_number (is_held (holders_at (set table i h) i)) ≡ as_number (is_held h) =
+        ap (λ z. as_number (is_held z)) (get_or-set_same table i h nobody lt) in
+        subst (λ n. as_number (is_held (holders_at (set table i h) n)) + (if i == n then as_number (is_held (holders_at table i)) else 0)
+        ≡ as_number (is_held (holders_at table n)) + (if i == n then as_number (is_held h) else 0)) (sym e) (rw same (omega arith))
+
+    there : j ≢ i → as_number (is_held (holders_at (set table i h) j)) + (if i == j then as_number (is_held (holders_at table i)) else 0)
+        ≡ as_number (is_held (holders_at table j)) + (if i == j then as_number (is_held h) else 0)
+    there ne =
+        let other : (i == j) ≡ false = grind (arith, nat_tests) in
+        let now : as_number (is_held (holders_at (set table i h) j)) ≡ as_number (is_held (holders_at table j)) =
+        ap (λ z. as_number (is_held z)) (get_or-set_other table i j h nobody ne) in
+        rw other (omega arith)
+
+-- what is so stands of whatever error came
+pub on_error : (answer : Result ℕ UniqueIndexSetAcquireFailure) (P : Type 0) → P → IfErr answer (λ _. P)
+on_error (Ok slot) P so = tt
+on_error (Err e) P so = so
+
+-- the same is kept
+pub book_stays : (v : View ℕ) (before after : List ℕ) → before ≡ after → KeepsBook v before v after
+book_stays v before after same table book = subst (λ k. IsBookOf v k table) same book
+
+module _ (v w : View ℕ) (kept : List ℕ) (i : ℕ) where
+  -- what is acquired is out, and nobody holds it
+  pub is_acquired : HasAcquired i v w → KeepsBook v kept w (kept ++ i ∷ [])
+  is_acquired taken table book =
+      record {
+        held =
+            λ j. (let m = taken_moves v w j i taken.taken in
+            let a = m.claimed in
+            let b = m.freed in
+            let more = times_then i j kept in
+            let was = book.held j in
+            omega arith);
+      }
+
+  -- what is kept is given back
+  pub is_released : (state : ReleaseState) → HasGiven i state v w → KeepsBook v (kept ++ i ∷ []) w kept
+  is_released state given table book =
+      record {
+        held =
+            λ j. (let m = given_moves v w j i state given in
+            let a = m.claimed in
+            let b = m.freed in
+            let more = times_then i j kept in
+            let was = book.held j in
+            omega arith);
+      }
+
+  -- and each other that is kept is held
+  pub each_released : (state : ReleaseState) → HasGiven i state v w → HoldsEach (kept ++ i ∷ []) v.made → HoldsEach kept w.made
+  each_released state given holds j =
+      let m = given_moves v w j i state given in
+      let a = m.claimed in
+      let b = m.freed in
+      let more = times_then i j kept in
+      let was = holds j in
+      omega arith
+
+  -- the last that is kept is held
+  pub last_held : IsSound v → HoldsEach (kept ++ i ∷ []) v.made → Holds i v.made
+  last_held sound holds =
+      let once = sound.once i in
+      let more = times_then i i kept in
+      let one = one_is i in
+      let was = holds i in
+      omega arith
+
+-- an acquire that is refused leaves the book
+pub is_refused : (v w : View ℕ) (kept : List ℕ) (e : UniqueIndexSetAcquireFailure) → WasRefused e v w → KeepsBook v kept w kept
+is_refused v w kept e refused table book =
+    record {
+      held =
+          λ j. (let m = refused_moves v w j e refused.taken in
+          let a = m.claimed in
+          let b = m.freed in
+          let was = book.held j in
+          omega arith);
+    }
+
+module _ {v : View ℕ} {kept : List ℕ} {table : List Holders} (book : IsBookOf v kept table) where
   -- a count leaves the book
-  pub is_counted : (n : ℕ) (w : View ℕ) → HasCounted n v w → IsBookOf w table
+  pub is_counted : (n : ℕ) (w : View ℕ) → HasCounted n v w → IsBookOf w kept table
   is_counted n w counted =
       record {
         held = λ j. (let m = counted_moves v w j n counted in let a = m.claimed in let b = m.freed in let was = book.held j in omega arith);
       }
 
-  -- the pass holds what somebody holds
-  pub holds_all : HeldBy (held_from 0 table) v.made
+  -- what is kept is held
+  pub holds_each : HoldsEach kept v.made
+  holds_each i = let was = book.held i in omega arith
+
+  -- what somebody holds, the pass holds
+  pub holds_held : (i : ℕ) → IsSound v → is_held (holders_at table i) ≡ true → Holds i v.made
+  holds_held i sound held =
+      let once = sound.once i in
+      let one : as_number (is_held (holders_at table i)) ≡ 1 = ap as_number held in
+      let was = book.held i in
+      omega arith
+
+  -- a slot that is held as before
+  pub is_changed : (i : ℕ) (h : Holders) → i < length table → is_held h ≡ is_held (holders_at table i) → IsBookOf v kept (set table i h)
+  is_changed i h lt same =
+      record {
+        held =
+            λ j. (let was_then = held_then table i j h lt in
+            let x : (if i == j then as_number (is_held h) else 0) ≡ (if i == j then as_number (is_held (holders_at table i)) else 0) =
+            ap (λ b. if i == j then as_number b else 0) same in
+            let was = book.held j in
+            omega arith);
+      }
+
+  -- a slot that nobody holds any more is kept
+  pub is_freed : (i : ℕ) (h : Holders) → i < length table → is_held (holders_at table i) ≡ true → is_held h ≡ false
+      → IsBookOf v (kept ++ i ∷ []) (set table i h)
+  is_freed i h lt was_held free =
+      record {
+        held =
+            λ j. (let was_then = held_then table i j h lt in
+            let x : (if i == j then as_number (is_held h) else 0) ≡ (if i == j then zero else zero) = ap (λ b. if i == j then as_number b else 0) free in
+            let y : (if i == j then as_number (is_held (holders_at table i)) else 0) ≡ one_if i j =
+            ap (λ b. if i == j then as_number b else 0) was_held in
+            let z : (if i == j then zero else zero) ≡ 0 = none_if (i == j) in
+            let more = times_then i j kept in
+            let was = book.held j in
+            omega arith);
+      }
+
+  -- the pass holds what somebody holds, and what is kept
+  pub holds_all : HeldBy (held_from 0 table ++ kept) v.made
   holds_all i =
       let was = book.held i in
+      let both = times_both i (held_from 0 table) kept in
       let once : times i (held_from 0 table) ≡ as_number (is_held (holders_at table i)) =
       subst (λ k. times k (held_from 0 table) ≡ as_number (is_held (holders_at table i))) (omega arith) (once_where_held i 0 table) in
       omega arith
 
-  -- which are all that are out, with the whole share
-  pub all_are_held : (n : ℕ) → HoldsAll n v → IsAll v.share → held_number table ≡ n
-  all_are_held n holds all = sym (as_many 0 table) ∙ holds all (held_from 0 table) holds_all
+  -- which are at most those that are out
+  pub most_are_held : (n : ℕ) → ((is : List ℕ) → HeldBy is v.made → length is ≤ n) → held_number table + length kept ≤ n
+  most_are_held n least =
+      let all = least (held_from 0 table ++ kept) holds_all in
+      let both = length-append (held_from 0 table) kept in
+      let many = as_many 0 table in
+      omega arith
+
+  -- and just those, with the whole share
+  pub all_are_held : (n : ℕ) → HoldsAll n v → IsAll v.share → held_number table + length kept ≡ n
+  all_are_held n holds all =
+      let just = holds all (held_from 0 table ++ kept) holds_all in
+      let both = length-append (held_from 0 table) kept in
+      let many = as_many 0 table in
+      omega arith
+
+-- the last that is kept
+module _ (v : View ℕ) (kept : List ℕ) (table : List Holders) (i : ℕ) (sound : IsSound v) (book : IsBookOf v (kept ++ i ∷ []) table) where
+  -- nobody holds it
+  pub was_free : is_held (holders_at table i) ≡ false
+  was_free =
+      let once = sound.once i in
+      let more = times_then i i kept in
+      let one = one_is i in
+      let was = book.held i in
+      go (is_held (holders_at table i)) (omega arith)
+    where
+      go : (b : Bool) → as_number b ≡ 0 → b ≡ false
+      go false e = refl
+      go true e = absurd (omega arith)
+
+  -- it is there
+  pub is_within : i < v.capacity
+  is_within = sound.within i (last_held v v kept i sound (holds_each book))
+
+  -- one who takes it holds it, and it is kept no more
+  pub is_taken : (h : Holders) → i < length table → is_held h ≡ true → IsBookOf v kept (set table i h)
+  is_taken h lt held =
+      record {
+        held =
+            λ j. (let was_then = held_then table i j h lt in
+            let x : (if i == j then as_number (is_held h) else 0) ≡ one_if i j = ap (λ b. if i == j then as_number b else 0) held in
+            let y : (if i == j then as_number (is_held (holders_at table i)) else 0) ≡ (if i == j then zero else zero) =
+            ap (λ b. if i == j then as_number b else 0) was_free in
+            let z : (if i == j then zero else zero) ≡ 0 = none_if (i == j) in
+            let more = times_then i j kept in
+            let was = book.held j in
+            omega arith);
+      }
 
 -- who holds nothing has a book of which nobody holds a slot
-pub book_opens : (v : View ℕ) (n : ℕ) → HoldsNothing v.made → IsBookOf v (replicate n nobody)
+pub book_opens : (v : View ℕ) (n : ℕ) → HoldsNothing v.made → IsBookOf v [] (replicate n nobody)
 book_opens v n none =
     record {
       held =

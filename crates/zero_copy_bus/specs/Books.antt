@@ -1,8 +1,10 @@
 -- The table of who holds each slot: what it says of a pass of the pool, and how it changes.
-use Rattle.std.specs.Prelude.{◌≡◌, ◌≢◌, ◌⊎◌, ◌↔◌, ℕ, ◌+◌, ◌<◌, false, Option, Some, List, sum_by, count_by, slice_index_or, if◌then◌else◌}
+use Rattle.std.specs.Prelude.{◌≡◌, ◌≢◌, ◌⊎◌, ◌↔◌, ℕ, ◌+◌, ◌<◌, ◌≤◌, false, Option, Some, List, sum_by, count_by, slice_index_or, if◌then◌else◌}
 use Rattle.std.specs.Int.{bit_at}
 use Rattle.history.specs.Held.{claims, frees}
 use Rattle.history.specs.declared.view.View.{View}
+use Rattle.model.specs.declared.event.Event.{Event}
+use Rattle.lock_free_sets.specs.Unique.Held.{times}
 use Rattle.zero_copy_bus.specs.declared.holders.Holder.{Holder}
 use Rattle.zero_copy_bus.specs.declared.holders.Holders.{Holders}
 use Rattle.zero_copy_bus.specs.Holders.{nobody, publisher, is_held, Has, SameBut, GainsNobody}
@@ -11,10 +13,18 @@ use Rattle.zero_copy_bus.specs.Holders.{nobody, publisher, is_held, Has, SameBut
 abbrev pub holders_at : List Holders → ℕ → Holders
 holders_at table slot = slice_index_or table slot nobody
 
--- a pass holds exactly the slots that somebody holds, each once
-pub record IsBookOf (v : View ℕ) (table : List Holders) : Type 0 where
+-- a pass holds exactly the slots that somebody holds and those that are kept, each once
+pub record IsBookOf (v : View ℕ) (kept : List ℕ) (table : List Holders) : Type 0 where
   pub held : (slot : ℕ) → sum_by (claims slot) v.made
-      ≡ sum_by (frees slot) v.made + (if is_held (holders_at table slot) then 1 else 0)
+      ≡ sum_by (frees slot) v.made + (if is_held (holders_at table slot) then 1 else 0) + times slot kept
+
+-- the pass, with what is kept, holds still what somebody holds
+abbrev pub KeepsBook : (old : View ℕ) (before : List ℕ) (new : View ℕ) (after : List ℕ) → Type 0
+KeepsBook old before new after = (table : List Holders) → IsBookOf old before table → IsBookOf new after table
+
+-- each of these slots is held at least as often as it stands there
+abbrev pub HoldsEach : List ℕ → List (Event ℕ) → Type 0
+HoldsEach kept made = (slot : ℕ) → sum_by (frees slot) made + times slot kept ≤ sum_by (claims slot) made
 
 abbrev pub AllFree : List Holders → Type 0
 AllFree table = (slot : ℕ) → is_held (holders_at table slot) ≡ false

@@ -1,10 +1,13 @@
-//! The slots of a bus, and who holds each. A slot is out of the set of free indices as long as anybody holds it.
-ghost use Rattle.std.specs.Prelude.{◌≡◌, ◌<◌, ◌≤◌, ◌↔◌, true, false, length, replicate, IsTrue, IsFalse, IfOk, OnErr};
+//! The slots of a bus, and who holds each. A slot is out of the set of free indices as long as anybody holds it. One that came
+//! back is kept out of the set too, in plain memory, so that the next take of a slot makes no atomic step. Once the pool is
+//! gone, the set has those that were kept (by no clause).
+ghost use Rattle.std.specs.Prelude.{◌≡◌, ◌<◌, ◌≤◌, ◌↔◌, true, false, [], ◌∷◌, ◌++◌, length, replicate, IsTrue, IsFalse, IfOk, IfErr, OnErr};
 ghost use Rattle.threaded.specs.Shares.{IsAll};
+ghost use Rattle.history.specs.Held.{Holds};
 ghost use Rattle.lock_free_sets.specs.Unique.Held.{HoldsNothing};
 ghost use Rattle.lock_free_sets.specs.UniqueIndexSet.{capacity_of, made, set_of, share, view, IsPassOf};
 ghost use Rattle.zero_copy_bus.specs.Books.{holders_at, AllFree, CanSend, ChangesAt, Exchanges, GainsNone, GainsOnly};
-ghost use Rattle.zero_copy_bus.specs.Books.{HasNone, HasSlot, IsBookOf, KeepsOthers, held_number};
+ghost use Rattle.zero_copy_bus.specs.Books.{HasNone, HasSlot, HoldsEach, IsBookOf, KeepsBook, KeepsOthers, held_number};
 ghost use Rattle.zero_copy_bus.specs.Holders.{is_held, nobody};
 
 use crate::error::BusError;
@@ -14,23 +17,90 @@ use lock_free_sets::mpmc::unique_index_set_enums::UniqueIndexSetAcquireFailure;
 use std::alloc::Global;
 use std::sync::Wait;
 
-/// A set of free slots, with a table of who holds each of the others.
+/// A set of free slots, the free slots that are kept out of it, the last one first, and a table of who holds each slot.
 pub struct Pool<'a> {
     set: &'a UniqueIndexSet,
     pass: Pass,
+    kept: Vec<u32>,
     table: Vec<Holders>,
     ghost of: { IsPassOf set.now pass },
     ghost long: { length table.items ≡ capacity_of set.now },
-    ghost book: { IsBookOf (view pass) table.items },
+    ghost book: { IsBookOf (view pass) kept.items table.items },
 }
 
 impl<'a> Drop for Pool<'a> {
     fn drop(self) {
         let Self {
-            set: _,
-            pass: _pass,
+            set,
+            mut pass,
+            mut kept,
             table: _table,
         } = self;
+        give_all(set, &mut pass, &mut kept);
+    }
+}
+
+/// Takes a slot that nobody holds: the one that was kept last, or one of the set, where none is kept.
+fn take_one(
+    rt: &impl Wait,
+    set: &UniqueIndexSet,
+    pass: &mut Pass,
+    kept: &mut Vec<u32>,
+) -> Result<u32, UniqueIndexSetAcquireFailure>
+    requires pass { IsPassOf set.now pass.old }
+    requires held { HoldsEach kept.old.items (made pass.old) }
+    ensures within { IfOk result (λ slot. slot < capacity_of set.now) }
+    ensures taken { IfOk result
+        (λ slot. KeepsBook (view pass.old) kept.old.items (view pass.new) (kept.new.items ++ slot ∷ [])) }
+    ensures refused { IfErr result (λ _. KeepsBook (view pass.old) kept.old.items (view pass.new) kept.new.items) }
+    ensures set { set_of pass.new ≡ set_of pass.old }
+    ensures share { share pass.new ≡ share pass.old }
+{
+    if let Some(slot) = kept.pop() {
+        return Ok(slot);
+    }
+    let slot = set.acquire_raw_index(rt, pass)?;
+    Ok(slot)
+}
+
+/// Keeps a slot that nobody holds any more. The set gets it where there is no room to keep it (there is room for all, by no clause).
+fn keep_one(set: &UniqueIndexSet, pass: &mut Pass, kept: &mut Vec<u32>, slot: u32)
+    requires pass { IsPassOf set.now pass.old }
+    requires held { Holds slot (made pass.old) }
+    ensures kept { KeepsBook (view pass.old) (kept.old.items ++ slot ∷ []) (view pass.new) kept.new.items }
+    ensures set { set_of pass.new ≡ set_of pass.old }
+    ensures share { share pass.new ≡ share pass.old }
+{
+    match kept.push(slot) {
+        Ok(()) => {}
+        Err(_) => {
+            set.release_raw_index(slot, pass);
+        }
+    }
+}
+
+/// Gives the slot that was kept last back to the set, if one is kept.
+fn give_one(set: &UniqueIndexSet, pass: &mut Pass, kept: &mut Vec<u32>)
+    requires pass { IsPassOf set.now pass.old }
+    requires held { HoldsEach kept.old.items (made pass.old) }
+    ensures held { HoldsEach kept.new.items (made pass.new) }
+    ensures set { set_of pass.new ≡ set_of pass.old }
+    ensures share { share pass.new ≡ share pass.old }
+{
+    if let Some(slot) = kept.pop() {
+        set.release_raw_index(slot, pass);
+    }
+}
+
+/// Gives the slots that are kept back to the set.
+fn give_all(set: &UniqueIndexSet, pass: &mut Pass, kept: &mut Vec<u32>)
+    requires pass { IsPassOf set.now pass.old }
+    requires held { HoldsEach kept.old.items (made pass.old) }
+    ensures set { set_of pass.new ≡ set_of pass.old }
+    ensures share { share pass.new ≡ share pass.old }
+{
+    for _ in 0..kept.len() {
+        give_one(set, pass, kept);
     }
 }
 
@@ -46,8 +116,17 @@ impl<'a> Pool<'a> {
         ensures slots { IfOk result (λ p. slots_of p ≡ capacity_of set.now) }
         ensures free { IfOk result (λ p. table_of p ≡ replicate (capacity_of set.now) nobody) }
     {
-        match vec![in alloc; Holders::nobody(); set.capacity() as usize] {
-            Ok(table) => Ok(Pool { set, pass, table }),
+        let slots = set.capacity() as usize;
+        let Ok(kept) = Vec::with_capacity(alloc, slots) else {
+            return Err(BusError::NoMemory);
+        };
+        match vec![in alloc; Holders::nobody(); slots] {
+            Ok(table) => Ok(Pool {
+                set,
+                pass,
+                kept,
+                table,
+            }),
             Err(_) => Err(BusError::NoMemory),
         }
     }
@@ -67,7 +146,7 @@ impl<'a> Pool<'a> {
         ensures refused { OnErr result (table_of self.new ≡ table_of self.old) }
         ensures same { IsSame self.old self.new }
     {
-        let slot = self.set.acquire_raw_index(rt, &mut self.pass)?;
+        let slot = take_one(rt, self.set, &mut self.pass, &mut self.kept)?;
         self.table[slot as usize] = Holders::nobody().with(holder);
         Ok(slot)
     }
@@ -159,7 +238,7 @@ impl<'a> Pool<'a> {
         let left = self.table[slot as usize].without(holder);
         self.table[slot as usize] = left;
         if !left.is_somebody() {
-            self.set.release_raw_index(slot, &mut self.pass);
+            keep_one(self.set, &mut self.pass, &mut self.kept, slot);
         }
     }
 
@@ -195,8 +274,8 @@ impl<'a> Pool<'a> {
         }
     }
 
-    /// How many slots are out. They are at least those that somebody holds, at most all, and just those where nobody else has a
-    /// share of the set.
+    /// How many slots are out and not kept. They are at least those that somebody holds, at most all, and just those where nobody
+    /// else has a share of the set.
     pub fn borrowed(&mut self) -> usize
         ensures table { table_of self.new ≡ table_of self.old }
         ensures least { held_number (table_of self.old) ≤ result }
@@ -204,7 +283,9 @@ impl<'a> Pool<'a> {
         ensures whole { IsAll (share_in self.old) → result ≡ held_number (table_of self.old) }
         ensures same { IsSame self.old self.new }
     {
-        self.set.borrowed_indices(&mut self.pass)
+        self.set
+            .borrowed_indices(&mut self.pass)
+            .saturating_sub(self.kept.len())
     }
 
     /// How many slots there are.
@@ -214,16 +295,18 @@ impl<'a> Pool<'a> {
         self.set.capacity()
     }
 
-    /// The pass, which holds what is out.
+    /// The pass. It holds what somebody holds, and no slot that was kept (by no clause).
     pub fn into_pass(self) -> Pass
         ensures set { set_of result ≡ set_in self.entry }
         ensures share { share result ≡ share_in self.entry }
     {
         let Pool {
-            set: _,
-            pass,
+            set,
+            mut pass,
+            mut kept,
             table: _,
         } = self;
+        give_all(set, &mut pass, &mut kept);
         pass
     }
 }

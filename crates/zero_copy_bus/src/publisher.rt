@@ -35,7 +35,9 @@ fn keep<X: Drop>(spares: &mut Vec<X>, old: Option<(u64, X)>) {
     }
 }
 
-/// The publisher, of which a bus has one at a time. It knows who holds each slot, and keeps the records that are not in a slot.
+/// The publisher, of which a bus has one at a time. It knows who holds each slot, and keeps the records that are not in a slot. A
+/// slot that came back it keeps for the next loan. The pool gets those back once the publisher is finished or dropped (by no
+/// clause).
 pub struct Publisher<'a, X: Drop, K: Keeps<X> = Anything> {
     pool: Pool<'a>,
     records: &'a Slots<X, K>,
@@ -250,7 +252,8 @@ impl<'a, X: Drop, K: Keeps<X>> Publisher<'a, X, K> {
     /// somebody still reads the slot, who has it not. The slot stays out, so that the next loan gets another, and `reclaim` tries
     /// it again. Where no loan comes no record is used up.
     ///
-    /// A load, at most one compare-exchange, and the steps of `acquire_raw_index`.
+    /// A load and at most one compare-exchange on the slot. Where the publisher keeps no slot that came back, the steps of
+    /// `acquire_raw_index` too.
     pub fn loan(&mut self, rt: &impl Wait) -> Result<Loan<'a, X, K>, LoanFailure>
         ensures within { IfOk result (λ l. loaned l < slots_of self.old) }
         ensures free { IfOk result
@@ -347,7 +350,7 @@ impl<'a, X: Drop, K: Keeps<X>> Publisher<'a, X, K> {
     /// gained it. The slot is on loan no more. Who is too slow loses its oldest record. After the last of 2^64 / p numbers (p: the
     /// slots, up to a power of two) each loan is given up: 0.
     ///
-    /// One step on the slot, a push for each, and a release where nobody gained it.
+    /// One step on the slot, and a push for each.
     pub fn publish(&mut self, loan: Loan<'a, X, K>) -> usize
         requires fits { K.holds (next_of self.old) loan.value }
         ensures served { HasNumber self.old (loaned loan.entry)
@@ -382,7 +385,7 @@ impl<'a, X: Drop, K: Keeps<X>> Publisher<'a, X, K> {
         gained
     }
 
-    /// Gives a loan up: nobody gets its record, which is kept to be written again (by no clause). One step on the slot, and a release.
+    /// Gives a loan up: nobody gets its record, which is kept to be written again (by no clause). One step on the slot.
     pub fn give_up(&mut self, loan: Loan<'a, X, K>)
         ensures gone { ¬ IsLoaned (table_of self.new) (loaned loan.entry) }
         ensures changes { ChangesAt (loaned loan.entry) publisher (table_of self.old) (table_of self.new) }
@@ -400,8 +403,7 @@ impl<'a, X: Drop, K: Keeps<X>> Publisher<'a, X, K> {
 
     /// Tries a slot again that was `StillRead`, or whose loan was dropped. It is left empty, and it is free. Refused where the
     /// publisher does not hold it (`NotHeld`), and where its word says that somebody reads it still or (its loan is in hand)
-    /// writes it (`InUse`); then nothing changes. A load, at most one compare-exchange and one further step on the slot, and a
-    /// release.
+    /// writes it (`InUse`); then nothing changes. A load, at most one compare-exchange and one further step on the slot.
     pub fn reclaim(&mut self, slot: u32) -> Result<Emptied, ReclaimFailure>
         ensures had { IfOk result (λ e. IsLoaned (table_of self.old) slot) }
         ensures emptied { IfOk result (λ e. emptied e ≡ slot) }
@@ -469,7 +471,8 @@ impl<'a, X: Drop, K: Keeps<X>> Publisher<'a, X, K> {
         self.next
     }
 
-    /// Hands out the pass, and the records that are not in a slot, to be written by a later publisher.
+    /// Hands out the pass, and the records that are not in a slot, to be written by a later publisher. The slots that it keeps go
+    /// back to the pool (by no clause), by at most 5 atomic steps each.
     pub fn finish(self) -> (Pass, Vec<X>)
         ensures set { set_of result.0 ≡ set_in self.entry }
         ensures share { share result.0 ≡ share_in self.entry }

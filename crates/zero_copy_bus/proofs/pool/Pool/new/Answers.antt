@@ -1,5 +1,5 @@
 -- `Pool::new` (src/pool.rt): its result meets the invariant of its type.
-use Rattle.std.proofs.Common.{◌≡◌, replicate, rules, sym, subst}
+use Rattle.std.proofs.Common.{◌≡◌, [], replicate, rules, sym, subst}
 use Rattle.lock_free_sets.specs.UniqueIndexSet.{view}
 use Rattle.zero_copy_bus.specs.Books.{IsBookOf}
 use Rattle.zero_copy_bus.specs.Holders.{nobody}
@@ -8,9 +8,11 @@ use Rattle.zero_copy_bus.proofs.pool.Pool.new.Goals as goal
 
 pub invariant_of-result : goal.invariant_of-result
 invariant_of-result c =
-    let all : c.in-Ok.table.items ≡ replicate c.capacity.result nobody = search rules in
+    let all : c.in-Ok-vec.table.items ≡ replicate c.capacity-slots.result nobody = search rules in
+    let none : c.in-Ok.kept.items ≡ [] = search rules in
     record {
       of = c.requires.pass;
       long = search rules;
-      book = subst (IsBookOf (view c.args.pass)) (sym all) (book_opens (view c.args.pass) c.capacity.result c.requires.nothing);
+      book = subst (λ k. IsBookOf (view c.args.pass) k c.in-Ok-vec.table.items) (sym none)
+          (subst (IsBookOf (view c.args.pass) []) (sym all) (book_opens (view c.args.pass) c.capacity-slots.result c.requires.nothing));
     }

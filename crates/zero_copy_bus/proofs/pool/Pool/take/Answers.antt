@@ -1,5 +1,7 @@
--- `Pool::take` (src/pool.rt): `self` meets the invariant of its type, and its return meets the clause `changes`.
+-- `Pool::take` (src/pool.rt): its call of `take_one` meets the requirement `held`, `self` meets the invariant of its type, and its
+-- return meets the clauses `free` and `changes`.
 use Rattle.std.proofs.Common.{◌<◌, ◌≡◌, length, rules, sym, subst, ◌∙◌, length-set}
+use Rattle.lock_free_sets.specs.UniqueIndexSet.{view}
 use Rattle.zero_copy_bus.proofs.BookLemmas.{free_is, is_taken, set_changes, was_free}
 use Rattle.zero_copy_bus.specs.Holders.{SameBut}
 use Rattle.zero_copy_bus.specs.Books.{holders_at}
@@ -10,12 +12,21 @@ invariant_of-self-2 g c =
     let mine = c.args.self.now in
     let slot = c.in_ok-slot.slot in
     let got = c.in_ok-slot.ensures in
-    let lt : slot < length mine.table.items = subst (λ n. slot < n) (sym mine.long) got.acquired.within in
+    let since = c.take_one.new in
+    let lt : slot < length mine.table.items = subst (λ n. slot < n) (sym mine.long) got.within in
     record {
       of = search rules;
       long = length-set mine.table.items slot c.with.result ∙ mine.long;
-      book = is_taken mine.book slot c.with.result lt _ c.with.ensures.held got.acquired.acquired;
+      book = is_taken (view since.pass) since.kept.items mine.table.items slot since.pass.sound (got.taken mine.table.items mine.book)
+          c.with.result lt c.with.ensures.held;
     }
+
+pub returns-clause-free : goal.returns-clause-free
+returns-clause-free g c =
+    let mine = c.args.self.now in
+    let since = c.take_one.new in
+    was_free (view since.pass) since.kept.items mine.table.items c.in_ok-slot.slot since.pass.sound
+    (c.in_ok-slot.ensures.taken mine.table.items mine.book)
 
 pub returns-clause-changes : goal.returns-clause-changes
 returns-clause-changes g c =
@@ -23,6 +34,8 @@ returns-clause-changes g c =
     let table = mine.table.items in
     let slot = c.in_ok-slot.slot in
     let got = c.in_ok-slot.ensures in
-    let lt : slot < length table = subst (λ n. slot < n) (sym mine.long) got.acquired.within in
-    let none : c.nobody.result ≡ holders_at table slot = c.nobody.ensures ∙ sym (free_is _ (was_free mine.book slot _ got.acquired.acquired)) in
+    let since = c.take_one.new in
+    let lt : slot < length table = subst (λ n. slot < n) (sym mine.long) got.within in
+    let free = was_free (view since.pass) since.kept.items table slot since.pass.sound (got.taken table mine.book) in
+    let none : c.nobody.result ≡ holders_at table slot = c.nobody.ensures ∙ sym (free_is _ free) in
     set_changes table slot c.with.result c.args.holder lt (subst (λ h. SameBut c.args.holder h c.with.result) none c.with.ensures.others)
