@@ -4,3 +4,4 @@ pub mod Looks
 pub mod Setting
 pub mod Resetting
 pub mod Sums
+pub mod Turns

@@ -9,8 +9,8 @@ use Rattle.history.proofs.PassLooks.{owes_look}
 
 -- nothing is late where no call is under way
 calm : (kind : Kind) (o : Option (Start ℕ × Flight ℕ)) → o ≡ None → (late : List (Event ℕ)) → IsLate kind o late → late ≡ []
-calm kinds.Overflow o idle late h = subst (λ z. IsLate kinds.Overflow z late) idle h
-calm kind o idle late h = h
+calm kinds.Overflow o idle late is_late = subst (λ z. IsLate kinds.Overflow z late) idle is_late
+calm kind o idle late is_late = is_late
 
 module _ (kind : Kind) (words slots id word : ℕ) where
   abbrev Owed : ℕ → Me (Unit {0}) (View ℕ) → Type 0

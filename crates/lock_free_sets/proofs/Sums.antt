@@ -27,7 +27,7 @@ sum_seen f p start answer wrote old new called = grind (arith, sum_by, sum_of_pa
 
 -- the sums over what was seen only grow
 pub sum_grows : (f : Event ℕ → ℕ) (seen events : List (Event ℕ)) → IsBeginning seen events → sum_by f seen ≤ sum_by f events
-sum_grows f seen events h = let e = ap (sum_by f) h.is ∙ sum_by-append f seen h.rest in omega arith
+sum_grows f seen events beginning = let e = ap (sum_by f) beginning.is ∙ sum_by-append f seen beginning.rest in omega arith
 
 pub seen_begins : (p : ℕ) (start : Start ℕ) (answer : Answer ℕ) (wrote : List (Event ℕ)) (old new : View ℕ)
     → Called p start answer wrote old new → IsBeginning old.seen new.seen

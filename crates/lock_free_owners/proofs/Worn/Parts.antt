@@ -291,7 +291,7 @@ pub counts_most : (may : Bool) (n new : ℕ) → counts_move may n new ≤ 1
 counts_most true n new = omega arith
 counts_most false n new = moved_most n new
 
--- it stands where only a call in the mode that locks does
+-- where the release stands at its lock, its mode is the one that locks
 abbrev pub StandsIn : ReleaseMode → ReleaseStage → Type 0
 StandsIn mode (releases.Locks lock) = mode ≡ LockIfLastIndex
 StandsIn mode stage = Unit {0}

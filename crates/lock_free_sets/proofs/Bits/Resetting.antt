@@ -50,18 +50,18 @@ tests cap p start passed k from start_up_to_cap passed_below_cap = grind (arith,
 takes : (cap p n : ℕ) (m : Unit {0}) (stage : ResetNextStage) → ResetStands cap stage
     → Stands cap p (reset_after (at_stage cap stage) n)
     (reset_so_far p stage ++ set_effects p (resets_next.flight (at_stage cap stage) m) n)
-takes cap p n m resets.LoadsPosition h = comes_to cap p (at_most cap n) 0 resets.LoadsPosition (at_most_below cap n)
-takes cap p n m (resets.LoadsElement start passed) h = tests cap p start passed n (resets.LoadsElement start passed) h.0 h.1
-takes cap p n m (resets.ExchangesElement start passed found) h = go (n == found) refl
+takes cap p n m resets.LoadsPosition reset_stands = comes_to cap p (at_most cap n) 0 resets.LoadsPosition (at_most_below cap n)
+takes cap p n m (resets.LoadsElement start passed) reset_stands = tests cap p start passed n (resets.LoadsElement start passed) reset_stands.0 reset_stands.1
+takes cap p n m (resets.ExchangesElement start passed found) reset_stands = go (n == found) refl
   where
     -- after an exchange, which found what it expected or not, the call stands at a place below the
     -- capacity, and what it has written is right
     go : (b : Bool) → (n == found) ≡ b
         → Stands cap p (reset_after (at_stage cap (resets.ExchangesElement start passed found)) n)
         ([] ++ set_effects p (resets_next.flight (at_stage cap (resets.ExchangesElement start passed found)) m) n)
-    go true t = rw t (refl, place_below cap start passed h.0 h.1, refl)
-    go false t = rw t (tests cap p start passed n (resets.ExchangesElement start passed found) h.0 h.1)
-takes cap p n m (resets.StoresPosition place) h = (h, refl)
+    go true t = rw t (refl, place_below cap start passed reset_stands.0 reset_stands.1, refl)
+    go false t = rw t (tests cap p start passed n (resets.ExchangesElement start passed found) reset_stands.0 reset_stands.1)
+takes cap p n m (resets.StoresPosition place) reset_stands = (reset_stands, refl)
 
 stands_on : (cap p n : ℕ) (m : Unit {0}) (c : Resetting) → (c.capacity ≡ cap) × ResetStands cap c.stage
     → Stands cap p (reset_after c n) (reset_so_far p c.stage ++ set_effects p (resets_next.flight c m) n)
@@ -87,10 +87,10 @@ asks cap c h = subst (λ k. (a : Ask) × (a.word < 1 + elements cap) × (reset_a
 
     -- at each of its stages the call asks for a word of the set
     at : (stage : ResetNextStage) → ResetStands cap stage → (a : Ask) × (a.word < 1 + elements cap) × (reset_asks cap stage ≡ wants.Ask a)
-    at resets.LoadsPosition s = (record { word = 0; op = Load }, omega arith, refl)
-    at (resets.LoadsElement start passed) s = (
+    at resets.LoadsPosition reset_stands = (record { word = 0; op = Load }, omega arith, refl)
+    at (resets.LoadsElement start passed) reset_stands = (
       record { word = element_of (place_after cap start passed); op = Load },
-      near (place_after cap start passed) (place_below cap start passed s.0 s.1),
+      near (place_after cap start passed) (place_below cap start passed reset_stands.0 reset_stands.1),
       refl,
     )
     at (resets.ExchangesElement start passed found) s = (
@@ -145,8 +145,8 @@ module _ (base w : View ℕ) (o : Option ℕ) (m : Unit {0}) (idle : base.going 
   place_in = go o ends.tells.0
     where
       go : (x : Option ℕ) → IsPlace base.capacity x → IfSome x (λ place. place < base.capacity)
-      go None h = tt
-      go (Some place) h = h
+      go None place = tt
+      go (Some place) is_place = is_place
 
   -- where a reset found none, each place was clear at some moment of the call
   all_clear : o ≡ None → AllClearOnce base.capacity w

@@ -16,11 +16,11 @@ use Rattle.lock_free_sets.proofs.Sums.{sum_made, sum_seen, same_last, reaches}
 
 -- each place was set as often as it was cleared, or once more
 pub clears_within : (capacity : ℕ) (events : List (Event ℕ)) → IsHistory one_word kinds.Bits capacity events → (b : ℕ) → clears b events ≤ sets b events
-clears_within capacity events h b =
-    let set : IsBitSet h.trace = bits_go_on h.trace h.run.of_kind h.run.reached in
+clears_within capacity events history b =
+    let set : IsBitSet history.trace = bits_go_on history.trace history.run.of_kind history.run.reached in
     let all = set.conserved b in
-    let s = ap (sets b) h.is in
-    let c = ap (clears b) h.is in
+    let s = ap (sets b) history.is in
+    let c = ap (clears b) history.is in
     omega arith
 
 -- no place past the capacity was set
@@ -35,16 +35,16 @@ module _ (old new : View ℕ) where
   -- a set that answers true adds one to the sets of its place, and nothing else
   pub set_adds : (place : ℕ) → HasSet place true old new → (b : ℕ)
       → (sets b new.made ≡ sets b old.made + cond (place == b) 1 0) × (clears b new.made ≡ clears b old.made)
-  set_adds place h b =
-      let wrote : List (Event ℕ) = events.Set h.by place ∷ [] in
-      let s = sum_made (λ e. cond (is_set_of b e) 1 0) h.by (Bits (Set place)) (Truth true) wrote old new h.called in
-      let c = sum_made (λ e. cond (is_clear_of b e) 1 0) h.by (Bits (Set place)) (Truth true) wrote old new h.called in
+  set_adds place set b =
+      let wrote : List (Event ℕ) = events.Set set.by place ∷ [] in
+      let s = sum_made (λ e. cond (is_set_of b e) 1 0) set.by (Bits (Set place)) (Truth true) wrote old new set.called in
+      let c = sum_made (λ e. cond (is_clear_of b e) 1 0) set.by (Bits (Set place)) (Truth true) wrote old new set.called in
       (omega arith, omega arith)
 
   pub set_adds_none : (place : ℕ) → HasSet place false old new → (b : ℕ) → (sets b new.made ≡ sets b old.made) × (clears b new.made ≡ clears b old.made)
-  set_adds_none place h b =
-      let s = sum_made (λ e. cond (is_set_of b e) 1 0) h.by (Bits (Set place)) (Truth false) [] old new h.called in
-      let c = sum_made (λ e. cond (is_clear_of b e) 1 0) h.by (Bits (Set place)) (Truth false) [] old new h.called in
+  set_adds_none place set b =
+      let s = sum_made (λ e. cond (is_set_of b e) 1 0) set.by (Bits (Set place)) (Truth false) [] old new set.called in
+      let c = sum_made (λ e. cond (is_clear_of b e) 1 0) set.by (Bits (Set place)) (Truth false) [] old new set.called in
       (omega arith, omega arith)
 
   -- a place that stood was set
@@ -58,10 +58,10 @@ module _ (old new : View ℕ) where
 
   -- a place that somebody called to set was set, by that call or before its end
   pub was_set : (place : ℕ) (answer : Bool) → HasSet place answer old new → (answer ≡ false → StoodOnce place new) → 1 ≤ sets place new.seen
-  was_set place false h stood = stood_was_set place (stood refl)
-  was_set place true h stood =
-      let wrote : List (Event ℕ) = events.Set h.by place ∷ [] in
-      let some = sum_seen (λ e. cond (is_set_of place e) 1 0) h.by (Bits (Set place)) (Truth true) wrote old new h.called in
+  was_set place false set stood = stood_was_set place (stood refl)
+  was_set place true set stood =
+      let wrote : List (Event ℕ) = events.Set set.by place ∷ [] in
+      let some = sum_seen (λ e. cond (is_set_of place e) 1 0) set.by (Bits (Set place)) (Truth true) wrote old new set.called in
       let t : (place == place) ≡ true = grind (arith, nat_tests) in
       let one : sets place wrote ≡ 1 = rw t refl in
       omega arith
@@ -71,16 +71,16 @@ module _ (old new : View ℕ) where
   -- a reset that found a place adds one to the clears of this place, and nothing else
   pub reset_adds : (place : ℕ) → HasReset (Some place) old new → (b : ℕ)
       → (sets b new.made ≡ sets b old.made) × (clears b new.made ≡ clears b old.made + cond (place == b) 1 0)
-  reset_adds place h b =
-      let wrote : List (Event ℕ) = Cleared h.by place ∷ [] in
-      let s = sum_made (λ e. cond (is_set_of b e) 1 0) h.by (Bits ResetNext) (reset_answer (Some place)) wrote old new h.called in
-      let c = sum_made (λ e. cond (is_clear_of b e) 1 0) h.by (Bits ResetNext) (reset_answer (Some place)) wrote old new h.called in
+  reset_adds place reset b =
+      let wrote : List (Event ℕ) = Cleared reset.by place ∷ [] in
+      let s = sum_made (λ e. cond (is_set_of b e) 1 0) reset.by (Bits ResetNext) (reset_answer (Some place)) wrote old new reset.called in
+      let c = sum_made (λ e. cond (is_clear_of b e) 1 0) reset.by (Bits ResetNext) (reset_answer (Some place)) wrote old new reset.called in
       (omega arith, omega arith)
 
   pub reset_adds_none : HasReset None old new → (b : ℕ) → (sets b new.made ≡ sets b old.made) × (clears b new.made ≡ clears b old.made)
-  reset_adds_none h b =
-      let s = sum_made (λ e. cond (is_set_of b e) 1 0) h.by (Bits ResetNext) ResetNone [] old new h.called in
-      let c = sum_made (λ e. cond (is_clear_of b e) 1 0) h.by (Bits ResetNext) ResetNone [] old new h.called in
+  reset_adds_none reset b =
+      let s = sum_made (λ e. cond (is_set_of b e) 1 0) reset.by (Bits ResetNext) ResetNone [] old new reset.called in
+      let c = sum_made (λ e. cond (is_clear_of b e) 1 0) reset.by (Bits ResetNext) ResetNone [] old new reset.called in
       (omega arith, omega arith)
 
   -- where it found none and all that was seen is what its pass made, nothing stands: each place was cleared as often as set
@@ -88,7 +88,7 @@ module _ (old new : View ℕ) where
       → ((f : Event ℕ → ℕ) → sum_by f old.seen ≡ sum_by f old.made)
       → ((f : Event ℕ → ℕ) → sum_by f new.seen ≡ sum_by f new.made)
       → HasReset None old new → AllClearOnce capacity new → (b : ℕ) → sets b new.made ≡ clears b new.made
-  none_left capacity history before after h clear b = ⊎_elim below past (cases_lt b capacity)
+  none_left capacity history before after reset clear b = ⊎_elim below past (cases_lt b capacity)
     where
       sets_seen : sets b new.seen ≡ sets b new.made
       sets_seen = after (λ e. cond (is_set_of b e) 1 0)
@@ -97,7 +97,7 @@ module _ (old new : View ℕ) where
       clears_seen = after (λ e. cond (is_clear_of b e) 1 0)
 
       sets_before : sets b old.seen ≡ sets b new.made
-      sets_before = before (λ e. cond (is_set_of b e) 1 0) ∙ sym (reset_adds_none h b).0
+      sets_before = before (λ e. cond (is_set_of b e) 1 0) ∙ sym (reset_adds_none reset b).0
 
       -- a place past the capacity was neither set nor cleared
       past : capacity ≤ b → sets b new.made ≡ clears b new.made
@@ -111,28 +111,28 @@ module _ (old new : View ℕ) where
       -- a place below the capacity was cleared as often as set
       below : b < capacity → sets b new.made ≡ clears b new.made
       below near =
-          let p = h.by in
+          let p = reset.by in
           let q = clear.by in
           let end : List (Event ℕ) = Finished p (Bits ResetNext) ResetNone ∷ [] in
           let end_there : List (Event ℕ) = Finished q (Bits ResetNext) ResetNone ∷ [] in
-          let front = old.seen ++ h.called.others in
+          let front = old.seen ++ reset.called.others in
           let once = clear.clear b near in
-          let whole : front ++ Begun p (Bits ResetNext) ∷ (h.called.during ++ end) ≡ once.part ++ (once.rest ++ end_there) =
-          sym h.called.is ∙ (clear.is ∙ (ap (λ es. es ++ end_there) once.is ∙ append_assoc once.part once.rest end_there)) in
-          let ends : (front ++ Begun p (Bits ResetNext) ∷ h.called.during) ++ end ≡ clear.before ++ end_there =
-          append_assoc front (Begun p (Bits ResetNext) ∷ h.called.during) end ∙ (sym h.called.is ∙ clear.is) in
+          let whole : front ++ Begun p (Bits ResetNext) ∷ (reset.called.during ++ end) ≡ once.part ++ (once.rest ++ end_there) =
+          sym reset.called.is ∙ (clear.is ∙ (ap (λ es. es ++ end_there) once.is ∙ append_assoc once.part once.rest end_there)) in
+          let ends : (front ++ Begun p (Bits ResetNext) ∷ reset.called.during) ++ end ≡ clear.before ++ end_there =
+          append_assoc front (Begun p (Bits ResetNext) ∷ reset.called.during) end ∙ (sym reset.called.is ∙ clear.is) in
           let last =
-          same_last (front ++ Begun p (Bits ResetNext) ∷ h.called.during) clear.before
+          same_last (front ++ Begun p (Bits ResetNext) ∷ reset.called.during) clear.before
           (Finished p (Bits ResetNext) ResetNone) (Finished q (Bits ResetNext) ResetNone) ends in
           let party : q ≡ p = cc in
           let none : BeginsNone p (once.rest ++ end_there) =
           begins_none_more p once.rest end_there (subst (λ z. BeginsNone z once.rest) party once.within) tt in
           let reached =
-          reaches (λ e. cond (is_set_of b e) 1 0) p (Bits ResetNext) front (h.called.during ++ end) once.part
+          reaches (λ e. cond (is_set_of b e) 1 0) p (Bits ResetNext) front (reset.called.during ++ end) once.part
           (once.rest ++ end_there) whole none in
-          let grown = sets_more b old.seen h.called.others in
+          let grown = sets_more b old.seen reset.called.others in
           let later = clears_more b once.part (once.rest ++ end_there) in
-          let all : clears b new.seen ≡ clears b (once.part ++ (once.rest ++ end_there)) = ap (clears b) (h.called.is ∙ whole) in
+          let all : clears b new.seen ≡ clears b (once.part ++ (once.rest ++ end_there)) = ap (clears b) (reset.called.is ∙ whole) in
           let clear_then = once.held in
           let within = clears_within capacity new.seen history b in
           let s = sets_seen in

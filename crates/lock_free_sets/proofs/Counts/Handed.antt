@@ -30,19 +30,19 @@ module _ {F : Type 0} (R : F → BitState → F → Type 0) (cap : ℕ) (v : F) 
   -- to this place
   pub counted_more : (low count : ℕ) (p q : F) → low < cap → 0 < count → count < 2 ^ 64 → R p (record { bit = low; count = count }) q
       → Counted R cap low v p → Counted R cap (low + 1) v q
-  counted_more low count p q within some small hit h =
+  counted_more low count p q within some small hit counted =
       let x : BitState = record { bit = low; count = count } in
       record {
-        states = h.states ++ x ∷ [];
+        states = counted.states ++ x ∷ [];
         ascend = (
-          all_pairs_push (λ (y z : BitState). y.bit < z.bit) h.states x h.ascend.0 h.below,
-          All-push (λ (y : BitState). (y.bit < cap) × (0 < y.count) × (y.count < 2 ^ 64)) h.states x h.ascend.1 (within, some, small),
+          all_pairs_push (λ (y z : BitState). y.bit < z.bit) counted.states x counted.ascend.0 counted.below,
+          All-push (λ (y : BitState). (y.bit < cap) × (0 < y.count) × (y.count < 2 ^ 64)) counted.states x counted.ascend.1 (within, some, small),
         );
         below =
-            All-push (λ (y : BitState). y.bit < low + 1) h.states x
-            (All-weaker (λ (y : BitState). y.bit < low) (λ (y : BitState). y.bit < low + 1) (λ y l. omega arith) h.states h.below)
+            All-push (λ (y : BitState). y.bit < low + 1) counted.states x
+            (All-weaker (λ (y : BitState). y.bit < low) (λ (y : BitState). y.bit < low + 1) (λ y l. omega arith) counted.states counted.below)
             (omega arith);
-        folds = FoldsTo-push R v h.states p x q h.folds hit;
+        folds = FoldsTo-push R v counted.states p x q counted.folds hit;
       }
 
 -- ---- what the call wrote is what the closure was called with
@@ -71,4 +71,4 @@ module _ {F : Type 0} (R : F → BitState → F → Type 0) (cap : ℕ) (v : F) 
 
 pub takes_counts_at : {F : Type 0} {pre : F → BitState → Type 0} {step : F → BitState → F → Type 0} {a b : ℕ} {f : F}
     → a ≡ b → TakesCounts pre step a f → TakesCounts pre step b f
-takes_counts_at {F} {pre} {step} {a} {b} {f} e h = subst (λ z. TakesCounts pre step z f) e h
+takes_counts_at {F} {pre} {step} {a} {b} {f} e takes_counts = subst (λ z. TakesCounts pre step z f) e takes_counts

@@ -15,12 +15,12 @@ use Rattle.lock_free_sets.proofs.Sums.{sum_made}
 
 -- no more was taken out of a place than it was counted
 pub takes_within : (capacity : ℕ) (events : List (Event ℕ)) → IsHistory one_word kinds.Counts capacity events → (b : ℕ) → takes b events ≤ counts b events
-takes_within capacity events h b =
-    let set : IsCountingOn h.trace = counts_go_on h.trace h.run.of_kind h.run.reached in
+takes_within capacity events history b =
+    let set : IsCountingOn history.trace = counts_go_on history.trace history.run.of_kind history.run.reached in
     let all = set.conserved b in
     let e = all.1 in
-    let s = ap (counts b) h.is in
-    let t = ap (takes b) h.is in
+    let s = ap (counts b) history.is in
+    let t = ap (takes b) history.is in
     omega arith
 
 takes_of : (p b : ℕ) (states : List BitState) → takes b (map (taken_by p) states) ≡ taken_at b states
@@ -41,10 +41,10 @@ module _ (old new : View ℕ) where
   -- counting a place adds one to the counts of this place, and nothing else
   pub count_adds : (place number : ℕ) → HasCounted place number old new → (b : ℕ)
       → (counts b new.made ≡ counts b old.made + cond (place == b) 1 0) × (takes b new.made ≡ takes b old.made)
-  count_adds place number h b =
-      let wrote : List (Event ℕ) = Counted h.by place ∷ [] in
-      let c = sum_made (λ e. cond (is_count_of b e) 1 0) h.by (Bits (Set place)) (Number number) wrote old new h.called in
-      let t = sum_made (take_of b) h.by (Bits (Set place)) (Number number) wrote old new h.called in
+  count_adds place number counted b =
+      let wrote : List (Event ℕ) = Counted counted.by place ∷ [] in
+      let c = sum_made (λ e. cond (is_count_of b e) 1 0) counted.by (Bits (Set place)) (Number number) wrote old new counted.called in
+      let t = sum_made (take_of b) counted.by (Bits (Set place)) (Number number) wrote old new counted.called in
       (omega arith, omega arith)
 
   -- taking all counts out adds what came out of each place to what was taken out of it, and
@@ -65,10 +65,10 @@ module _ (old new : View ℕ) where
   pub answers_count : (place number : ℕ) → ((f : Event ℕ → ℕ) → sum_by f new.seen ≡ sum_by f new.made)
       → HasCounted place number old new → AnswersCount place number new
       → number ≡ (counts place old.made - takes place old.made) % 2 ^ 64
-  answers_count place number all h a =
+  answers_count place number all has_counted a =
       let same : (place == place) ≡ true = grind (arith, nat_tests) in
       let one : ◌≡◌ {A = ℕ} (cond (place == place) 1 0) 1 = rw same refl in
-      let made = count_adds place number h place in
+      let made = count_adds place number has_counted place in
       let counted : List (Event ℕ) = Counted a.by place ∷ [] in
       let end : Event ℕ = Finished a.by (Bits (Set place)) (Number number) in
       let is_count : Event ℕ → ℕ = λ e. cond (is_count_of place e) 1 0 in

@@ -36,20 +36,20 @@ use Rattle.lock_free_sets.specs.Unique.Contracts.{HasTaken, HasGiven, HasGivenOr
 
 -- what a pass freed it had claimed, it holds each index once, and none once it has seen the lock
 pub sound : (capacity : ℕ) (v : View ℕ) → v.capacity ≡ capacity → IsHistory one_word kinds.Indices capacity v.seen → IsOfParties v → IsSound v
-sound capacity v same h parties =
-    let once = λ (i : ℕ). holds_once h.trace.world.capacity i v (holds_right capacity v.seen h) parties in
+sound capacity v same history parties =
+    let once = λ (i : ℕ). holds_once history.trace.world.capacity i v (holds_right capacity v.seen history) parties in
     record {
       least = λ i. (once i).0;
       once = λ i. (once i).1;
       within = λ i holds. within i holds;
-      lock = λ shut i. nothing i (once i) (none_held capacity v.seen h shut i);
+      lock = λ shut i. nothing i (once i) (none_held capacity v.seen history shut i);
     }
   where
     by : (i : ℕ) → Holds i v.made → (p : ℕ) × (parties.owner p ≡ parties.seat) × (holder_of i v.seen ≡ Some p)
-    by i holds = held_by parties.owner parties.seat h.trace.world.capacity i v.seen v.made (holds_right capacity v.seen h) parties.sums holds
+    by i holds = held_by parties.owner parties.seat history.trace.world.capacity i v.seen v.made (holds_right capacity v.seen history) parties.sums holds
 
     within : (i : ℕ) → Holds i v.made → i < v.capacity
-    within i holds = subst (λ n. i < n) (sym same) (held_within capacity v.seen h i (by i holds).0 (by i holds).2)
+    within i holds = subst (λ n. i < n) (sym same) (held_within capacity v.seen history i (by i holds).0 (by i holds).2)
 
     nothing : (i : ℕ) → (sum_by (frees i) v.made ≤ sum_by (claims i) v.made) × (sum_by (claims i) v.made ≤ sum_by (frees i) v.made + 1)
         → holder_of i v.seen ≡ None → 0 + sum_by (frees i) v.made ≡ sum_by (claims i) v.made
@@ -66,12 +66,12 @@ sound_after {base = base} {w = w} ends = sound base.capacity w ends.capacity end
 
 -- a share makes no difference
 pub sound_same : (v w : View ℕ) → w.capacity ≡ v.capacity → w.seen ≡ v.seen → w.made ≡ v.made → IsSound v → IsSound w
-sound_same v w size seen made h =
+sound_same v w size seen made is_sound =
     record {
-      least = subst (λ es. (i : ℕ) → sum_by (frees i) es ≤ sum_by (claims i) es) (sym made) h.least;
-      once = subst (λ es. (i : ℕ) → sum_by (claims i) es ≤ sum_by (frees i) es + 1) (sym made) h.once;
-      within = λ i holds. subst (λ n. i < n) (sym size) (h.within i (subst (Holds i) made holds));
-      lock = λ shut. subst HoldsNothing (sym made) (h.lock (sym (ap is_locked seen) ∙ shut));
+      least = subst (λ es. (i : ℕ) → sum_by (frees i) es ≤ sum_by (claims i) es) (sym made) is_sound.least;
+      once = subst (λ es. (i : ℕ) → sum_by (claims i) es ≤ sum_by (frees i) es + 1) (sym made) is_sound.once;
+      within = λ i holds. subst (λ n. i < n) (sym size) (is_sound.within i (subst (Holds i) made holds));
+      lock = λ shut. subst HoldsNothing (sym made) (is_sound.lock (sym (ap is_locked seen) ∙ shut));
     }
 
 -- ---- calls
@@ -111,9 +111,9 @@ module _ (base w : View ℕ) (same : w.capacity ≡ base.capacity) (h : IsHistor
         go (span_of p before) (kept.spans before [] last at_end)
       where
         go : (span : Span ℕ) → Stands promise h.trace.world.capacity last span → (done : SetActs) × (done_by start answer ≡ Some done)
-        go Never x = absurd x
-        go (Open call es) x = (set_acts es, x.1)
-        go (Ended call other es) x = absurd x
+        go Never stands = absurd stands
+        go (Open call es) stands = (set_acts es, stands.1)
+        go (Ended call other es) stands = absurd stands
 
   -- no more indices are counted as in use than there are
   pub at_most : (p number : ℕ) (wrote : List (Event ℕ)) → Called p (Indices BorrowedIndices) (Number number) wrote base w → number ≤ base.capacity

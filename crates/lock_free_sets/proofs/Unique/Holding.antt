@@ -24,62 +24,66 @@ pub record Moves (j more less : ℕ) (v w : View ℕ) : Type 0 where
 module _ (v w : View ℕ) (j : ℕ) where
   -- an acquire that took an index adds one claim of this index, and no free
   pub taken_moves : (i : ℕ) → HasTaken (Ok i) v w → Moves j (one_if i j) 0 v w
-  taken_moves i h =
-      let a = sum_made (claims j) h.by (Indices Acquire) (Index i) (Claimed h.by i ∷ []) v w h.called in
-      let b = sum_made (frees j) h.by (Indices Acquire) (Index i) (Claimed h.by i ∷ []) v w h.called in
-      let is : sum_by (claims {T = ℕ} j) (Claimed h.by i ∷ []) ≡ one_if i j = omega arith in
-      let none : sum_by (frees {T = ℕ} j) (Claimed h.by i ∷ []) ≡ 0 = refl in
+  taken_moves i taken =
+      let a = sum_made (claims j) taken.by (Indices Acquire) (Index i) (Claimed taken.by i ∷ []) v w taken.called in
+      let b = sum_made (frees j) taken.by (Indices Acquire) (Index i) (Claimed taken.by i ∷ []) v w taken.called in
+      let is : sum_by (claims {T = ℕ} j) (Claimed taken.by i ∷ []) ≡ one_if i j = omega arith in
+      let none : sum_by (frees {T = ℕ} j) (Claimed taken.by i ∷ []) ≡ 0 = refl in
       record { claimed = omega arith; freed = omega arith }
 
   -- an acquire that took none adds neither claim nor free
   pub refused_moves : (e : UniqueIndexSetAcquireFailure) → HasTaken (Err e) v w → Moves j 0 0 v w
-  refused_moves e h =
-      let a = sum_made (claims j) h.by (Indices Acquire) (NoIndex e) [] v w h.called in
-      let b = sum_made (frees j) h.by (Indices Acquire) (NoIndex e) [] v w h.called in
+  refused_moves e taken =
+      let a = sum_made (claims j) taken.by (Indices Acquire) (NoIndex e) [] v w taken.called in
+      let b = sum_made (frees j) taken.by (Indices Acquire) (NoIndex e) [] v w taken.called in
       let none : sum_by (claims {T = ℕ} j) [] ≡ 0 = refl in
       let none' : sum_by (frees {T = ℕ} j) [] ≡ 0 = refl in
       record { claimed = omega arith; freed = omega arith }
 
   -- a release adds one free of its index, and no claim
   pub given_moves : (i : ℕ) (state : ReleaseState) → HasGiven i state v w → Moves j 0 (one_if i j) v w
-  given_moves i state h =
-      let a = sum_made (claims j) h.by (Indices (Release i modes.Default)) (State state) (Freed h.by i ∷ []) v w h.called in
-      let b = sum_made (frees j) h.by (Indices (Release i modes.Default)) (State state) (Freed h.by i ∷ []) v w h.called in
-      let none : sum_by (claims {T = ℕ} j) (Freed h.by i ∷ []) ≡ 0 = refl in
-      let is : sum_by (frees {T = ℕ} j) (Freed h.by i ∷ []) ≡ one_if i j = omega arith in
+  given_moves i state given =
+      let a = sum_made (claims j) given.by (Indices (Release i modes.Default)) (State state) (Freed given.by i ∷ []) v w given.called in
+      let b = sum_made (frees j) given.by (Indices (Release i modes.Default)) (State state) (Freed given.by i ∷ []) v w given.called in
+      let none : sum_by (claims {T = ℕ} j) (Freed given.by i ∷ []) ≡ 0 = refl in
+      let is : sum_by (frees {T = ℕ} j) (Freed given.by i ∷ []) ≡ one_if i j = omega arith in
       record { claimed = omega arith; freed = omega arith }
 
   -- a release that may lock adds one free of its index, and no claim, whether it locks or not
   pub locked_moves : (i : ℕ) (state : ReleaseState) → HasGivenOrLocked i state v w → Moves j 0 (one_if i j) v w
-  locked_moves i state h =
-      let a = sum_made (claims j) h.by (Indices (Release i modes.LockIfLastIndex)) (State state) (given_by h.by i state) v w h.called in
-      let b = sum_made (frees j) h.by (Indices (Release i modes.LockIfLastIndex)) (State state) (given_by h.by i state) v w h.called in
-      let none : sum_by (claims {T = ℕ} j) (given_by h.by i state) ≡ 0 = no_claim state in
-      let is : sum_by (frees {T = ℕ} j) (given_by h.by i state) ≡ one_if i j = one_free state in
+  locked_moves i state given_or_locked =
+      let a =
+      sum_made (claims j) given_or_locked.by (Indices (Release i modes.LockIfLastIndex)) (State state)
+      (given_by given_or_locked.by i state) v w given_or_locked.called in
+      let b =
+      sum_made (frees j) given_or_locked.by (Indices (Release i modes.LockIfLastIndex)) (State state)
+      (given_by given_or_locked.by i state) v w given_or_locked.called in
+      let none : sum_by (claims {T = ℕ} j) (given_by given_or_locked.by i state) ≡ 0 = no_claim state in
+      let is : sum_by (frees {T = ℕ} j) (given_by given_or_locked.by i state) ≡ one_if i j = one_free state in
       record { claimed = omega arith; freed = omega arith }
     where
-      no_claim : (s : ReleaseState) → sum_by (claims {T = ℕ} j) (given_by {T = ℕ} h.by i s) ≡ 0
+      no_claim : (s : ReleaseState) → sum_by (claims {T = ℕ} j) (given_by {T = ℕ} given_or_locked.by i s) ≡ 0
       no_claim Unlocked = refl
       no_claim Locked = refl
 
-      one_free : (s : ReleaseState) → sum_by (frees {T = ℕ} j) (given_by {T = ℕ} h.by i s) ≡ one_if i j
+      one_free : (s : ReleaseState) → sum_by (frees {T = ℕ} j) (given_by {T = ℕ} given_or_locked.by i s) ≡ one_if i j
       one_free Unlocked = omega arith
       one_free Locked = omega arith
 
   -- counting the indices in use adds neither claim nor free
   pub counted_moves : (n : ℕ) → HasCounted n v w → Moves j 0 0 v w
-  counted_moves n h =
-      let a = sum_made (claims j) h.by (Indices BorrowedIndices) (Number n) [] v w h.called in
-      let b = sum_made (frees j) h.by (Indices BorrowedIndices) (Number n) [] v w h.called in
+  counted_moves n counted =
+      let a = sum_made (claims j) counted.by (Indices BorrowedIndices) (Number n) [] v w counted.called in
+      let b = sum_made (frees j) counted.by (Indices BorrowedIndices) (Number n) [] v w counted.called in
       let none : sum_by (claims {T = ℕ} j) [] ≡ 0 = refl in
       let none' : sum_by (frees {T = ℕ} j) [] ≡ 0 = refl in
       record { claimed = omega arith; freed = omega arith }
 
   -- a look at the lock adds neither claim nor free
   pub looked_moves : (b : Bool) → HasLooked b v w → Moves j 0 0 v w
-  looked_moves b h =
-      let a = sum_made (claims j) h.by (Indices IsLocked) (Truth b) [] v w h.called in
-      let c = sum_made (frees j) h.by (Indices IsLocked) (Truth b) [] v w h.called in
+  looked_moves b looked =
+      let a = sum_made (claims j) looked.by (Indices IsLocked) (Truth b) [] v w looked.called in
+      let c = sum_made (frees j) looked.by (Indices IsLocked) (Truth b) [] v w looked.called in
       let none : sum_by (claims {T = ℕ} j) [] ≡ 0 = refl in
       let none' : sum_by (frees {T = ℕ} j) [] ≡ 0 = refl in
       record { claimed = omega arith; freed = omega arith }
@@ -210,8 +214,8 @@ lock_apart v other w low low' sound is seen since shut = (
 
 -- who took an index had not seen the lock
 pub free_unlocked : (i : ℕ) (v w : View ℕ) → WasFree i v w → is_locked v.seen ≡ false
-free_unlocked i v w h = not_locked h.since h.unlocked
+free_unlocked i v w was_free = not_locked was_free.since was_free.unlocked
 
 -- none is counted once the lock was seen
 pub counted_none : (n : ℕ) (v w : View ℕ) → Answered BorrowedIndices (Number n) v w → is_locked v.seen ≡ true → n ≡ 0
-counted_none n v w h shut = h.right.0 (lock_stays h.since shut)
+counted_none n v w answered shut = answered.right.0 (lock_stays answered.since shut)

@@ -49,11 +49,11 @@ holds_none {pass} {is} none empty =
 -- it takes one more
 pub holds_more : {start was now : Pass} {is : List ℕ} (more : List ℕ) (i : ℕ) → Holding start is was → SamePass was now
     → HasAcquired i (view was) (view now) → more ≡ is ++ i ∷ [] → Holding start more now
-holds_more {start} {was} {now} {is} more i h goes took list =
+holds_more {start} {was} {now} {is} more i holding goes took list =
     record {
-      set = goes.set ∙ h.set;
-      share = still_as_much (share now) (share was) (share start) goes.share h.share;
-      held = subst (λ xs. HeldBy xs (made now)) (sym list) (held_taken (view was) (view now) is i h.held took.taken);
+      set = goes.set ∙ holding.set;
+      share = still_as_much (share now) (share was) (share start) goes.share holding.share;
+      held = subst (λ xs. HeldBy xs (made now)) (sym list) (held_taken (view was) (view now) is i holding.held took.taken);
     }
 
 next : (xs : List ℕ) (at : ℕ) → at < length xs → drop at xs ≡ get_or xs at 0 ∷ drop (at + 1) xs
@@ -62,24 +62,24 @@ next xs at below = rw (add-one, drop-cons xs at 0) refl
 -- the next of a list can be given back
 pub holds_next : {start now : Pass} (is : List ℕ) (at : ℕ) → Holding start (drop at is) now → IsSound (view now)
     → at < length is → Holds (get_or is at 0) (made now)
-holds_next {start} {now} is at h sound below =
-    held_first (get_or is at 0) (drop (at + 1) is) (view now) sound (subst (λ xs. HeldBy xs (made now)) (next is at below) h.held)
+holds_next {start} {now} is at holding sound below =
+    held_first (get_or is at 0) (drop (at + 1) is) (view now) sound (subst (λ xs. HeldBy xs (made now)) (next is at below) holding.held)
 
 -- and then the others are held
 pub holds_rest : {start was now : Pass} (is : List ℕ) (at : ℕ) {state : ReleaseState} → Holding start (drop at is) was
     → at < length is → SamePass was now → HasGiven (get_or is at 0) state (view was) (view now) → Holding start (drop (at + 1) is) now
-holds_rest {start} {was} {now} is at {state} h below goes gave =
+holds_rest {start} {was} {now} is at {state} holding below goes gave =
     record {
-      set = goes.set ∙ h.set;
-      share = still_as_much (share now) (share was) (share start) goes.share h.share;
+      set = goes.set ∙ holding.set;
+      share = still_as_much (share now) (share was) (share start) goes.share holding.share;
       held =
           held_given (view was) (view now) (drop (at + 1) is) (get_or is at 0) state
-          (subst (λ xs. HeldBy xs (made was)) (next is at below) h.held) gave;
+          (subst (λ xs. HeldBy xs (made was)) (next is at below) holding.held) gave;
     }
 
 -- until nothing is
 pub holds_last : {start now : Pass} (is : List ℕ) (at : ℕ) → Holding start (drop at is) now → length is ≤ at → Holding start [] now
-holds_last {start} {now} is at h past = subst (λ xs. Holding start xs now) (drop_all at is past) h
+holds_last {start} {now} is at holding past = subst (λ xs. Holding start xs now) (drop_all at is past) holding
 
 -- ---- several
 
@@ -87,21 +87,21 @@ holds_last {start} {now} is at h past = subst (λ xs. Holding start xs now) (dro
 pub both_hold : (start mine other one two joined : Pass) (is js : List ℕ) {all : List ℕ}
     → HasSplit (view start) (view mine) (view other) → set_of mine ≡ set_of start → Holding mine is one → Holding other js two
     → HasJoined (view one) (view two) (view joined) → set_of joined ≡ set_of one → all ≡ is ++ js → Holding start all joined
-both_hold start mine other one two joined is js {all} cut of h g join same list =
+both_hold start mine other one two joined is js {all} cut of first_holding second_holding join same list =
     record {
-      set = same ∙ (h.set ∙ of);
+      set = same ∙ (first_holding.set ∙ of);
       share =
           still_as_much (share joined) (both_of (share one) (share two)) (share start) join.share
           (halves (share start) (share one) (share two)
-          (subst (λ s. IsAsMuch (share one) s) cut.share h.share) (subst (λ s. IsAsMuch (share two) s) cut.right_share g.share));
+          (subst (λ s. IsAsMuch (share one) s) cut.share first_holding.share) (subst (λ s. IsAsMuch (share two) s) cut.right_share second_holding.share));
       held =
           subst (λ xs. HeldBy xs (made joined)) (sym list)
-          (subst (HeldBy (is ++ js)) (sym join.made) (held_joined is js (made one) (made two) h.held g.held));
+          (subst (HeldBy (is ++ js)) (sym join.made) (held_joined is js (made one) (made two) first_holding.held second_holding.held));
     }
 
 -- no index is held twice
 pub holds_apart : {start now : Pass} (is : List ℕ) → Holding start is now → IsSound (view now) → AllPairs (λ i j. i ≢ j) is
-holds_apart {start} {now} is h sound = held_apart is (view now) sound h.held
+holds_apart {start} {now} is holding sound = held_apart is (view now) sound holding.held
 
 -- where the whole share holds nothing, none is out
 pub none_out : (first was : Pass) {given now : Pass} {n : ℕ} (is : List ℕ) → share first ≡ all_shares → Holding first is was → Holding was [] given

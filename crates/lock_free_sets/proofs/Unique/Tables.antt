@@ -33,8 +33,8 @@ module _ {A : Type 0} (free : A) (out : A → Bool) where
         go (out (get_or table i free)) (omega arith)
       where
         go : (b : Bool) → as_number b ≡ 0 → b ≡ false
-        go false e = refl
-        go true e = absurd (omega arith)
+        go false as_number_is_zero = refl
+        go true as_number_is_zero = absurd (omega arith)
 
     -- a refused acquire leaves it
     pub is_refused : (e : UniqueIndexSetAcquireFailure) (w : View ℕ) → WasRefused e v w → IsTableOf w table

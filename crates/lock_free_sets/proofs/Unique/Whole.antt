@@ -26,21 +26,21 @@ use Rattle.lock_free_sets.proofs.Unique.Machine.{tally_is, few, none_left, own_f
 
 module _ (base w : View ℕ) where
   pub taken_done : (answer : Acquired) → HasTaken answer base w → IsDone base.made → IsDone w.made
-  taken_done (Ok i) h = still_done h.by _ _ _ base w h.called (tt, tt)
-  taken_done (Err e) h = still_done h.by _ _ _ base w h.called tt
+  taken_done (Ok i) has_taken = still_done has_taken.by _ _ _ base w has_taken.called (tt, tt)
+  taken_done (Err e) has_taken = still_done has_taken.by _ _ _ base w has_taken.called tt
 
   pub given_done : (index : ℕ) (state : ReleaseState) → HasGiven index state base w → IsDone base.made → IsDone w.made
-  given_done index state h = still_done h.by _ _ _ base w h.called (tt, tt)
+  given_done index state has_given = still_done has_given.by _ _ _ base w has_given.called (tt, tt)
 
   pub locked_done : (index : ℕ) (state : ReleaseState) → HasGivenOrLocked index state base w → IsDone base.made → IsDone w.made
-  locked_done index Unlocked h = still_done h.by _ _ _ base w h.called (tt, tt)
-  locked_done index Locked h = still_done h.by _ _ _ base w h.called (tt, (tt, tt))
+  locked_done index Unlocked has_given_or_locked = still_done has_given_or_locked.by _ _ _ base w has_given_or_locked.called (tt, tt)
+  locked_done index Locked has_given_or_locked = still_done has_given_or_locked.by _ _ _ base w has_given_or_locked.called (tt, (tt, tt))
 
   pub counted_done : (n : ℕ) → HasCounted n base w → IsDone base.made → IsDone w.made
-  counted_done n h = still_done h.by _ _ _ base w h.called tt
+  counted_done n has_counted = still_done has_counted.by _ _ _ base w has_counted.called tt
 
   pub looked_done : (b : Bool) → HasLooked b base w → IsDone base.made → IsDone w.made
-  looked_done b h = still_done h.by _ _ _ base w h.called tt
+  looked_done b has_looked = still_done has_looked.by _ _ _ base w has_looked.called tt
 
 -- ---- what an answer says of what is held
 

@@ -48,7 +48,7 @@ module _ {T : Type 0} where
       ap (λ m. fold (passed_by p) m es) (first e (omega arith)) ∙ none_passed p es (omega arith)
     where
       first : (e : Event T) → beside p e ≡ 0 → passed_by p 0 e ≡ 0
-      first (Begun q start) h = go (q == p)
+      first (Begun q start) beside_is_zero = go (q == p)
         where
           go : (b : Bool) → ◌≡◌ {A = ℕ} (if b then 0 else 0) 0
           go true = refl
@@ -58,7 +58,7 @@ module _ {T : Type 0} where
           go : (b : Bool) → ◌≡◌ {A = ℕ} (if b then 0 else 1) 0 → ◌≡◌ {A = ℕ} (if b then 0 else 0 + 1) 0
           go true h = refl
           go false h = h
-      first e h = refl
+      first e beside_is_zero = refl
 
   -- ---- a call with the whole share
 

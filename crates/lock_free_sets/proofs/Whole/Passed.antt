@@ -67,25 +67,25 @@ module _ {T : Type 0} where
   -- ---- what a step writes counts nothing
 
   pub begins_none : (q : ℕ) (es : List (Event T)) → AllInside es → sum_by (begins q) es ≡ 0
-  begins_none q [] h = refl
+  begins_none q [] all_inside = refl
   begins_none q (e ∷ es) h = let one = sum_by-cons (begins q) e es in let rest = begins_none q es h.1 in let none = first e h.0 in omega arith
     where
       first : (e : Event T) → IsInside e → begins q e ≡ 0
-      first e h = grind arith
+      first e is_inside = grind arith
 
   pub ends_none : (q : ℕ) (es : List (Event T)) → AllInside es → sum_by (ends q) es ≡ 0
-  ends_none q [] h = refl
+  ends_none q [] all_inside = refl
   ends_none q (e ∷ es) h = let one = sum_by-cons (ends q) e es in let rest = ends_none q es h.1 in let none = first e h.0 in omega arith
     where
       first : (e : Event T) → IsInside e → ends q e ≡ 0
-      first e h = grind arith
+      first e is_inside = grind arith
 
   passed_none : (p n : ℕ) (es : List (Event T)) → AllInside es → fold (passed_by p) n es ≡ n
-  passed_none p n [] h = refl
+  passed_none p n [] all_inside = refl
   passed_none p n (e ∷ es) h = ap (λ m. fold (passed_by p) m es) (first e h.0) ∙ passed_none p n es h.1
     where
       first : (e : Event T) → IsInside e → passed_by p n e ≡ n
-      first e h = grind arith
+      first e is_inside = grind arith
 
   -- ---- a call goes on
 
@@ -231,29 +231,29 @@ module _ {T : Type 0} where
   answered : (t : Trace T) → IsCounted t → (r : ℕ) (x : Party T) (ask : Option Ask) (n : ℕ) → party_of r t.world.latest ≡ Some x
       → (doing : Doing T) → x.doing ≡ doing
       → IsCounted record { world = after_answer t.world r x ask n doing; events = t.events ++ events_of_answer t.world r x n doing }
-  answered t h r x ask n found (Going flight since) is = goes_counted t h r x ask n flight since found is
-  answered t h r x ask n found (Over others) is = subst (λ es. IsCounted record { world = t.world; events = es }) (sym (append-nil t.events)) h
+  answered t counted r x ask n found (Going flight since) is = goes_counted t counted r x ask n flight since found is
+  answered t counted r x ask n found (Over others) is = subst (λ es. IsCounted record { world = t.world; events = es }) (sym (append-nil t.events)) counted
 
   nexts : (t : Trace T) → IsCounted t → (r : ℕ) (o : Option (Party T)) → party_of r t.world.latest ≡ o
       → IsCounted record { world = after_next t.world r o; events = t.events ++ events_of_next t.world r o }
-  nexts t h r None found = subst (λ es. IsCounted record { world = t.world; events = es }) (sym (append-nil t.events)) h
-  nexts t h r (Some x) found = answered t h r x _ _ found x.doing refl
+  nexts t counted r None found = subst (λ es. IsCounted record { world = t.world; events = es }) (sym (append-nil t.events)) counted
+  nexts t counted r (Some x) found = answered t counted r x _ _ found x.doing refl
 
   decides : (t : Trace T) → IsCounted t → (r : ℕ) (said : Bool) (o : Option (Party T)) → party_of r t.world.latest ≡ o
       → IsCounted record { world = after_decision t.world r said o; events = t.events ++ events_of_decision t.world r said o }
-  decides t h r said None found = subst (λ es. IsCounted record { world = t.world; events = es }) (sym (append-nil t.events)) h
-  decides t h r said (Some x) found = answered t h r x None (number_of said) found x.doing refl
+  decides t counted r said None found = subst (λ es. IsCounted record { world = t.world; events = es }) (sym (append-nil t.events)) counted
+  decides t counted r said (Some x) found = answered t counted r x None (number_of said) found x.doing refl
 
   -- with an owner that dies, the calls are still counted right
   dies : (t : Trace T) → IsCounted t → (owner : ℕ) → IsCounted (after_turn t (Die owner))
-  dies t h owner =
+  dies t counted owner =
       record {
-        calls = λ q. (let was = h.calls q in
+        calls = λ q. (let was = counted.calls q in
             let one = sum_by-append (begins q) t.events (Died owner ∷ []) in
             let two = sum_by-append (ends q) t.events (Died owner ∷ []) in
             omega arith);
         others = λ p x found quiet none.
-            h.others p x found quiet (sym (fold-append (passed_by p) 0 t.events (Died owner ∷ [])) ∙ none);
+            counted.others p x found quiet (sym (fold-append (passed_by p) 0 t.events (Died owner ∷ [])) ∙ none);
       }
 
   -- ---- a call begins
@@ -347,15 +347,15 @@ module _ {T : Type 0} where
 
   -- after each turn the calls are still counted right, if a begin is free
   turn_counted : (t : Trace T) (turn : Turn T) → IsFree t turn → IsCounted t → IsCounted (after_turn t turn)
-  turn_counted t (Next p) f h = nexts t h p (party_of p t.world.latest) refl
-  turn_counted t (Decide p said) f h = decides t h p said (party_of p t.world.latest) refl
-  turn_counted t (Die owner) f h = dies t h owner
-  turn_counted t (Begin p start) f h = go (first_of t.world.kind t.world.capacity start t.world.kept) f.call
+  turn_counted t (Next p) is_free counted = nexts t counted p (party_of p t.world.latest) refl
+  turn_counted t (Decide p said) is_free counted = decides t counted p said (party_of p t.world.latest) refl
+  turn_counted t (Die owner) is_free counted = dies t counted owner
+  turn_counted t (Begin p start) is_free counted = go (first_of t.world.kind t.world.capacity start t.world.kept) is_free.call
     where
       go : (o : Option (Flight T)) → is_none o ≡ false
           → IsCounted record { world = after_begin t.world p start o; events = t.events ++ Begun p start ∷ [] }
-      go None e = absurd (cc)
-      go (Some flight) e = begins_counted t h p start flight (none_goes (party_of p t.world.latest) f.free)
+      go None is_none_false = absurd (cc)
+      go (Some flight) is_none_false = begins_counted t counted p start flight (none_goes (party_of p t.world.latest) is_free.free)
 
   -- ---- any run
 
@@ -370,12 +370,12 @@ module _ {T : Type 0} where
   opens_counted t = record { calls = λ q. refl; others = λ p x found quiet none. absurd (cc) }
 
   counted_on : (t : Trace T) → IsReachedOn t → IsCounted t
-  counted_on t r = kept_by_runs_on IsCounted (λ u turn e h. turn_counted u turn (free_call u turn e) h) t (opens_counted t) r
+  counted_on t reached_on = kept_by_runs_on IsCounted (λ u turn e h. turn_counted u turn (free_call u turn e) h) t (opens_counted t) reached_on
 
   counted_open : (t : Trace T) → IsReachedOpen t → IsCounted t
-  counted_open t r = kept_by open_refusal IsCounted (λ u turn e h. turn_counted u turn (free_open u turn e) h) t (opens_counted t) r
+  counted_open t reached_open = kept_by open_refusal IsCounted (λ u turn e h. turn_counted u turn (free_open u turn e) h) t (opens_counted t) reached_open
 
   pub counted_as : (kind : Kind) (t : Trace T) → IsReachedAs kind t → IsCounted t
-  counted_as kinds.Robust t r = counted_open t r
-  counted_as kinds.Container t r = counted_open t r
-  counted_as kind t r = counted_on t r
+  counted_as kinds.Robust t reached_as = counted_open t reached_as
+  counted_as kinds.Container t reached_as = counted_open t reached_as
+  counted_as kind t reached_as = counted_on t reached_as

@@ -8,6 +8,7 @@ use super::sets::rule::Flags;
 mod calls;
 mod drives;
 mod handles;
+mod resets;
 
 /// A set of places, each set or clear, which threads share by reference. The flags stand 64 to a word. After `BitSet`
 /// of the Rust crate.

@@ -1,4 +1,5 @@
-//! The loops of a look that has found a change. One goes over the elements, one over the words of an element.
+//! The loops of a look that has found a change. One goes over the elements, one over those that it does not copy, one over
+//! the words of one that it copies.
 ghost use Rattle.std.specs.Prelude.{◌≡◌, ℕ};
 ghost use Rattle.steps.specs.Container.Look.{look_after};
 ghost use Rattle.model.specs.Coding.{coding_by};
@@ -97,6 +98,55 @@ fn copy_words<T: Words, B: Beginning<T>>(
     }
 }
 
+/// Takes the steps of a call from this element on, up to the end. It returns also where an element has to be copied
+/// again. The loop keeps the index and the capacity alone. It ends by itself, so that it takes no turn of `rt` between two
+/// elements.
+fn copy_over<T: Words, B: Beginning<T>>(
+    seat: &mut Seat<T>,
+    capacity: u32,
+    first: u32,
+    given: &Seen,
+    room: &mut Shown<T>,
+) -> After<Look<T>, bool>
+    requires board { IsBoard T.WORDS seat.old }
+    requires may_step { LookOnMay (coding_by T.Words) B.which B.from B.shown given.now (seen seat.old)
+        (at_count capacity first) room.old }
+    ensures stays { StaysAtBoard T.WORDS seat.old seat.new }
+    ensures goes { LookOnGoes (coding_by T.Words) B.which B.from B.shown given.now result room.new
+        (seen seat.new) }
+{
+    let mut limit = capacity;
+    let mut index = first;
+    'elements: loop {
+        let passed = pass_over::<T, B>(seat, limit, index, given, room);
+        let copies = match passed {
+            After::GoOn(next) => next,
+            After::Done(changed) => return After::Done(changed),
+        };
+        let copied = copy_first::<T, B>(seat, copies, given, room);
+        let checks = match copied {
+            After::GoOn(next) => next,
+            After::Done(changed) => return After::Done(changed),
+        };
+        let after = step_on::<T, B>(seat, checks, given, room);
+        let call = match after {
+            After::GoOn(next) => next,
+            After::Done(changed) => return After::Done(changed),
+        };
+        match call.stage {
+            LookStage::LoadsCount { index: further } => {
+                // (The index has grown. That the loop ends is proved by this test.)
+                if further <= index {
+                    return After::GoOn(call);
+                }
+                limit = call.capacity;
+                index = further;
+            }
+            _ => return After::GoOn(call),
+        }
+    }
+}
+
 /// Takes the steps of a call that has come to an element, and leaves any other call.
 #[inline(always)]
 fn pass_first<T: Words, B: Beginning<T>>(
@@ -113,7 +163,7 @@ fn pass_first<T: Words, B: Beginning<T>>(
         (seen seat.new) }
 {
     match call.stage {
-        LookStage::LoadsCount { index } => pass_over::<T, B>(
+        LookStage::LoadsCount { index } => copy_over::<T, B>(
             seat,
             call.capacity,
             index,

@@ -14,7 +14,8 @@ ghost use Rattle.lock_free_sets.specs.Bits.Contracts.{HasCleanedOut, SetDone, Re
 ghost use Rattle.lock_free_sets.specs.Bits.Looks.{IsSetDone};
 ghost use Rattle.history.specs.Steps.{TakesAtMost, TakesAlone};
 
-use super::drives::{LooksAt, ResetsNext, SetsPlace};
+use super::drives::{LooksAt, SetsPlace};
+use super::resets::reset_all;
 use super::{BitSet, Pass};
 use crate::mpmc::sets::calls::empty_none;
 use crate::mpmc::sets::drives::Empties;
@@ -134,9 +135,7 @@ impl BitSet {
         ensures steps { TakesAlone (3 + capacity_of self.now) 1 (view pass.old) (view pass.new) }
     {
         let call = ResetNext::new(pass.capacity);
-        let end = pass
-            .seated
-            .drive_on::<ResetNext, ResetsNext>(rt, call, &(), &mut ());
+        let end = reset_all(&mut pass.seated, rt, call);
         match ResetNext::answer(end, &(), &()) {
             Some(place) => Some(place as usize),
             None => None,

@@ -3,7 +3,7 @@ ghost use Rattle.model.specs.Coding.{one_word};
 ghost use Rattle.model.specs.declared.turn.Kind.TheVariants as kinds;
 
 use history::view::View;
-use steps::bits::bit_set::{ResetNext, ResetNextStage, Set};
+use steps::bits::bit_set::{ResetNext, Set};
 use steps::bits::looks::IsSet;
 use threaded::driver::rule::Drives;
 
@@ -29,11 +29,6 @@ impl Drives<View<u64>, ResetNext> for ResetsNext {
     ghost at = { λ given. At one_word kinds.Bits resets_next };
 
     ghost ends = { λ given. Ends one_word kinds.Bits resets_next };
-
-    #[inline(always)]
-    fn repeats(call: ResetNext) -> bool {
-        matches!(call.stage, ResetNextStage::LoadsElement { .. })
-    }
 }
 
 /// Looking at a place.

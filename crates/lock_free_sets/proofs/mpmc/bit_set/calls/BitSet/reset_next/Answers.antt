@@ -1,20 +1,17 @@
--- `BitSet::reset_next` (src/mpmc/bit_set/calls.rt): its call of `drive_on` meets the requirements `rule` and `at`, and its return meets
+-- `BitSet::reset_next` (src/mpmc/bit_set/calls.rt): its call of `reset_all` meets the requirement `at`, and its return meets
 -- the clauses `cleared`, `clear` and `steps`.
 use Rattle.lock_free_sets.proofs.Names.{refl, sym, subst, ap, ◌∙◌, one_word, seen, At, arith}
 use Rattle.steps.specs.Bits.BitSet.{first_reset}
 use Rattle.model.specs.declared.turn.Kind.TheVariants as kinds
 use Rattle.lock_free_sets.specs.Bits.Stages.{resets_next}
-use Rattle.lock_free_sets.proofs.Bits.Resetting.{next_keeps, next_first, found_nothing, found_place}
+use Rattle.lock_free_sets.proofs.Bits.Resetting.{next_first, found_nothing, found_place}
 use Rattle.lock_free_sets.proofs.Sets.Passes.{same_size}
 use Rattle.lock_free_sets.proofs.Steps.{bits_take}
 use Rattle.lock_free_sets.proofs.mpmc.bit_set.calls.BitSet.reset_next.Goals as goal
 
-pub drive_on-end-requires-clause-rule : goal.drive_on-end-requires-clause-rule
-drive_on-end-requires-clause-rule g c = next_keeps
-
 -- the reset is about to begin, as a call that its set does not refuse
-pub drive_on-end-requires-clause-at : goal.drive_on-end-requires-clause-at
-drive_on-end-requires-clause-at g c =
+pub reset_all-end-requires-clause-at : goal.reset_all-end-requires-clause-at
+reset_all-end-requires-clause-at g c =
     let mine = c.args.pass.now in
     let v = seen mine.seated in
     subst (λ call. At one_word kinds.Bits resets_next v v call _) (ap first_reset mine.known ∙ sym c.new-call.ensures)
@@ -25,26 +22,26 @@ drive_on-end-requires-clause-at g c =
 pub returns-in-Some-clause-cleared : goal.returns-in-Some-clause-cleared
 returns-in-Some-clause-cleared g c =
     let mine = c.args.pass.now in
-    let end = c.drive_on-end in
-    found_place (seen mine.seated) (seen end.new.self) end.result end.new.room mine.idle end.ensures.end _
+    let end = c.reset_all-end in
+    found_place (seen mine.seated) (seen end.new.seat) end.result tt mine.idle end.ensures.ends _
     (same_size c.args.self.now mine c.requires) c.in-Some.place (sym c.answer.ensures ∙ c.in-Some.is)
 
 -- where a reset answers None, each place was clear at some moment of the call
 pub returns-in-None-clause-clear : goal.returns-in-None-clause-clear
 returns-in-None-clause-clear g c =
     let mine = c.args.pass.now in
-    let end = c.drive_on-end in
-    found_nothing (seen mine.seated) (seen end.new.self) end.result end.new.room mine.idle end.ensures.end _
+    let end = c.reset_all-end in
+    found_nothing (seen mine.seated) (seen end.new.seat) end.result tt mine.idle end.ensures.ends _
     (same_size c.args.self.now mine c.requires) (sym c.answer.ensures ∙ c.in-None.is)
 
 pub returns-in-Some-clause-steps : goal.returns-in-Some-clause-steps
 returns-in-Some-clause-steps g c =
     let mine = c.args.pass.now in
-    bits_take resets_next (seen mine.seated) (seen c.drive_on-end.new.self) c.drive_on-end.result c.drive_on-end.new.room
-    mine.idle _ (same_size c.args.self.now mine c.requires) (omega arith) c.drive_on-end.ensures.end
+    bits_take resets_next (seen mine.seated) (seen c.reset_all-end.new.seat) c.reset_all-end.result tt
+    mine.idle _ (same_size c.args.self.now mine c.requires) (omega arith) c.reset_all-end.ensures.ends
 
 pub returns-in-None-clause-steps : goal.returns-in-None-clause-steps
 returns-in-None-clause-steps g c =
     let mine = c.args.pass.now in
-    bits_take resets_next (seen mine.seated) (seen c.drive_on-end.new.self) c.drive_on-end.result c.drive_on-end.new.room
-    mine.idle _ (same_size c.args.self.now mine c.requires) (omega arith) c.drive_on-end.ensures.end
+    bits_take resets_next (seen mine.seated) (seen c.reset_all-end.new.seat) c.reset_all-end.result tt
+    mine.idle _ (same_size c.args.self.now mine c.requires) (omega arith) c.reset_all-end.ensures.ends

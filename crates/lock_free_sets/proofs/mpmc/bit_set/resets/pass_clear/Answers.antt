@@ -1,0 +1,36 @@
+-- `pass_clear` (src/mpmc/bit_set/resets.rt): its call of `step_reset` meets what that requires, each iteration keeps the invariant of
+-- its loop, and its return meets the clause `goes`.
+use Rattle.lock_free_sets.proofs.Names.{◌∙◌, sym, subst, seen}
+use Rattle.steps.specs.declared.bits.bit_set.ResetNext.{ResetNext}
+use Rattle.lock_free_sets.specs.Bits.Resetting.{ResetAt}
+use Rattle.lock_free_sets.proofs.Bits.Turns.{gone_on, has_ended, loads_next, loads}
+use Rattle.lock_free_sets.proofs.mpmc.bit_set.resets.pass_clear.Goals as goal
+
+pub step_reset-requires : goal.step_reset-requires
+step_reset-requires c = record { board = c.places.invariant.1; at = (c.requires.at.0, c.places.invariant.2 c.requires.at.0 c.requires.at.1) }
+
+pub places-preserved : goal.places-preserved
+places-preserved c =
+    let so_far = c.places.invariant in
+    let called = c.step_reset in
+    let here = loads c.args.capacity c.args.start c.places.so_many c.places.so_many in
+    let next = loads_next c.args.capacity c.args.start c.places.so_many called.ensures.after.0 _ c.in-LoadsElement.passed c.in-GoOn.next
+    (sym called.ensures.after.1 ∙ c.in-GoOn.is) c.in-LoadsElement.is in (
+      (called.ensures.same.0 ∙ so_far.0.0, called.ensures.same.1 ∙ so_far.0.1, called.ensures.same.2 ∙ so_far.0.2),
+      called.ensures.board,
+      λ base at. subst (λ (d : ResetNext). ResetAt base (seen called.new.seat) d tt) next.0
+          (gone_on (seen c.places.seat) (seen called.new.seat) here called.result called.ensures.goes base c.in-GoOn.next
+          c.in-GoOn.is (so_far.2 base at)),
+    )
+
+pub returns-in_default-clause-goes : goal.returns-in_default-clause-goes
+returns-in_default-clause-goes c base at =
+    let called = c.step_reset in
+    gone_on (seen c.places.seat) (seen called.new.seat) (loads c.args.capacity c.args.start c.places.so_many c.places.so_many)
+    called.result called.ensures.goes base c.in-GoOn.next c.in-GoOn.is (c.places.invariant.2 base at)
+
+pub returns-in-Done-clause-goes : goal.returns-in-Done-clause-goes
+returns-in-Done-clause-goes c base at =
+    let called = c.step_reset in
+    has_ended (seen c.places.seat) (seen called.new.seat) (loads c.args.capacity c.args.start c.places.so_many c.places.so_many)
+    called.result called.ensures.goes base c.in-Done.end c.in-Done.is (c.places.invariant.2 base at)

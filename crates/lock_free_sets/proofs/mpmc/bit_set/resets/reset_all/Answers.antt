@@ -1,0 +1,26 @@
+-- `reset_all` (src/mpmc/bit_set/resets.rt): its calls meet the requirement `at`, and its return meets the clause `ends`.
+use Rattle.lock_free_sets.proofs.Names.{seen}
+use Rattle.lock_free_sets.proofs.Bits.Turns.{gone_on, has_ended}
+use Rattle.lock_free_sets.proofs.mpmc.bit_set.resets.reset_all.Goals as goal
+
+pub reset_once-once-requires-clause-at : goal.reset_once-once-requires-clause-at
+reset_once-once-requires-clause-at g c = (seen c.args.seat.now, c.requires.at)
+
+pub reset_on-requires-clause-at : goal.reset_on-requires-clause-at
+reset_on-requires-clause-at g c =
+    let base = seen c.args.seat.now in
+    let once = c.reset_once-once in
+    (base, gone_on base (seen once.new.seat) c.args.first once.result once.ensures.goes base c.in-GoOn.next c.in-GoOn.is c.requires.at)
+
+pub returns-in-GoOn-clause-ends : goal.returns-in-GoOn-clause-ends
+returns-in-GoOn-clause-ends g c =
+    let base = seen c.args.seat.now in
+    let once = c.reset_once-once in
+    c.reset_on.ensures.ends base
+    (gone_on base (seen once.new.seat) c.args.first once.result once.ensures.goes base c.in-GoOn.next c.in-GoOn.is c.requires.at)
+
+pub returns-in-Done-clause-ends : goal.returns-in-Done-clause-ends
+returns-in-Done-clause-ends g c =
+    let base = seen c.args.seat.now in
+    let once = c.reset_once-once in
+    has_ended base (seen once.new.seat) c.args.first once.result once.ensures.goes base c.in-Done.end c.in-Done.is c.requires.at

@@ -1,0 +1,24 @@
+-- `reset_on` (src/mpmc/bit_set/resets.rt): its call of `reset_turn` meets the requirement `at`, each iteration keeps the invariant of its
+-- loop, and its return meets the clause `ends`.
+use Rattle.lock_free_sets.proofs.Names.{◌∙◌, seen}
+use Rattle.lock_free_sets.proofs.Bits.Turns.{gone_on, has_ended}
+use Rattle.lock_free_sets.proofs.mpmc.bit_set.resets.reset_on.Goals as goal
+
+pub reset_turn-after-requires-clause-at : goal.reset_turn-after-requires-clause-at
+reset_turn-after-requires-clause-at g c = (c.requires.at.0, c.loop.invariant.2 c.requires.at.0 c.requires.at.1)
+
+pub loop-preserved : goal.loop-preserved
+loop-preserved g c =
+    let so_far = c.loop.invariant in
+    let called = c.reset_turn-after in (
+      (called.ensures.same.0 ∙ so_far.0.0, called.ensures.same.1 ∙ so_far.0.1, called.ensures.same.2 ∙ so_far.0.2),
+      called.ensures.board,
+      λ base at. gone_on (seen c.loop.seat) (seen called.new.seat) c.loop.call called.result called.ensures.goes base c.in-GoOn.next
+          c.in-GoOn.is (so_far.2 base at),
+    )
+
+pub returns-in-Done-clause-ends : goal.returns-in-Done-clause-ends
+returns-in-Done-clause-ends g c base at =
+    let called = c.reset_turn-after in
+    has_ended (seen c.loop.seat) (seen called.new.seat) c.loop.call called.result called.ensures.goes base c.in-Done.end c.in-Done.is
+    (c.loop.invariant.2 base at)

@@ -1,0 +1,56 @@
+-- `reset_once` (src/mpmc/bit_set/resets.rt): its calls meet the requirement `at`, and its return meets the clause `goes`.
+use Rattle.lock_free_sets.proofs.Names.{seen}
+use Rattle.lock_free_sets.proofs.Bits.Turns.{gone_on, has_ended, may_go_on}
+use Rattle.lock_free_sets.proofs.mpmc.bit_set.resets.reset_once.Goals as goal
+
+pub returns-in-Done-clause-goes : goal.returns-in-Done-clause-goes
+returns-in-Done-clause-goes c base at =
+    let a = c.step_reset-loaded in
+    has_ended (seen c.args.seat.now) (seen a.new.seat) c.args.first a.result a.ensures.goes base c.in-Done.end c.in-Done.is at
+
+pub reset_turn-came-requires-clause-at : goal.reset_turn-came-requires-clause-at
+reset_turn-came-requires-clause-at c =
+    let a = c.step_reset-loaded in
+    may_go_on (seen c.args.seat.now) (seen a.new.seat) c.args.first a.result a.ensures.goes c.in-GoOn.next c.in-GoOn.is c.requires.at
+
+pub returns-in-Done-came-clause-goes : goal.returns-in-Done-came-clause-goes
+returns-in-Done-came-clause-goes c base at =
+    let a = c.step_reset-loaded in
+    let b = c.reset_turn-came in
+    has_ended (seen a.new.seat) (seen b.new.seat) c.in-GoOn.next b.result b.ensures.goes base c.in-Done-came.end c.in-Done-came.is
+    (gone_on (seen c.args.seat.now) (seen a.new.seat) c.args.first a.result a.ensures.goes base c.in-GoOn.next c.in-GoOn.is at)
+
+pub step_reset-taken-requires-clause-at : goal.step_reset-taken-requires-clause-at
+step_reset-taken-requires-clause-at c =
+    let a = c.step_reset-loaded in
+    let b = c.reset_turn-came in
+    may_go_on (seen a.new.seat) (seen b.new.seat) c.in-GoOn.next b.result b.ensures.goes c.in-GoOn-came.next c.in-GoOn-came.is
+    (may_go_on (seen c.args.seat.now) (seen a.new.seat) c.args.first a.result a.ensures.goes c.in-GoOn.next c.in-GoOn.is c.requires.at)
+
+pub returns-in-Done-taken-clause-goes : goal.returns-in-Done-taken-clause-goes
+returns-in-Done-taken-clause-goes c base at =
+    let a = c.step_reset-loaded in
+    let b = c.reset_turn-came in
+    let d = c.step_reset-taken in
+    has_ended (seen b.new.seat) (seen d.new.seat) c.in-GoOn-came.next d.result d.ensures.goes base c.in-Done-taken.end c.in-Done-taken.is
+    (gone_on (seen a.new.seat) (seen b.new.seat) c.in-GoOn.next b.result b.ensures.goes base c.in-GoOn-came.next c.in-GoOn-came.is
+    (gone_on (seen c.args.seat.now) (seen a.new.seat) c.args.first a.result a.ensures.goes base c.in-GoOn.next c.in-GoOn.is at))
+
+pub step_reset-requires-clause-at : goal.step_reset-requires-clause-at
+step_reset-requires-clause-at c =
+    let a = c.step_reset-loaded in
+    let b = c.reset_turn-came in
+    let d = c.step_reset-taken in
+    may_go_on (seen b.new.seat) (seen d.new.seat) c.in-GoOn-came.next d.result d.ensures.goes c.in-GoOn-taken.next c.in-GoOn-taken.is
+    (may_go_on (seen a.new.seat) (seen b.new.seat) c.in-GoOn.next b.result b.ensures.goes c.in-GoOn-came.next c.in-GoOn-came.is
+    (may_go_on (seen c.args.seat.now) (seen a.new.seat) c.args.first a.result a.ensures.goes c.in-GoOn.next c.in-GoOn.is c.requires.at))
+
+pub returns-clause-goes : goal.returns-clause-goes
+returns-clause-goes c base at =
+    let a = c.step_reset-loaded in
+    let b = c.reset_turn-came in
+    let d = c.step_reset-taken in
+    c.step_reset.ensures.goes base
+    (gone_on (seen b.new.seat) (seen d.new.seat) c.in-GoOn-came.next d.result d.ensures.goes base c.in-GoOn-taken.next c.in-GoOn-taken.is
+    (gone_on (seen a.new.seat) (seen b.new.seat) c.in-GoOn.next b.result b.ensures.goes base c.in-GoOn-came.next c.in-GoOn-came.is
+    (gone_on (seen c.args.seat.now) (seen a.new.seat) c.args.first a.result a.ensures.goes base c.in-GoOn.next c.in-GoOn.is at)))
