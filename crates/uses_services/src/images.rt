@@ -24,7 +24,8 @@ const PLACES: usize = 4;
 /// How often a thread lets the other one run before it gives up.
 const TRIES: u64 = 1 << 26;
 
-/// The rule that an image is full of its shade.
+/// The rule that an image is full of its shade, and who fills images so, and reads their shades.
+#[derive(Drop)]
 struct Shaded;
 
 impl Keeps<Vec<u8>> for Shaded {
@@ -33,22 +34,15 @@ impl Keeps<Vec<u8>> for Shaded {
     ghost holds = { λ number image. IsImageOf number image.items };
 }
 
-/// Who fills images with their shades, and reads these.
-#[derive(Drop)]
-struct Painter;
-
-impl Writes<Vec<u8>, Shaded> for Painter {
+impl Writes<Vec<u8>, Shaded> for Shaded {
     /// False where the image has another size.
     fn write(&mut self, number: u64, image: &mut Vec<u8>) -> bool {
-        if image.len() != BYTES {
-            return false;
-        }
         image.fill((number % 256) as u8);
-        true
+        image.len() == BYTES
     }
 }
 
-impl Reads<Vec<u8>, Shaded, u8> for Painter {
+impl Reads<Vec<u8>, Shaded, u8> for Shaded {
     ghost tells = { λ number byte. byte ≡ shade number };
 
     /// The first byte.
@@ -57,8 +51,7 @@ impl Reads<Vec<u8>, Shaded, u8> for Painter {
     }
 }
 
-/// Both ends at work side by side: the numbers of the images that came back, and the shades of those that were read. None where one of
-/// the two came to no end.
+/// Both ends at work side by side: the numbers of images that came back, and the shades of those that were read. None where an end fails.
 fn work<R: Threads + Wait + Sync>(
     rt: &R,
     alloc: Global,
@@ -70,14 +63,13 @@ fn work<R: Threads + Wait + Sync>(
 {
     let (back, came) = thread::join_mut(
         rt,
-        &mut || sender.send_each(rt, alloc, IMAGES, TRIES, &mut Painter),
-        &mut || receiver.read_each(rt, alloc, IMAGES as usize, TRIES, &mut Painter),
+        &mut || sender.send_each(rt, alloc, IMAGES, TRIES, &mut Shaded),
+        &mut || receiver.read_each(rt, alloc, IMAGES as usize, TRIES, &mut Shaded),
     );
     Some((back?, came?))
 }
 
-/// Sends the images from one thread to another: the shades that were read. None where there is no memory, or one came back or did
-/// not come.
+/// Sends the images from one thread to another: the shades that were read. None without memory, or where one came back or did not come.
 fn run<R: Threads + Wait + Sync>(rt: &R, alloc: Global) -> Option<Vec<u8>>
     ensures { IfSome result (λ came. came.items ≡ map shade (range_with_len 0 (length came.items))) }
 {
@@ -85,19 +77,14 @@ fn run<R: Threads + Wait + Sync>(rt: &R, alloc: Global) -> Option<Vec<u8>>
     for _ in 0..PLACES + 1 {
         images.push(vec![in alloc; 0u8; BYTES].ok()?).ok()?;
     }
-    let Ok(mut channel) = Channel::<Vec<u8>, Shaded>::new(alloc, PLACES, PLACES) else {
-        return None;
-    };
+    let mut channel = Channel::<Vec<u8>, Shaded>::new(alloc, PLACES, PLACES).ok()?;
     let (sends, receives) = channel.open()?;
     let (mut sender, mut receiver) = channel.ends_with(alloc, images, sends, receives)?;
     let (back, came) = work(rt, alloc, &mut sender, &mut receiver)?;
     let (left, _) = sender.finish_all();
     let other = receiver.finish();
     channel.relayed(left, other);
-    if back.len() != 0 {
-        return None;
-    }
-    Some(came)
+    back.is_empty().then_some(came)
 }
 
 pub fn report<R: Threads + Wait + Print + Sync>(rt: &R, alloc: Global) -> io::Result<()> {
