@@ -31,6 +31,8 @@ pub enum Step {
     Loans(bool),
     /// Whether a slot comes by so many tries, whose loan is given up.
     LoansBy(u64, bool),
+    /// A slot comes to who waits for it, whose loan is given up.
+    WaitsForLoan,
     /// The first loan that was kept is given up.
     GivesUp,
     /// The subscriber reads the record of this number, and gives it back.
@@ -266,6 +268,11 @@ impl<'a> Room<'a> {
             Step::Publishes(number, reached) => publish(rt, publisher, number)? == reached,
             Step::Loans(some) => keep_loan(rt, publisher, &mut self.loan) == some,
             Step::LoansBy(tries, some) => try_loan(rt, publisher, tries) == some,
+            Step::WaitsForLoan => {
+                let loan = publisher.loan_waiting(rt);
+                publisher.give_up(loan);
+                true
+            }
             Step::GivesUp => match self.loan.take() {
                 Some(loan) => {
                     publisher.give_up(loan);

@@ -1,8 +1,8 @@
 //! A publisher and three subscribers side by side: one is slow, one dies with slots in hand, and one joins late. They wait for slots
-//! and for records by calls of the bus.
+//! and for records by calls of the bus, each by so many tries that all give up at last where the bus loses one.
 ghost use Rattle.std.specs.Prelude.{◌≡◌, IfSome};
 
-use crate::limit::wait_for;
+use crate::limit::{TURNS, wait_for};
 use crate::stage::Failure;
 use crate::words::{OwnNumber, Words, is_whole, spares, write};
 use lock_free::mpmc::container::OwnerId;
@@ -96,7 +96,8 @@ impl Drop for Shared {
     }
 }
 
-/// Publishes a record of this number, and tells of it. False where the next number is another, and where there is no memory.
+/// Publishes a record of this number, and tells of it. False where no slot came, where the next number is another, and where there is
+/// no memory.
 fn publish(
     rt: &impl Wait,
     publisher: &mut Publisher<'_, Words, OwnNumber>,
@@ -104,7 +105,9 @@ fn publish(
     number: u64,
 ) -> bool {
     publisher.update(rt);
-    let mut loan = publisher.loan_waiting(rt);
+    let Some(mut loan) = publisher.loan_within(rt, TURNS) else {
+        return false;
+    };
     let is_written = write(&mut loan.value, number);
     let next = publisher.next_number();
     loan.value.number = next;
@@ -203,7 +206,7 @@ fn number_still(
 }
 
 /// Receives records until the last one, reads each so often more, and gives it back: how many came, which it also tells as they
-/// come. None where one was torn or did not come in order. (Nothing pushes the last one out.)
+/// come. None where one was torn, or did not come, or not in order. (Nothing pushes the last one out.)
 fn receive_all(
     rt: &impl Wait,
     subscriber: &mut Subscriber<'_, Words, OwnNumber>,
@@ -212,7 +215,7 @@ fn receive_all(
 ) -> Option<u64> {
     let (mut number, mut numbers) = (0u64, Sequence::from(0));
     for _ in 0..RECORDS {
-        let sample = subscriber.receive_waiting(rt);
+        let sample = subscriber.receive_within(rt, TURNS)?;
         let found = number_still(subscriber, &sample, looks)?;
         numbers.follow(found)?;
         if !subscriber.give_back(sample) {
@@ -258,7 +261,7 @@ fn die(
     let mut subscriber = seat.join(rt, owner).ok()?;
     shared.joined.fetch_add(1, Ordering::SeqCst);
     for _ in 0..KEPT {
-        subscriber.receive_waiting(rt);
+        subscriber.receive_within(rt, TURNS)?;
     }
     drop(subscriber);
     shared.dead.fetch_add(1, Ordering::SeqCst);

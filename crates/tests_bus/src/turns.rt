@@ -1,7 +1,7 @@
 //! Rows of steps on a bus, taken by one thread.
 use crate::rooms::Step::{
     Collects, Dies, DropsLoan, Forgets, Gets, GivesUp, HasSeat, IsNext, IsStillRead, Joins, Leaves,
-    Loans, LoansBy, Out, Publishes, Reads, ReadsOn, Reclaims, Recovers, Updates,
+    Loans, LoansBy, Out, Publishes, Reads, ReadsOn, Reclaims, Recovers, Updates, WaitsForLoan,
 };
 use crate::rooms::Who::{One, Other};
 use crate::rooms::{Row, SIZES, Step, WORDS};
@@ -160,6 +160,9 @@ const FORGOTTEN_PAST: [Step; 9] = [
 /// So two tries of one call get another, too.
 const FORGOTTEN_BY_TWO: [Step; 4] = [Publishes(0, 1), Forgets(One), LoansBy(2, true), Out(1)];
 
+/// Who waits gets another, too, and does not stay at the one that is read for good.
+const FORGOTTEN_WAITED: [Step; 4] = [Publishes(0, 1), Forgets(One), WaitsForLoan, Out(1)];
+
 /// Who may not try takes nothing. A try to loan takes back what was given back. Where nothing comes by any number of tries, nothing has
 /// changed.
 const LIMITS: [Step; 38] = [
@@ -272,7 +275,7 @@ const RECORDS: usize = 16;
 #[test]
 fn rows(rt: HostRuntime) -> Result<(), Fail> {
     // (and how many records are left at least)
-    let rows: [(&str, &[Step], &[Step], usize, usize); 17] = [
+    let rows: [(&str, &[Step], &[Step], usize, usize); 18] = [
         ("BOTH", &JOIN, &BOTH, 100, 0),
         ("SLOW", &JOIN_ONE, &SLOW, 3, 0),
         ("LOANS", &[], &LOANS, 1, 0),
@@ -286,6 +289,13 @@ fn rows(rt: HostRuntime) -> Result<(), Fail> {
             "FORGOTTEN_BY_TWO",
             &JOIN_ONE,
             &FORGOTTEN_BY_TWO,
+            1,
+            RECORDS - 1,
+        ),
+        (
+            "FORGOTTEN_WAITED",
+            &JOIN_ONE,
+            &FORGOTTEN_WAITED,
             1,
             RECORDS - 1,
         ),

@@ -1,5 +1,5 @@
-//! A subscriber who waits for a publisher that comes late, and a publisher who waits until a slot comes back.
-use crate::limit::wait_for;
+//! A subscriber who waits for a publisher that comes late, and a publisher who waits until a slot comes back; and so by a limit of tries.
+use crate::limit::{TURNS, wait_and_rest, wait_for};
 use crate::stage::{Failure, some};
 use crate::words::{Words, spares};
 use lock_free::mpmc::container::OwnerId;
@@ -89,5 +89,92 @@ fn run_anew<R: Threads + Wait + Sync>(
 #[test]
 fn who_waits_gets_what_comes(rt: HostRuntime) -> Result<(), Fail> {
     assert!(rt; run_anew(&rt, rt.alloc(), OwnerId::new(1)?)?);
+    Ok(())
+}
+
+const ONE_SLOT: Sizes = Sizes {
+    slots: 1,
+    subscribers: 1,
+    queue: 1,
+};
+
+/// How many records go through one slot.
+const ROUNDS: u64 = 32;
+
+/// Tries to loan the one slot, which the subscriber gives back some turns after this has begun to try. It publishes some turns after the
+/// subscriber has begun to try. How many records it published.
+fn publish_in_turn(
+    rt: &impl Wait,
+    publisher: &mut Publisher<'_, Words>,
+    receives: &AtomicU64,
+    loans: &AtomicU64,
+) -> u64 {
+    for number in 0..ROUNDS {
+        loans.store(number, Ordering::SeqCst);
+        let Some(loan) = publisher.loan_within(rt, TURNS) else {
+            return number;
+        };
+        if !wait_and_rest(receives, number.wrapping_add(1)) {
+            return number;
+        }
+        publisher.publish(loan);
+    }
+    loans.store(ROUNDS, Ordering::SeqCst);
+    ROUNDS
+}
+
+/// Tries to receive a record, which is published some turns after this has begun to try. It gives it back some turns after the publisher
+/// has begun to try to loan. How many records came in order.
+fn receive_in_turn(
+    rt: &impl Wait,
+    subscriber: &mut Subscriber<'_, Words>,
+    receives: &AtomicU64,
+    loans: &AtomicU64,
+) -> u64 {
+    for number in 0..ROUNDS {
+        receives.store(number.wrapping_add(1), Ordering::SeqCst);
+        let Some(sample) = subscriber.receive_within(rt, TURNS) else {
+            return number;
+        };
+        if sample.number() != number || !wait_and_rest(loans, number.wrapping_add(1)) {
+            return number;
+        }
+        subscriber.give_back(sample);
+    }
+    ROUNDS
+}
+
+/// Runs both threads: whether each record came.
+fn run_in_turn<R: Threads + Wait + Sync>(
+    rt: &R,
+    publisher: &mut Publisher<'_, Words>,
+    subscriber: &mut Subscriber<'_, Words>,
+) -> bool {
+    let (receives, loans) = (AtomicU64::new(0), AtomicU64::new(0));
+    let (receives, loans) = (&receives, &loans);
+    let (received, published) = thread::join(
+        rt,
+        move || receive_in_turn(rt, subscriber, receives, loans),
+        move || publish_in_turn(rt, publisher, receives, loans),
+    );
+    received == ROUNDS && published == ROUNDS
+}
+
+/// The same on a new bus with one slot.
+fn run_in_turn_anew<R: Threads + Wait + Sync>(
+    rt: &R,
+    alloc: Global,
+    owner: OwnerId,
+) -> Result<bool, Failure> {
+    let (mut bus, pass) = Bus::new(alloc, ONE_SLOT)?;
+    let records = spares(alloc, ONE_SLOT.slots + 1, 1)?;
+    let mut publisher = bus.publisher(rt, alloc, pass, records)?;
+    let mut subscriber = some(publisher.subscribe(rt, owner).ok())?;
+    Ok(run_in_turn(rt, &mut publisher, &mut subscriber))
+}
+
+#[test]
+fn each_try_looks_anew(rt: HostRuntime) -> Result<(), Fail> {
+    assert!(rt; run_in_turn_anew(&rt, rt.alloc(), OwnerId::new(1)?)?);
     Ok(())
 }

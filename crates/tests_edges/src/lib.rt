@@ -1,5 +1,5 @@
 //! What of the threaded types no text of calls can say: what crosses threads, memory that is refused, closures that
-//! capture, and a state that outlives its container.
+//! capture, a state that outlives its container, and what both ends of a queue tell.
 #![tactic(auto)]
 
 #[cfg(test)]
@@ -18,3 +18,5 @@ mod openings;
 mod plain_containers;
 #[cfg(test)]
 mod states;
+#[cfg(test)]
+mod tells;
