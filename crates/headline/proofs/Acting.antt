@@ -32,10 +32,10 @@ module _ {T : Type 0} where
   -- a span that is open for a call has written what is right for it
   opened_for : (P : List (Event T) → Type 0) (p : ℕ) (start : Start T) (before : List (Event T)) (span : Span T) → span_of p before ≡ span
       → IsOpenFor start P span → Wrote P p start before
-  opened_for P p start before Never is h = absurd h
-  opened_for P p start before (Open call wrote) is h =
-      record { wrote = wrote; opens = is ∙ ap (λ (c : Start T). Open c wrote) h.0; right = h.1 }
-  opened_for P p start before (Ended call answer wrote) is h = absurd h
+  opened_for P p start before Never is open_for = absurd open_for
+  opened_for P p start before (Open call wrote) is open_for =
+      record { wrote = wrote; opens = is ∙ ap (λ (c : Start T). Open c wrote) open_for.0; right = open_for.1 }
+  opened_for P p start before (Ended call answer wrote) is open_for = absurd open_for
 
   -- a call that has finished has written what its answer says
   pub finished_wrote : (promise : Promise T) (t : Trace T) (p : ℕ) (start : Start T) (answer : Answer T) (before : List (Event T))
@@ -76,17 +76,17 @@ module _ {T : Type 0} where
 
     longer_reads : (span : Span T) (before : List (Event T)) (e : Event T) → BeginsNone p (e ∷ [])
         → flat_map (act_of p) (e ∷ []) ≡ moments (e ∷ []) → Reads span before → Reads (longer span e) (before ++ e ∷ [])
-    longer_reads Never before e none same r = tt
-    longer_reads (Open start wrote) before e none same r = one_more start wrote (e ∷ []) before e none same r
-    longer_reads (Ended start answer wrote) before e none same r = tt
+    longer_reads Never before e none same reads = tt
+    longer_reads (Open start wrote) before e none same reads = one_more start wrote (e ∷ []) before e none same reads
+    longer_reads (Ended start answer wrote) before e none same reads = tt
 
     -- an event that is neither a begin nor an act of the party leaves what its span reads
     same_reads : (span : Span T) (before : List (Event T)) (e : Event T) → BeginsNone p (e ∷ [])
         → flat_map (act_of p) (e ∷ []) ≡ [] → Reads span before → Reads span (before ++ e ∷ [])
-    same_reads Never before e none same r = tt
-    same_reads (Open start wrote) before e none same r =
-        subst (λ (xs : List (Event T)). Began start xs (before ++ e ∷ [])) (append-nil wrote) (one_more start wrote [] before e none same r)
-    same_reads (Ended start answer wrote) before e none same r = tt
+    same_reads Never before e none same reads = tt
+    same_reads (Open start wrote) before e none same reads =
+        subst (λ (xs : List (Event T)). Began start xs (before ++ e ∷ [])) (append-nil wrote) (one_more start wrote [] before e none same reads)
+    same_reads (Ended start answer wrote) before e none same reads = tt
 
     ended_reads : (span : Span T) (events : List (Event T)) (answer : Answer T) → Reads (ended span answer) events
     ended_reads Never events answer = tt
@@ -97,37 +97,38 @@ module _ {T : Type 0} where
     quiet_reads : (span : Span T) (before : List (Event T)) (e : Event T) → ((s : Span T) → own_after s e ≡ longer s e)
         → BeginsNone p (e ∷ []) → act_of p e ≡ [] → acts e ≡ [] → Reads span before
         → (b : Bool) → is_party p (whose e) ≡ b → Reads (if b then own_after span e else span) (before ++ e ∷ [])
-    quiet_reads span before e writes none mine its r true t =
+    quiet_reads span before e writes none mine its reads true t =
         subst (λ (s : Span T). Reads s (before ++ e ∷ [])) (sym (writes span))
-        (longer_reads span before e none (ap (λ (xs : List (Start T × Answer T)). xs ++ []) (mine ∙ sym its)) r)
-    quiet_reads span before e writes none mine its r false t =
-        same_reads span before e none (ap (λ (xs : List (Start T × Answer T)). xs ++ []) mine) r
+        (longer_reads span before e none (ap (λ (xs : List (Start T × Answer T)). xs ++ []) (mine ∙ sym its)) reads)
+    quiet_reads span before e writes none mine its reads false t =
+        same_reads span before e none (ap (λ (xs : List (Start T × Answer T)). xs ++ []) mine) reads
 
     -- each event leads on: where the party's span is open, its call began before, and has acted as it wrote
     step : (span : Span T) (before : List (Event T)) (e : Event T) → Reads span before → Reads (span_after p span e) (before ++ e ∷ [])
-    step span before (Begun q start) r = go (q == p) refl
+    step span before (Begun q start) reads = go (q == p) refl
       where
+        -- the cases are whether the turn is the party's own
         go : (b : Bool) → (q == p) ≡ b → Reads (if b then Open start [] else span) (before ++ Begun q start ∷ [])
         go true t =
             record { before = before; since = []; is = ap (λ n. before ++ Begun n start ∷ []) (is_it q p t); within = tt; once = refl }
-        go false t = same_reads span before (Begun q start) (is_another q p t, tt) refl r
-    step span before (Acted q start answer) r = go (q == p) refl
+        go false t = same_reads span before (Begun q start) (is_another q p t, tt) refl reads
+    step span before (Acted q start answer) reads = go (q == p) refl
       where
         go : (b : Bool) → (q == p) ≡ b → Reads (if b then longer span (Acted q start answer) else span) (before ++ Acted q start answer ∷ [])
-        go true t = longer_reads span before (Acted q start answer) tt (rw t refl) r
-        go false t = same_reads span before (Acted q start answer) tt (rw t refl) r
-    step span before (Finished q start answer) r = go (q == p) refl
+        go true t = longer_reads span before (Acted q start answer) tt (rw t refl) reads
+        go false t = same_reads span before (Acted q start answer) tt (rw t refl) reads
+    step span before (Finished q start answer) reads = go (q == p) refl
       where
         go : (b : Bool) → (q == p) ≡ b → Reads (if b then ended span answer else span) (before ++ Finished q start answer ∷ [])
         go true t = ended_reads span (before ++ Finished q start answer ∷ []) answer
-        go false t = same_reads span before (Finished q start answer) tt refl r
-    step span before e r = quiet_reads span before e (λ s. refl) tt refl refl r (is_party p (whose e)) refl
+        go false t = same_reads span before (Finished q start answer) tt refl reads
+    step span before e reads = quiet_reads span before e (λ s. refl) tt refl refl reads (is_party p (whose e)) refl
 
     walk : (es before : List (Event T)) (span : Span T) → Reads span before → Reads (fold (span_after p) span es) (before ++ es)
-    walk [] before span r = subst (Reads span) (sym (append-nil before)) r
-    walk (e ∷ es) before span r =
+    walk [] before span reads = subst (Reads span) (sym (append-nil before)) reads
+    walk (e ∷ es) before span reads =
         subst (Reads (fold (span_after p) (span_after p span e) es)) (append_assoc before (e ∷ []) es)
-        (walk es (before ++ e ∷ []) (span_after p span e) (step span before e r))
+        (walk es (before ++ e ∷ []) (span_after p span e) (step span before e reads))
 
     began : (start : Start T) (wrote events : List (Event T)) → span_of p events ≡ Open start wrote → Began start wrote events
     began start wrote events is = subst (λ (s : Span T). Reads s events) is (walk events [] Never tt)

@@ -37,11 +37,11 @@ module _ {T : Type 0} where
   -- a turn in which a party's call goes on, and asks for no operation, ends the call
   pub ends : (t : Trace T) → IsReached t → (turn : Turn T) → refusal_of t.world turn ≡ None → (p : ℕ) → turn ≡ Next p
       → ask_in t.world turn ≡ None → flight_in (after_turn t turn).world p ≡ None
-  ends t r turn free p is none =
+  ends t reached turn free p is none =
       let here : refusal_of t.world (Next p) ≡ None = subst (λ u. refusal_of t.world u ≡ None) is free in
       let on = (passes t.world (Next p) here).on in
       let under = may_next t.world p on in
       subst (λ u. flight_in (after_turn t u).world p ≡ None) (sym is)
-      (by_flight t.world (after_turn t (Next p)).world p (flight_in t.world p) refl (has_room t r p) (asks_nothing t.world p on)
+      (by_flight t.world (after_turn t (Next p)).world p (flight_in t.world p) refl (has_room t reached p) (asks_nothing t.world p on)
       (subst (λ u. ask_in t.world u ≡ None) is none) (subst (λ (o : Option (Flight T)). is_none o ≡ false) (sym under.is) refl)
-      ((laws_of t.world.kind).turn t (Next p) refl here r).call)
+      ((laws_of t.world.kind).turn t (Next p) refl here reached).call)

@@ -68,11 +68,11 @@ module _ {T : Type 0} where
   -- a push or pop that has ended has acted once, with its answer
   queue_moments : (kind : QueueKind) (capacity : ℕ) (start : Start T) (answer : Answer T) (wrote : List (Event T))
       → is_push_or_pop start ≡ true → queue_promises.wrote kind capacity start answer wrote → moments wrote ≡ (start, answer) ∷ []
-  queue_moments kind capacity (starts.Queues (queues.PushIndex index)) answer wrote t h = h.moments
-  queue_moments kind capacity (starts.Queues (queues.Push value)) answer wrote t h = h.moments
-  queue_moments kind capacity (starts.Queues queues.Pop) answer wrote t h = h.moments
-  queue_moments kind capacity (starts.Queues other) answer wrote t h = absurd (cc)
-  queue_moments kind capacity other answer wrote t h = absurd h
+  queue_moments kind capacity (starts.Queues (queues.PushIndex index)) answer wrote pushes_or_pops h = h.moments
+  queue_moments kind capacity (starts.Queues (queues.Push value)) answer wrote pushes_or_pops h = h.moments
+  queue_moments kind capacity (starts.Queues queues.Pop) answer wrote pushes_or_pops h = h.moments
+  queue_moments kind capacity (starts.Queues other) answer wrote pushes_or_pops h = absurd (cc)
+  queue_moments kind capacity other answer wrote pushes_or_pops h = absurd h
 
   -- a queue that keeps its promise, and is linearizable, runs as the headline says
   queue_runs : (kind : QueueKind) (t : Trace T) → IsKeptBy (queue_promises.promise kind) t
@@ -82,8 +82,9 @@ module _ {T : Type 0} where
         list =
             record {
               inside = λ p start answer before is_call at.
-                  let w = finished_wrote (queue_promises.promise kind) t p start answer before kept at in
-                  acted_once p start answer before w.wrote w.opens (queue_moments kind t.world.capacity start answer w.wrote is_call w.right);
+                  let finished = finished_wrote (queue_promises.promise kind) t p start answer before kept at in
+                  acted_once p start answer before finished.wrote finished.opens
+                  (queue_moments kind t.world.capacity start answer finished.wrote is_call finished.right);
               once = at_most_once (queue_promises.promise kind) t kept;
               answers = kept.promised.moments;
               linearizable = linearizable;
@@ -94,10 +95,10 @@ module _ {T : Type 0} where
   -- a store or load that has ended has acted once, with its answer
   value_moments : (capacity : ℕ) (start : Start T) (answer : Answer T) (wrote : List (Event T)) → is_store_or_load start ≡ true
       → value_promises.wrote capacity start answer wrote → moments wrote ≡ (start, answer) ∷ []
-  value_moments capacity (starts.Atomic (atomics.Store value)) answer wrote t h = h
-  value_moments capacity (starts.Atomic atomics.Load) answer wrote t h = h
-  value_moments capacity (starts.Atomic other) answer wrote t h = absurd (cc)
-  value_moments capacity other answer wrote t h = absurd (cc)
+  value_moments capacity (starts.Atomic (atomics.Store value)) answer wrote stores_or_loads h = h
+  value_moments capacity (starts.Atomic atomics.Load) answer wrote stores_or_loads h = h
+  value_moments capacity (starts.Atomic other) answer wrote stores_or_loads h = absurd (cc)
+  value_moments capacity other answer wrote stores_or_loads h = absurd (cc)
 
   -- a value that keeps its promise, and is linearizable, runs as the headline says
   value_runs : (t : Trace T) → IsKeptBy value_promises.promise t → IsLinearizable (as_value t.world.coding) t.events → ValueRuns t
@@ -106,8 +107,9 @@ module _ {T : Type 0} where
         value =
             record {
               inside = λ p start answer before is_call at.
-                  let w = finished_wrote value_promises.promise t p start answer before kept at in
-                  acted_once p start answer before w.wrote w.opens (value_moments t.world.capacity start answer w.wrote is_call w.right);
+                  let finished = finished_wrote value_promises.promise t p start answer before kept at in
+                  acted_once p start answer before finished.wrote finished.opens
+                  (value_moments t.world.capacity start answer finished.wrote is_call finished.right);
               once = at_most_once value_promises.promise t kept;
               answers = kept.promised.moments;
               linearizable = linearizable;
@@ -122,9 +124,9 @@ module _ {T : Type 0} where
       record {
         conserved = kept.promised.conserved;
         set = λ p b before at.
-            let w = finished_wrote bits_promise t p _ _ before kept at in ap (λ (s : Span T). sets b (wrote_in s)) w.opens ∙ w.right.1;
+            let finished = finished_wrote bits_promise t p _ _ before kept at in ap (λ (s : Span T). sets b (wrote_in s)) finished.opens ∙ finished.right.1;
         reset = λ p b before at.
-            let w = finished_wrote bits_promise t p _ _ before kept at in ap (λ (s : Span T). clears b (wrote_in s)) w.opens ∙ w.right.1;
+            let finished = finished_wrote bits_promise t p _ _ before kept at in ap (λ (s : Span T). clears b (wrote_in s)) finished.opens ∙ finished.right.1;
         reset_came = λ p b before at. kept.promised.answers before at.0 _ at.1;
       }
 
@@ -134,7 +136,7 @@ module _ {T : Type 0} where
       record {
         conserved = kept.promised.conserved;
         counted = λ p b number before at.
-            let w = finished_wrote counts_promise t p _ _ before kept at in ap (λ (s : Span T). counts b (wrote_in s)) w.opens ∙ w.right.1;
+            let finished = finished_wrote counts_promise t p _ _ before kept at in ap (λ (s : Span T). counts b (wrote_in s)) finished.opens ∙ finished.right.1;
       }
 
   -- ---- unique indices
@@ -143,8 +145,8 @@ module _ {T : Type 0} where
     -- an index is claimed only where it has no holder
     claims_free : TakesFree claims t.events
     claims_free (Claimed p i) before index holder at takes =
-        let is : i ≡ index = cc in
-        subst (λ n. holders claims n before ≡ []) is
+        let same_index : i ≡ index = cc in
+        subst (λ n. holders claims n before ≡ []) same_index
         (none_latest (holders claims i before) (claims_read i before ∙ (kept.promised.holds before at.0 (Claimed p i) at.1).1))
     claims_free (Freed p i) before index holder at takes = absurd (cc)
     claims_free e before index holder at takes = absurd (cc)
@@ -185,8 +187,8 @@ module _ {T : Type 0} where
                 before_lock = claims_unlocked;
               });
           acquired = λ p index before at.
-              let w = finished_wrote index_promises.promise t p _ _ before kept at in
-              let did = ap (λ (s : Span T). set_acts (wrote_in s)) w.opens ∙ index_claimed index (set_acts w.wrote) w.right in
+              let finished = finished_wrote index_promises.promise t p _ _ before kept at in
+              let did = ap (λ (s : Span T). set_acts (wrote_in s)) finished.opens ∙ index_claimed index (set_acts finished.wrote) finished.right in
               (did, claimed_below t.world.capacity p index t.events before _ claims_within at.1 (ap (λ (d : SetActs). d.claimed) did));
           freed = λ p index before at. (
             one_latest (holders claims index before) p (claims_read index before ∙ kept.promised.holds before at.0 (Freed p index) at.1)
@@ -201,8 +203,8 @@ module _ {T : Type 0} where
     -- an index is filled only where it is filled for nobody
     fills_free : TakesFree fills events
     fills_free (Filled p i o) before index holder at takes =
-        let is : i ≡ index = cc in
-        subst (λ n. holders fills n before ≡ []) is
+        let same_index : i ≡ index = cc in
+        subst (λ n. holders fills n before ≡ []) same_index
         (none_latest (holders fills i before) (fills_read i before ∙ (does before at.0 (Filled p i o) at.1).1))
     fills_free (FreedOf p i o) before index holder at takes = absurd (cc)
     fills_free e before index holder at takes = absurd (cc)
@@ -231,8 +233,8 @@ module _ {T : Type 0} where
       -- in a well-formed run an index is granted only where it has no holder
       grants_free : TakesFree grants events
       grants_free (Granted p i o) before index holder at takes =
-          let is : i ≡ index = cc in
-          subst (λ n. holders grants n before ≡ []) is
+          let same_index : i ≡ index = cc in
+          subst (λ n. holders grants n before ≡ []) same_index
           (none_latest (holders grants i before) (grants_read i before ∙ holds before at.0 (Granted p i o) at.1))
       grants_free (FreedOf p i o) before index holder at takes = absurd (cc)
       grants_free e before index holder at takes = absurd (cc)
@@ -279,43 +281,43 @@ module _ {T : Type 0} where
 
   -- a robust index set that keeps its promise runs as the headline says
   robust_runs : (t : Trace T) → t.world.kind ≡ kinds.Robust → IsReached t → IsKeptBy robust_promises.promise t → RobustRuns t
-  robust_runs t is r kept =
+  robust_runs t is reached kept =
       let set = kept.promised in
       record {
         no_two_fill = no_two_fill t.world.capacity t.events set.does;
         no_two_hold = λ well. one_grant t.world.capacity t.events set.does (set.holds well);
         none_once_locked = λ well. none_granted t.world.capacity t.events set.does (set.holds well);
         acquired = λ p index owner before at.
-            let w = finished_wrote robust_promises.promise t p _ _ before kept at in
+            let finished = finished_wrote robust_promises.promise t p _ _ before kept at in
             acquired_of t.world.capacity t.events set.does p index owner _ before at
-            (ap (λ (s : Span T). robust.set_acts (wrote_in s)) w.opens ∙ w.right);
+            (ap (λ (s : Span T). robust.set_acts (wrote_in s)) finished.opens ∙ finished.right);
         freed = λ p index owner before at. (
           freed_of t.world.capacity t.events set.does p index owner before at,
           back_by_robust p index owner (span_of p before) (acts_of p before) (kept.spans before at.0 (FreedOf p index owner) at.1),
         );
         recovered = λ p index owner mode before at. (set.answers before at.0 _ at.1).1.gone index owner;
         asked_each = λ p index owner mode before at. (set.answers before at.0 _ at.1).1.asked index owner;
-        locks = λ p index owner before at. locking.locks t is r before at.0 _ at.1 index owner;
+        locks = λ p index owner before at. locking.locks t is reached before at.0 _ at.1 index owner;
         found = λ p owner number before at. set.answers before at.0 _ at.1;
       }
 
   -- the indices of a container are held right, however its replaces overlap
   holds_right : (t : Trace T) → t.world.kind ≡ kinds.Container → IsReached t → robust_promises.IsWellFormed t.events
       → Each robust_promises.HoldsRight t.events
-  holds_right t is r well = (reached_sound shown t is r).holds.good.holds (well, tt)
+  holds_right t is reached well = (reached_sound shown t is reached).holds.good.holds (well, tt)
 
   -- a container that keeps its promise runs as the headline says
   container_runs : (t : Trace T) → t.world.kind ≡ kinds.Container → IsReached t → IsKeptBy container_promises.promise t → ContainerRuns t
-  container_runs t is r kept =
+  container_runs t is reached kept =
       let set = kept.promised in
       record {
         no_two_fill = no_two_fill t.world.capacity t.events set.does;
-        no_two_hold = λ well. one_grant t.world.capacity t.events set.does (holds_right t is r well);
-        none_once_locked = λ well. none_granted t.world.capacity t.events set.does (holds_right t is r well);
+        no_two_hold = λ well. one_grant t.world.capacity t.events set.does (holds_right t is reached well);
+        none_once_locked = λ well. none_granted t.world.capacity t.events set.does (holds_right t is reached well);
         acquired = λ p index owner value before at.
-            let w = finished_wrote container_promises.promise t p _ _ before kept at in
+            let finished = finished_wrote container_promises.promise t p _ _ before kept at in
             acquired_of t.world.capacity t.events set.does p index owner _ before at
-            (ap (λ (s : Span T). robust.set_acts (wrote_in s)) w.opens ∙ w.right);
+            (ap (λ (s : Span T). robust.set_acts (wrote_in s)) finished.opens ∙ finished.right);
         freed = λ p index owner before at. (
           freed_of t.world.capacity t.events set.does p index owner before at,
           back_by_container p index owner before (span_of p before) (kept.spans before at.0 (FreedOf p index owner) at.1)
@@ -330,12 +332,12 @@ module _ {T : Type 0} where
         recovered = λ p index owner mode before at. (set.answers before at.0 _ at.1).1.gone index;
         asked_each = λ p index owner mode before at. (set.answers before at.0 _ at.1).1.asked index;
         locks = λ p index owner before at. (set.answers before at.0 _ at.1).2 index;
-        visits = visits_unlocked t is r kept;
+        visits = visits_unlocked t is reached kept;
         found = λ p owner number before at. set.answers before at.0 _ at.1;
-        waits = waiting.waits t is r;
-        changes = counting.counts_changes t is r;
-        met = λ p before at. meeting.meets_changes t is r before at.0 _ at.1;
-        met_none = λ p before at. meeting.meets_changes t is r before at.0 _ at.1;
+        waits = waiting.waits t is reached;
+        changes = counting.counts_changes t is reached;
+        met = λ p before at. meeting.meets_changes t is reached before at.0 _ at.1;
+        met_none = λ p before at. meeting.meets_changes t is reached before at.0 _ at.1;
       }
 
   -- ---- the loan channel
@@ -343,15 +345,15 @@ module _ {T : Type 0} where
   -- a send or receive that has ended has acted once, with its answer
   moved_by : (start : Start T) (answer : Answer T) (wrote : List (Event T)) → is_send_or_receive start ≡ true
       → loan_promises.wrote 0 start answer wrote → moments wrote ≡ (start, answer) ∷ []
-  moved_by (starts.Loan (calls.Send index)) answer wrote t h = h.moments
-  moved_by (starts.Loan calls.Receive) answer wrote t h = h.moments
-  moved_by (starts.Loan other) answer wrote t h = absurd (cc)
-  moved_by other answer wrote t h = absurd (cc)
+  moved_by (starts.Loan (calls.Send index)) answer wrote sends_or_receives h = h.moments
+  moved_by (starts.Loan calls.Receive) answer wrote sends_or_receives h = h.moments
+  moved_by (starts.Loan other) answer wrote sends_or_receives h = absurd (cc)
+  moved_by other answer wrote sends_or_receives h = absurd (cc)
 
   reclaiming : (span : Span T) → loan_promises.IsReclaiming span → call_in span ≡ Some (starts.Loan calls.Reclaim)
-  reclaiming Never h = absurd h
-  reclaiming (Open call wrote) h = ap (λ (c : Start T). Some c) h.0
-  reclaiming (Ended call answer wrote) h = absurd h
+  reclaiming Never is_reclaiming = absurd is_reclaiming
+  reclaiming (Open call wrote) is_reclaiming = ap (λ (c : Start T). Some c) is_reclaiming.0
+  reclaiming (Ended call answer wrote) is_reclaiming = absurd is_reclaiming
 
   module _ (book : Book) (t : Trace T) (channel : loan_promises.IsChannelOf book t) where
     with_at : (i : ℕ) (e : Event T) (before : List (Event T)) → Follows e before t.events → (spot : Spot) → spot_of i before ≡ spot
@@ -361,15 +363,15 @@ module _ {T : Type 0} where
     -- an index goes to a party only where it is with nobody
     loans_free : TakesFree loans t.events
     loans_free (Claimed p i) before index holder at takes =
-        let is : i ≡ index = cc in
-        subst (λ n. holders loans n before ≡ []) is (with_at i (Claimed p i) before at Free (channel.moves before at.0 (Claimed p i) at.1).1)
+        let same_index : i ≡ index = cc in
+        subst (λ n. holders loans n before ≡ []) same_index (with_at i (Claimed p i) before at Free (channel.moves before at.0 (Claimed p i) at.1).1)
     loans_free (HandedOut p (items.Index i)) before index holder at takes =
-        let is : i ≡ index = cc in
-        subst (λ n. holders loans n before ≡ []) is
+        let same_index : i ≡ index = cc in
+        subst (λ n. holders loans n before ≡ []) same_index
         (with_at i (HandedOut p (items.Index i)) before at Waiting (channel.moves before at.0 (HandedOut p (items.Index i)) at.1).1)
     loans_free (TakenBack p i) before index holder at takes =
-        let is : i ≡ index = cc in
-        subst (λ n. holders loans n before ≡ []) is
+        let same_index : i ≡ index = cc in
+        subst (λ n. holders loans n before ≡ []) same_index
         (with_at i (TakenBack p i) before at Returning (channel.moves before at.0 (TakenBack p i) at.1).1)
     loans_free (Published p (items.Index i)) before index holder at takes = absurd (cc)
     loans_free (Returned p i) before index holder at takes = absurd (cc)
@@ -415,17 +417,17 @@ module _ {T : Type 0} where
           length = length;
           no_two_hold = one_has;
           acquired = λ p index before at.
-              let w = finished_wrote loan_promises.promise t p _ _ before kept at in
-              let did = ap (λ (s : Span T). moves.claimed (wrote_in s)) w.opens ∙ w.right.done.claimed in
+              let finished = finished_wrote loan_promises.promise t p _ _ before kept at in
+              let did = ap (λ (s : Span T). moves.claimed (wrote_in s)) finished.opens ∙ finished.right.done.claimed in
               (did, loaned_below t.world.capacity p index t.events before _ loans_within at.1 did);
           received = λ p index before at.
-              let w = finished_wrote loan_promises.promise t p _ _ before kept at in
-              let did = ap (λ (s : Span T). handed_out (wrote_in s)) w.opens ∙ w.right.done.handed_out in
+              let finished = finished_wrote loan_promises.promise t p _ _ before kept at in
+              let did = ap (λ (s : Span T). handed_out (wrote_in s)) finished.opens ∙ finished.right.done.handed_out in
               (did, received_below t.world.capacity p index t.events before _ receives_within at.1 did);
           freed = freed_by;
           inside = λ p start answer before is_call at.
-              let w = finished_wrote loan_promises.promise t p start answer before kept at in
-              acted_once p start answer before w.wrote w.opens (moved_by start answer w.wrote is_call w.right);
+              let finished = finished_wrote loan_promises.promise t p start answer before kept at in
+              acted_once p start answer before finished.wrote finished.opens (moved_by start answer finished.wrote is_call finished.right);
           once = at_most_once loan_promises.promise t kept;
           list = channel.legal;
           sent = channel.sent;

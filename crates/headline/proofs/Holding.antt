@@ -62,7 +62,7 @@ module _ {T : Type 0} (hand : Event T → Hand) where
       none is = free index holder refl (sym is)
 
       go : (b : Bool) → (index == i) ≡ b → length (if b then holder ∷ held else held) ≤ 1
-      go true t = let is : index ≡ i = is_it index i t in rw (none is) (omega arith)
+      go true t = let same_index : index ≡ i = is_it index i t in rw (none same_index) (omega arith)
       go false t = few
   at_most_one i held (Gives index) free few = go (index == i)
     where
@@ -125,7 +125,7 @@ none_latest (x ∷ xs) e = absurd (cc)
 
 pub one_latest : (held : List ℕ) (x : ℕ) → latest held ≡ Some x → length held ≤ 1 → held ≡ x ∷ []
 one_latest [] x e few = absurd (cc)
-one_latest (y ∷ []) x e few = let is : y ≡ x = cc in ap (λ (n : ℕ). n ∷ []) is
+one_latest (y ∷ []) x e few = let same_item : y ≡ x = cc in ap (λ (n : ℕ). n ∷ []) same_item
 one_latest (y ∷ z ∷ zs) x e few = absurd (omega arith)
 
 if_takes : (b : Bool) (x : ℕ) (held : List ℕ) → latest (if b then x ∷ held else held) ≡ (if b then Some x else latest held)

@@ -131,13 +131,13 @@ module _ {T : Type 0} where
       once : (j : ℕ) → Took j → Rests ⊎ Took (suc j)
       once j (k, took) = ⊎_elim (λ none. inl (fair.at k, none)) (λ one. inr (suc (fair.at k), more one)) (fair.goes k)
         where
+          -- the step at the fair moment makes one more step of the party
           more : IsStepOf p (now (fair.at k)).world (turns (fair.at k)) → suc j ≤ steps_by (suc (fair.at k))
           more one =
               let own = own_of_all p (now (fair.at k)).world (turns (fair.at k)) in
               let step = one.1 in
-              let up = steps_up k (fair.at k) (fair.later k) in
               let last = one_more (fair.at k) one.0 in
-              omega arith
+              omega (arith, steps_up k (fair.at k) (fair.later k))
 
       often : (j : ℕ) → Rests ⊎ Took j
       often zero = inr (0, omega arith)
@@ -152,7 +152,7 @@ module _ {T : Type 0} where
         omega arith
 
     within : (b under calls k : ℕ) → begins_in (taken k) ≤ calls → steps_by k ≤ load b (under + begins_in (taken k)) → steps_by k ≤ load b (under + calls)
-    within b under calls k few steps = let up = worth (under + begins_in (taken k)) (under + calls) (b + 1) (omega arith) in omega arith
+    within b under calls k few steps = omega (arith, worth (under + begins_in (taken k)) (under + calls) (b + 1) (omega arith))
 
   -- where a finite load ends, each party to which the schedule is fair comes to a moment at which it has no call under
   -- way

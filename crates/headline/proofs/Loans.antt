@@ -56,7 +56,7 @@ module _ {T : Type 0} (slots : ℕ) where
   one_loan i before held (Freed p index) right old = comes_back (index == i) (spot_of i before) Free held refl old
   one_loan i before held (Begun p start) right old = begun start right
     where
-      -- so does the begin of a call
+      -- the begin of a call leaves each index with whom its spot says
       begun : (start : Start T) → MovesRight slots before (Begun p start) → IsWith (spot_after i (spot_of i before) (Begun p start)) held
       begun (starts.Loan (calls.Send index)) right =
           stays_with (index == i) (spot_of i before) (With p) (Passing p) held (comes_from i index (With p) before right.1) (λ h. h) old
@@ -67,7 +67,7 @@ module _ {T : Type 0} (slots : ℕ) where
       begun start right = old
   one_loan i before held (Finished p start answer) right old = finished start answer right
     where
-      -- so does the end of a call
+      -- the end of a call leaves each index with whom its spot says
       finished : (start : Start T) (answer : Answer T) → MovesRight slots before (Finished p start answer)
           → IsWith (spot_after i (spot_of i before) (Finished p start answer)) held
       finished (starts.Loan calls.Loan) (answers.Index index) right =

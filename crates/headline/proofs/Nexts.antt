@@ -51,8 +51,8 @@ module _ {T : Type 0} where
   ended_there : (w : World T) (p : ℕ) (x : Party T) (ask : Option Ask) (answer : ℕ) (doing : Doing T) (flight : Flight T)
       → flight_in w p ≡ Some flight → party_of p w.latest ≡ Some x → x.doing ≡ doing
       → flight_in (after_answer w p x ask answer doing) p ≡ None → 1 ≤ own_ends p (events_of_answer w p x answer doing)
-  ended_there w p x ask answer (Over others) flight is found e done =
-      let none : flight_in w p ≡ None = ap (λ o. flight_of (doing_of o)) found ∙ ap (λ d. flight_of (Some d)) e in
+  ended_there w p x ask answer (Over others) flight is found same_doing done =
+      let none : flight_in w p ≡ None = ap (λ o. flight_of (doing_of o)) found ∙ ap (λ d. flight_of (Some d)) same_doing in
       absurd (cc)
   ended_there w p x ask answer (Going now since) flight is found e done = by_after s.after refl
     where
@@ -86,44 +86,44 @@ module _ {T : Type 0} where
   -- a turn of the party
   next_pays : (t : Trace T) → IsReached t → (p : ℕ) → refusal_of t.world (Next p) ≡ None
       → 1 ≤ steps_of t.world (Next p) + own_ends p (events_of t.world (Next p))
-  next_pays t r p free = go (ask_in t.world (Next p)) refl
+  next_pays t reached p free = go (ask_in t.world (Next p)) refl
     where
-      -- so it is whether the call asks for an operation or not
+      -- the cases are whether the call asks for an operation
       go : (o : Option Ask) → ask_in t.world (Next p) ≡ o → 1 ≤ steps_of t.world (Next p) + own_ends p (events_of t.world (Next p))
       go (Some ask) e = let one : steps_of t.world (Next p) ≡ 1 = ap step_count e in omega arith
       go None e =
           let may = may_next t.world p (passes t.world (Next p) free).on in
-          let done = ends.ends t r (Next p) free p refl e in
+          let done = ends.ends t reached (Next p) free p refl e in
           let end = next_ended t.world p may.flight may.is (party_of p t.world.latest) refl done in
           omega arith
 
   -- a turn in which a party's call goes on takes a step of the party or ends its call
   turn_pays : (t : Trace T) → IsReached t → (p : ℕ) (turn : Turn T) → refusal_of t.world turn ≡ None
       → next_of p turn ≤ own_step p t.world turn + own_ends p (events_of t.world turn)
-  turn_pays t r p (Begin q start) free = omega arith
-  turn_pays t r p (Next q) free = go (q == p) refl
+  turn_pays t reached p (Begin q start) free = omega arith
+  turn_pays t reached p (Next q) free = go (q == p) refl
     where
-      -- so it is whether the turn is the party's or not
+      -- the cases are whether the turn is the party's
       go : (b : Bool) → (q == p) ≡ b → next_of {T = T} p (Next q) ≤ own_step p t.world (Next q) + own_ends p (events_of t.world (Next q))
       go true b =
           let same = is_it q p b in
           let here : refusal_of t.world (Next p) ≡ None = subst (λ m. refusal_of t.world (Next m) ≡ None) same free in
-          let paid = next_pays t r p here in
+          let paid = next_pays t reached p here in
           let there : 1 ≤ steps_of t.world (Next q) + own_ends p (events_of t.world (Next q))
           = subst (λ m. 1 ≤ steps_of t.world (Next m) + own_ends p (events_of t.world (Next m))) (sym same) paid in
           rw b there
       go false b = rw b (omega arith)
-  turn_pays t r p (Decide q said) free = omega arith
-  turn_pays t r p (Die owner) free = omega arith
+  turn_pays t reached p (Decide q said) free = omega arith
+  turn_pays t reached p (Die owner) free = omega arith
 
   -- over a list of turns, those in which the party's call goes on are no more than its steps and its ends
   pub turns_pay : (t : Trace T) → IsReached t → (p : ℕ) (turns : List (Turn T)) → AreAllowed t turns
       → nexts_in p turns + own_ends p t.events ≤ own_steps p t turns + own_ends p (after_turns t turns).events
-  turns_pay t r p [] allowed = omega arith
-  turns_pay t r p (turn ∷ turns) allowed =
-      let here = turn_pays t r p turn allowed.0 in
+  turns_pay t reached p [] allowed = omega arith
+  turns_pay t reached p (turn ∷ turns) allowed =
+      let here = turn_pays t reached p turn allowed.0 in
       let more = own_more p t.events (events_of t.world turn) in
-      let rest = turns_pay (after_turn t turn) (reached_more t turn allowed.0 r) p turns allowed.1 in
+      let rest = turns_pay (after_turn t turn) (reached_more t turn allowed.0 reached) p turns allowed.1 in
       let all : nexts_in p turns + (own_ends p t.events + own_ends p (events_of t.world turn))
       ≤ own_steps p (after_turn t turn) turns + own_ends p (after_turns (after_turn t turn) turns).events = rw more at rest in
       omega arith
@@ -145,6 +145,7 @@ module _ {T : Type 0} where
   whose : (p : ℕ) (turn : Turn T) → begin_in turn ≡ own_begin p turn + begin_of_other p turn
   whose p (Begin q start) = go (q == p)
     where
+      -- one party begins the call and the other does not, so between the two there is one call
       go : (b : Bool) → 1 ≡ (if b then 1 else 0) + (if b then 0 else 1)
       go true = refl
       go false = refl
@@ -173,8 +174,8 @@ module _ {T : Type 0} where
   ended_or few (Some flight) ended = omega arith
 
   begun_under : (w : World T) (p : ℕ) (start : Start T) (o : Option (Flight T)) → is_none o ≡ false → under (after_begin w p start o) p ≡ 1
-  begun_under w p start None e = absurd (cc)
-  begun_under w p start (Some flight) e =
+  begun_under w p start None begun = absurd (cc)
+  begun_under w p start (Some flight) begun =
       let here : flight_in (after_begin w p start (Some flight)) p ≡ Some flight = ap (λ o. flight_of (doing_of o)) (party_put_same p _ w.latest) in
       rw here refl
 
@@ -253,7 +254,7 @@ module _ {T : Type 0} where
       → steps_in t turns ≤ load bound (pending t.world.parties t.world + begins_in turns)
       → load bound (pending t.world.parties t.world + begins_of_others p turns) < nexts_in p turns
       → own_ends p t.events < own_ends p (after_turns t turns).events
-  ends_within bound t r p under_way turns allowed most many =
+  ends_within bound t reached p under_way turns allowed most many =
       ⊎_elim (λ less. less) none (cases_lt (own_ends p t.events) (own_ends p (after_turns t turns).events))
     where
       -- that the party has ended no call would need more steps than the load has
@@ -265,7 +266,7 @@ module _ {T : Type 0} where
           let split = all_whose p turns in
           let same : begins_in turns ≡ begins_of_others p turns = omega arith in
           let within = subst (λ k. steps_in t turns ≤ load bound (pending t.world.parties t.world + k)) same most in
-          let paid = turns_pay t r p turns allowed in
+          let paid = turns_pay t reached p turns allowed in
           let own = own_in_all p t turns in
           absurd (omega arith)
 

@@ -82,7 +82,7 @@ module _ {T : Type 0} (start : Start T) where
         go false t = stays acted (span_of p before) h
     step acted before (Acted q call answer) stands none h = go (q == p) refl
       where
-        -- so does an act, whether it is the party's or not
+        -- an act leaves a call with one act at most, whether it is the party's or another's
         go : (b : Bool) → (q == p) ≡ b
             → Has (acted ++ (if b then (call, answer) ∷ [] else [])) (if b then longer (span_of p before) (Acted q call answer) else span_of p before)
         go true t =
@@ -91,6 +91,7 @@ module _ {T : Type 0} (start : Start T) where
         go false t = stays acted (span_of p before) h
     step acted before (Finished q call answer) stands none h = go (q == p)
       where
+        -- the cases are whether the call that ends is the party's own
         go : (b : Bool) → Has (acted ++ []) (if b then ended (span_of p before) answer else span_of p before)
         go true = stays acted (ended (span_of p before) answer) (ends acted (span_of p before) answer h)
         go false = stays acted (span_of p before) h

@@ -15,32 +15,32 @@ module _ {T : Type 0} where
   -- a call has begun a turn of a loop again at most as often as its `others` says
   pub pays : (promise : Promise T) (capacity size : ℕ) (span : Span T) (o : Option Progress) (g : Progress)
       → Progresses promise capacity size span o → o ≡ Some g → g.backs ≤ g.others
-  pays promise capacity size Never None g h e = absurd (cc)
-  pays promise capacity size Never (Some x) g h e = absurd h
-  pays promise capacity size (Open start wrote) None g h e = absurd h
-  pays promise capacity size (Open start wrote) (Some x) g h e =
-      let is : x ≡ g = cc in subst (λ (x : Progress). x.backs ≤ x.others) is h.0.backs
-  pays promise capacity size (Ended start answer wrote) None g h e = absurd h
-  pays promise capacity size (Ended start answer wrote) (Some x) g h e =
-      let is : x ≡ g = cc in subst (λ (x : Progress). x.backs ≤ x.others) is h.0.backs
+  pays promise capacity size Never None g progresses e = absurd (cc)
+  pays promise capacity size Never (Some x) g progresses e = absurd progresses
+  pays promise capacity size (Open start wrote) None g progresses e = absurd progresses
+  pays promise capacity size (Open start wrote) (Some x) g progresses e =
+      let is : x ≡ g = cc in subst (λ (x : Progress). x.backs ≤ x.others) is progresses.0.backs
+  pays promise capacity size (Ended start answer wrote) None g progresses e = absurd progresses
+  pays promise capacity size (Ended start answer wrote) (Some x) g progresses e =
+      let is : x ≡ g = cc in subst (λ (x : Progress). x.backs ≤ x.others) is progresses.0.backs
 
   bounds : (promise : Promise T) (capacity size : ℕ) (call start : Start T) (x g : Progress) → call ≡ start → x ≡ g
       → IsBounded promise capacity size call x → g.steps ≤ promise.most_steps capacity size start g.backs
-  bounds promise capacity size call start x g name is h =
+  bounds promise capacity size call start x g name is bounded =
       subst (λ (s : Start T). g.steps ≤ promise.most_steps capacity size s g.backs) name
-      (subst (λ (x : Progress). x.steps ≤ promise.most_steps capacity size call x.backs) is h.steps)
+      (subst (λ (x : Progress). x.steps ≤ promise.most_steps capacity size call x.backs) is bounded.steps)
 
   -- a call has taken at most the steps that its family promises
   pub is_bounded : (promise : Promise T) (capacity size : ℕ) (span : Span T) (o : Option Progress) (start : Start T) (g : Progress)
       → Progresses promise capacity size span o → call_in span ≡ Some start → o ≡ Some g
       → g.steps ≤ promise.most_steps capacity size start g.backs
-  is_bounded promise capacity size Never o start g h name e = absurd (cc)
-  is_bounded promise capacity size (Open call wrote) None start g h name e = absurd h
-  is_bounded promise capacity size (Open call wrote) (Some x) start g h name e =
-      bounds promise capacity size call start x g (cc) (cc) h.0
-  is_bounded promise capacity size (Ended call answer wrote) None start g h name e = absurd h
-  is_bounded promise capacity size (Ended call answer wrote) (Some x) start g h name e =
-      bounds promise capacity size call start x g (cc) (cc) h.0
+  is_bounded promise capacity size Never o start g progresses name e = absurd (cc)
+  is_bounded promise capacity size (Open call wrote) None start g progresses name e = absurd progresses
+  is_bounded promise capacity size (Open call wrote) (Some x) start g progresses name e =
+      bounds promise capacity size call start x g (cc) (cc) progresses.0
+  is_bounded promise capacity size (Ended call answer wrote) None start g progresses name e = absurd progresses
+  is_bounded promise capacity size (Ended call answer wrote) (Some x) start g progresses name e =
+      bounds promise capacity size call start x g (cc) (cc) progresses.0
 
   -- the bound that the family promises is the one of the kind
   pub most_promised : (kind : Kind) (capacity size : ℕ) (start : Start T) (backs : ℕ)
@@ -49,14 +49,14 @@ module _ {T : Type 0} where
 
   keeps : (guarantee : Start T → Guarantee) (call start : Start T) (x g : Progress) → call ≡ start → x ≡ g
       → IsWithin (guarantee call) x → IsWithin (guarantee start) g
-  keeps guarantee call start x g name is h =
-      subst (λ (s : Start T). IsWithin (guarantee s) g) name (subst (IsWithin (guarantee call)) is h)
+  keeps guarantee call start x g name is within =
+      subst (λ (s : Start T). IsWithin (guarantee s) g) name (subst (IsWithin (guarantee call)) is within)
 
   -- a call keeps within its guarantee
   pub is_guaranteed : (guarantee : Start T → Guarantee) (span : Span T) (o : Option Progress) (start : Start T) (g : Progress)
       → LatestIsWithin guarantee span o → call_in span ≡ Some start → o ≡ Some g → IsWithin (guarantee start) g
-  is_guaranteed guarantee Never o start g h name e = absurd (cc)
-  is_guaranteed guarantee (Open call wrote) None start g h name e = absurd (cc)
-  is_guaranteed guarantee (Open call wrote) (Some x) start g h name e = keeps guarantee call start x g (cc) (cc) h
-  is_guaranteed guarantee (Ended call answer wrote) None start g h name e = absurd (cc)
-  is_guaranteed guarantee (Ended call answer wrote) (Some x) start g h name e = keeps guarantee call start x g (cc) (cc) h
+  is_guaranteed guarantee Never o start g latest_is_within name e = absurd (cc)
+  is_guaranteed guarantee (Open call wrote) None start g latest_is_within name e = absurd (cc)
+  is_guaranteed guarantee (Open call wrote) (Some x) start g latest_is_within name e = keeps guarantee call start x g (cc) (cc) latest_is_within
+  is_guaranteed guarantee (Ended call answer wrote) None start g latest_is_within name e = absurd (cc)
+  is_guaranteed guarantee (Ended call answer wrote) (Some x) start g latest_is_within name e = keeps guarantee call start x g (cc) (cc) latest_is_within

@@ -80,6 +80,7 @@ module _ {T : Type 0} where
     went : (o : Option (Party T)) → HasRoomIn (flight_of (doing_of o)) → HasRoomIn (flight_in w p) → HasRoomIn (flight_in (after_next w p o) p)
     went = grind (arith, answered)
 
+    -- after a decision the party's call still has room for what it submits
     decided : (said : Bool) (o : Option (Party T)) → HasRoomIn (flight_of (doing_of o)) → HasRoomIn (flight_in w p)
         → HasRoomIn (flight_in (after_decision w p said o) p)
     decided said None h here = here
@@ -92,28 +93,28 @@ module _ {T : Type 0} where
   -- the party of the turn stands so, and the others where they stood
   by_party : (w : World T) (turn : Turn T) (p : ℕ) → ((q : ℕ) → q ≢ p → ¬ IsParty turn q) → IsRoomy w
       → HasRoomIn (flight_in (world_after w turn) p) → (q : ℕ) → HasRoomIn (flight_in (world_after w turn) q)
-  by_party w turn p alone h here q = go (q == p) refl
+  by_party w turn p alone roomy here q = go (q == p) refl
     where
       go : (b : Bool) → (q == p) ≡ b → HasRoomIn (flight_in (world_after w turn) q)
       go true t = subst (λ n. HasRoomIn (flight_in (world_after w turn) n)) (sym (is_it q p t)) here
       go false t =
           let other : q ≢ p = grind (arith, nat_tests) in
-          subst HasRoomIn (sym (others.others_stay w turn q (alone q other))) (h.calls q)
+          subst HasRoomIn (sym (others.others_stay w turn q (alone q other))) (roomy.calls q)
 
   -- each turn leaves the call of each party room in the submission queue
   calls_roomy : (w : World T) (turn : Turn T) → IsRoomy w → (q : ℕ) → HasRoomIn (flight_in (world_after w turn) q)
-  calls_roomy w (Begin p start) h =
-      by_party w (Begin p start) p (λ q ne. ne) h
-      (begun w p start (first_of w.kind w.capacity start w.kept) (first_roomy w.kind w.capacity start w.kept h.queue) (h.calls p))
-  calls_roomy w (Next p) h = by_party w (Next p) p (λ q ne. ne) h (went w p (party_of p w.latest) (h.calls p) (h.calls p))
-  calls_roomy w (Decide p said) h = by_party w (Decide p said) p (λ q ne. ne) h (decided w p said (party_of p w.latest) (h.calls p) (h.calls p))
-  calls_roomy w (Die owner) h = λ q. h.calls q
+  calls_roomy w (Begin p start) roomy =
+      by_party w (Begin p start) p (λ q ne. ne) roomy
+      (begun w p start (first_of w.kind w.capacity start w.kept) (first_roomy w.kind w.capacity start w.kept roomy.queue) (roomy.calls p))
+  calls_roomy w (Next p) roomy = by_party w (Next p) p (λ q ne. ne) roomy (went w p (party_of p w.latest) (roomy.calls p) (roomy.calls p))
+  calls_roomy w (Decide p said) roomy = by_party w (Decide p said) p (λ q ne. ne) roomy (decided w p said (party_of p w.latest) (roomy.calls p) (roomy.calls p))
+  calls_roomy w (Die owner) roomy = λ q. roomy.calls q
 
   turn_roomy : (t : Trace T) (turn : Turn T) → refusal_of t.world turn ≡ None → IsRoomy t.world → IsRoomy (after_turn t turn).world
-  turn_roomy t turn free h =
-      record { queue = subst TakesOne (sym (submission.keeps_queue t.world turn)) h.queue; calls = calls_roomy t.world turn h }
+  turn_roomy t turn free roomy =
+      record { queue = subst TakesOne (sym (submission.keeps_queue t.world turn)) roomy.queue; calls = calls_roomy t.world turn roomy }
 
   pub has_room : (t : Trace T) → IsReached t → (p : ℕ) → HasRoomIn (flight_in t.world p)
-  has_room t r =
+  has_room t reached =
       (kept_by_runs (λ u. IsRoomy u.world) turn_roomy t
-      (λ queue queued. record { queue = opens_roomy T t.world.kind t.world.capacity queue queued; calls = λ p. tt }) r).calls
+      (λ queue queued. record { queue = opens_roomy T t.world.kind t.world.capacity queue queued; calls = λ p. tt }) reached).calls

@@ -52,47 +52,47 @@ module _ {T : Type 0} where
   effect_no turn e h = tt
 
   act_no : (e : Event T) → IsAct e → BeginsNo e
-  act_no (Begun p start) h = h
-  act_no e h = tt
+  act_no (Begun p start) act = act
+  act_no e act = tt
 
   end_no : (turn : Turn T) (e : Event T) → IsEndOf turn e → BeginsNo e
   end_no turn (Begun p start) h = h
   end_no turn e h = tt
 
   none_one : (p : ℕ) (e : Event T) → BeginsNo e → BeginsNone p (e ∷ [])
-  none_one p (Begun q start) h = absurd h
-  none_one p e h = tt
+  none_one p (Begun q start) begins_no = absurd begins_no
+  none_one p e begins_no = tt
 
   -- ---- what is so of the recovery before such an event is so after it
 
   -- a span that is a recovery's with one event more is a recovery's without it
   longer_less : (span : Span T) (e : Event T) → IsRecovery (longer span e) → IsRecovery span
-  longer_less Never e h = h
-  longer_less (Open (Container (Recover owner mode)) wrote) e h = tt
-  longer_less (Open (Container other) wrote) e h = absurd h
-  longer_less (Open other wrote) e h = absurd h
-  longer_less (Ended start answer wrote) e h = h
+  longer_less Never e recovery = recovery
+  longer_less (Open (Container (Recover owner mode)) wrote) e recovery = tt
+  longer_less (Open (Container other) wrote) e recovery = absurd recovery
+  longer_less (Open other wrote) e recovery = absurd recovery
+  longer_less (Ended start answer wrote) e recovery = recovery
 
   own_less : (span : Span T) (e : Event T) → BeginsNo e → IsRecovery (own_after span e) → IsRecovery span
   own_less = grind (arith, longer_less)
 
   after_less : (span : Span T) (e : Event T) → BeginsNo e → (b : Bool) → IsRecovery (if b then own_after span e else span) → IsRecovery span
-  after_less span e none true h = own_less span e none h
-  after_less span e none false h = h
+  after_less span e none true recovery = own_less span e none recovery
+  after_less span e none false recovery = recovery
 
   recovery_less : (p : ℕ) (before : List (Event T)) (e : Event T) → BeginsNo e → IsRecovery (span_of p (before ++ e ∷ [])) → IsRecovery (span_of p before)
-  recovery_less p before e none h =
-      after_less (span_of p before) e none (is_party p (whose e)) (subst IsRecovery (fold-append (span_after p) Never before (e ∷ [])) h)
+  recovery_less p before e none recovery =
+      after_less (span_of p before) e none (is_party p (whose e)) (subst IsRecovery (fold-append (span_after p) Never before (e ∷ [])) recovery)
 
   began_on : (p : ℕ) (before : List (Event T)) (e : Event T) → BeginsNo e → BeganUnlocked p before → BeganUnlocked p (before ++ e ∷ [])
   began_on p before e none h recovers =
       held_later p IsUnlocked before (e ∷ []) (none_one p e none) (h (recovery_less p before e none recovers))
 
   visits_on : (before : List (Event T)) (x e : Event T) → BeginsNo x → VisitsRight before e → VisitsRight (before ++ x ∷ []) e
-  visits_on before x (Copied p index value) none h = began_on p before x none h
-  visits_on before x (Shown p index) none h = began_on p before x none h
-  visits_on before x (FreedOf p index owner) none h = began_on p before x none h
-  visits_on before x e none h = tt
+  visits_on before x (Copied p index value) none visits_right = began_on p before x none visits_right
+  visits_on before x (Shown p index) none visits_right = began_on p before x none visits_right
+  visits_on before x (FreedOf p index owner) none visits_right = began_on p before x none visits_right
+  visits_on before x e none visits_right = tt
 
   -- ---- one turn
 
@@ -109,26 +109,26 @@ module _ {T : Type 0} where
   -- event right
   in_order : (promise : Promise T) (old new : Trace T) (turn : Turn T) → WritesInOrder promise old turn new.events → VisitsUnlocked old new
       → Each VisitsRight old.events → Each VisitsRight new.events
-  in_order promise old new turn w visits h =
-      subst (Each VisitsRight) (sym w.is)
-      (Each-append VisitsRight old.events ((w.effects ++ w.acts) ++ w.ends) h
-      (all_right ((w.effects ++ w.acts) ++ w.ends) old.events
-      (all_and BeginsNo (w.effects ++ w.acts) w.ends
-      (all_and BeginsNo w.effects w.acts
-      (all_so (IsEffectOf turn) BeginsNo (effect_no turn) w.effects w.are_effects)
-      (all_so IsAct BeginsNo act_no w.acts w.are_acts))
-      (all_so (IsEndOf turn) BeginsNo (end_no turn) w.ends w.are_ends))
-      (visits ((w.effects ++ w.acts) ++ w.ends) w.is)))
+  in_order promise old new turn writes_in_order visits each =
+      subst (Each VisitsRight) (sym writes_in_order.is)
+      (Each-append VisitsRight old.events ((writes_in_order.effects ++ writes_in_order.acts) ++ writes_in_order.ends) each
+      (all_right ((writes_in_order.effects ++ writes_in_order.acts) ++ writes_in_order.ends) old.events
+      (all_and BeginsNo (writes_in_order.effects ++ writes_in_order.acts) writes_in_order.ends
+      (all_and BeginsNo writes_in_order.effects writes_in_order.acts
+      (all_so (IsEffectOf turn) BeginsNo (effect_no turn) writes_in_order.effects writes_in_order.are_effects)
+      (all_so IsAct BeginsNo act_no writes_in_order.acts writes_in_order.are_acts))
+      (all_so (IsEndOf turn) BeginsNo (end_no turn) writes_in_order.ends writes_in_order.are_ends))
+      (visits ((writes_in_order.effects ++ writes_in_order.acts) ++ writes_in_order.ends) writes_in_order.is)))
 
   -- a turn that writes down what its promise says keeps each such event right
   one_turn : (promise : Promise T) (old new : Trace T) (turn : Turn T) → WritesDown promise old turn new → VisitsUnlocked old new
       → Each VisitsRight old.events → Each VisitsRight new.events
-  one_turn promise old new (Begin p start) is visits h =
-      subst (Each VisitsRight) (sym is) (Each-append VisitsRight old.events (Begun p start ∷ []) h (tt, tt))
-  one_turn promise old new (Next p) w visits h = in_order promise old new (Next p) w visits h
-  one_turn promise old new (Decide p said) w visits h = in_order promise old new (Decide p said) w visits h
-  one_turn promise old new (Die owner) is visits h =
-      subst (Each VisitsRight) (sym is) (Each-append VisitsRight old.events (Died owner ∷ []) h (tt, tt))
+  one_turn promise old new (Begin p start) is visits each =
+      subst (Each VisitsRight) (sym is) (Each-append VisitsRight old.events (Begun p start ∷ []) each (tt, tt))
+  one_turn promise old new (Next p) writes_down visits each = in_order promise old new (Next p) writes_down visits each
+  one_turn promise old new (Decide p said) writes_down visits each = in_order promise old new (Decide p said) writes_down visits each
+  one_turn promise old new (Die owner) is visits each =
+      subst (Each VisitsRight) (sym is) (Each-append VisitsRight old.events (Died owner ∷ []) each (tt, tt))
 
   -- ---- every run
 
@@ -138,15 +138,15 @@ module _ {T : Type 0} where
   -- each turn of a container that is not refused keeps each such event right
   turn_visits : (t : Trace T) (turn : Turn T) → t.world.kind ≡ kinds.Container → refusal_of t.world turn ≡ None → IsReached t
       → Each VisitsRight t.events → Each VisitsRight (after_turn t turn).events
-  turn_visits t turn is free r h =
-      let turns = container_keeps.turn t turn is free r in
+  turn_visits t turn is free reached each =
+      let turns = container_keeps.turn t turn is free reached in
       let tells : container_promises.TellsRight t turn (after_turn t turn) =
       subst (λ kind. (promise_of {T = T} kind).tells t turn (after_turn t turn)) is turns.tells in
-      one_turn (promise_of t.world.kind) t (after_turn t turn) turn turns.events tells.visits h
+      one_turn (promise_of t.world.kind) t (after_turn t turn) turn turns.events tells.visits each
 
   -- each such event is right in every run of a container
   run_visits : (t : Trace T) → t.world.kind ≡ kinds.Container → IsReached t → Each VisitsRight t.events
-  run_visits t is r =
+  run_visits t is reached =
       (kept_by_runs HasVisited
       (λ u turn free h. (
         reached_more u turn free h.0,
@@ -154,10 +154,10 @@ module _ {T : Type 0} where
       ))
       t
       (λ queue queued. (
-        record { coded = r.coded; admitted = r.admitted; queue = queue; queued = queued; turns = []; is = refl },
+        record { coded = reached.coded; admitted = reached.admitted; queue = queue; queued = queued; turns = []; is = refl },
         λ same. Each-nil VisitsRight,
       ))
-      r).1 is
+      reached).1 is
 
   -- ---- as the headline says it
 
@@ -165,33 +165,33 @@ module _ {T : Type 0} where
   open_recovery : (Stands : Span T → Type 0) → (Stands Never → ⊥)
       → ((start : Start T) (answer : Answer T) (wrote : List (Event T)) → Stands (Ended start answer wrote) → ⊥)
       → (owner : ℕ) (mode : ReleaseMode) (span : Span T) → Stands span → call_in span ≡ Some (Container (Recover owner mode)) → IsRecovery span
-  open_recovery Stands never ended owner mode Never h call = absurd (never h)
-  open_recovery Stands never ended owner mode (Open start wrote) h call =
-      let is : start ≡ Container (Recover owner mode) = cc in
-      subst (λ (s : Start T). IsRecovery (Open s wrote)) (sym is) tt
-  open_recovery Stands never ended owner mode (Ended start answer wrote) h call = absurd (ended start answer wrote h)
+  open_recovery Stands never ended owner mode Never stands call = absurd (never stands)
+  open_recovery Stands never ended owner mode (Open start wrote) stands call =
+      let start_is : start ≡ Container (Recover owner mode) = cc in
+      subst (λ (s : Start T). IsRecovery (Open s wrote)) (sym start_is) tt
+  open_recovery Stands never ended owner mode (Ended start answer wrote) stands call = absurd (ended start answer wrote stands)
 
   -- where a recovery comes to an index, the container was unlocked at a moment of that call
   pub visits_unlocked : (t : Trace T) → t.world.kind ≡ kinds.Container → IsReached t → IsKeptBy container_promises.promise t
       → (p owner : ℕ) (mode : ReleaseMode) (e : Event T) (before : List (Event T)) → IsVisit p e → Follows e before t.events
       → call_in (span_of p before) ≡ Some (Container (Recover owner mode))
       → HeldSometime p IsUnlocked before
-  visits_unlocked t is r kept p owner mode (Copied q index value) before its at call =
+  visits_unlocked t is reached kept p owner mode (Copied q index value) before its at call =
       let here : call_in (span_of q before) ≡ Some (Container (Recover owner mode)) = rw its call in
       subst (λ n. HeldSometime n IsUnlocked before) its
-      (run_visits t is r before at.0 (Copied q index value) at.1
+      (run_visits t is reached before at.0 (Copied q index value) at.1
       (open_recovery (may_stand (Copied q index value)) (λ h. h) (λ start answer wrote h. h) owner mode (span_of q before)
       (kept.spans before at.0 (Copied q index value) at.1) here))
-  visits_unlocked t is r kept p owner mode (Shown q index) before its at call =
+  visits_unlocked t is reached kept p owner mode (Shown q index) before its at call =
       let here : call_in (span_of q before) ≡ Some (Container (Recover owner mode)) = rw its call in
       subst (λ n. HeldSometime n IsUnlocked before) its
-      (run_visits t is r before at.0 (Shown q index) at.1
+      (run_visits t is reached before at.0 (Shown q index) at.1
       (open_recovery (may_stand (Shown q index)) (λ h. h) (λ start answer wrote h. h) owner mode (span_of q before)
       (kept.spans before at.0 (Shown q index) at.1) here))
-  visits_unlocked t is r kept p owner mode (FreedOf q index of) before its at call =
+  visits_unlocked t is reached kept p owner mode (FreedOf q index of) before its at call =
       let here : call_in (span_of q before) ≡ Some (Container (Recover owner mode)) = rw its call in
       subst (λ n. HeldSometime n IsUnlocked before) its
-      (run_visits t is r before at.0 (FreedOf q index of) at.1
+      (run_visits t is reached before at.0 (FreedOf q index of) at.1
       (open_recovery (may_stand (FreedOf q index of)) (λ h. h) (λ start answer wrote h. h) owner mode (span_of q before)
       (kept.spans before at.0 (FreedOf q index of) at.1) here))
-  visits_unlocked t is r kept p owner mode e before its at call = absurd its
+  visits_unlocked t is reached kept p owner mode e before its at call = absurd its

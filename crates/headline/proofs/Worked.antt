@@ -48,7 +48,7 @@ few : (holders : List ℕ) → length holders ≤ 1 → length holders ≡ 2 →
 few holders some two = absurd (omega arith)
 
 both_refused : NoTwoHold {T = ℕ} claims both → ⊥
-both_refused h = few (holders claims 3 both) (h both [] refl 3) refl
+both_refused no_two_hold = few (holders claims 3 both) (no_two_hold both [] refl 3) refl
 
 -- one holds it at the lock
 held_at_lock : NoneOnceLocked {T = ℕ} claims (Claimed 0 3 ∷ Locked 1 ∷ []) → ⊥

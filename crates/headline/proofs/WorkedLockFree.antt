@@ -40,7 +40,7 @@ queue_bound = (refl, refl)
 value_bound : (at (lock_free_bound Atomic) 2 1 1 ≡ Some 6) × (at (lock_free_bound Atomic) 3 1 2 ≡ Some 15)
 value_bound = (refl, refl)
 
--- of three bits in one word, and of 130 in three
+-- the bounds of three bits in one word, and of 130 bits in three words
 bits_bound : (at (lock_free_bound Bits) 1 3 1 ≡ Some 5) × (at (lock_free_bound Bits) 2 130 1 ≡ Some 792)
 bits_bound = (refl, refl)
 
@@ -172,15 +172,15 @@ none_more : (before after ended : ℕ) → before ≡ ended → after ≡ ended 
 none_more before after ended was is less = absurd (omega arith)
 
 more_steps : (most steps here : ℕ) → here ≡ steps → most < steps → most < here
-more_steps most steps here e h = omega arith
+more_steps most steps here all_taken most_below = omega arith
 
 -- a run in which no call ends for so many steps refuses each smaller bound
 no_less : (t : Trace ℕ) (kind : Kind) (turns : List (Turn ℕ)) (steps : ℕ) → IsEndless t kind turns steps
     → (bound : Bound) → bound 1 1 1 < steps → IsLockFreeOf ℕ kind IsDefault bound → ⊥
-no_less t kind turns steps h bound few free =
-    none_more (ends t.events) (ends (after_turns t turns).events) 1 h.ended_before h.ended_after
-    (free t h.is h.reached h.such_before 1 turns h.allowed h.below h.such
-    (more_steps (bound 1 t.world.capacity t.world.coding.size) steps (steps_in t turns) h.many (rw (h.capacity, h.size) few)))
+no_less t kind turns steps endless bound few free =
+    none_more (ends t.events) (ends (after_turns t turns).events) 1 endless.ended_before endless.ended_after
+    (free t endless.is endless.reached endless.such_before 1 turns endless.allowed endless.below endless.such
+    (more_steps (bound 1 t.world.capacity t.world.coding.size) steps (steps_in t turns) endless.many (rw (endless.capacity, endless.size) few)))
 
 -- an index of the robust set is acquired for owner 1, who dies
 abbrev acquired : List (Turn ℕ)

@@ -121,6 +121,7 @@ command (Times party most) s = several most party s
 abbrev AreAlike : Output → Output → Type 0
 AreAlike o whole = (o ≡ whole) ⊎ IsSameBefore o.text whole.text
 
+-- what the program prints from a line on, given how the line was read
 abbrev line_as : Kind → ℕ → List (List ℕ) → State → Result Command Cause → Output
 line_as kind number lines s read =
     elim read [

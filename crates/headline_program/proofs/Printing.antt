@@ -138,6 +138,7 @@ several (suc most) party s before r =
     choose (goes_on party o) s.world before o (nexts most party on) (later s.refusals) first
     (several most party on (before ++ flat_map events_in first.lines) first.reached)
 
+-- each command prints what the machine does on it, and leaves the world that the machine reaches
 command : (c : Command) (s : State) (before : List (Event ℕ)) → IsReached (machine_in s.world before)
     → Prints s.world before (commanded c s).text (commanded c s).state.world
 command (Once turn) s before r = one_turn s.world before turn (is_short s.refusals) r
@@ -149,6 +150,7 @@ pub record Ends (w : World ℕ) (before : List (Event ℕ)) (text : List ℕ) : 
   pub new : World ℕ
   pub prints : Prints w before text new
 
+-- what the program prints from a line on, given how the line was read
 abbrev line_as : Kind → ℕ → List (List ℕ) → State → Result Command Cause → Output
 line_as kind number lines s read =
     elim read [

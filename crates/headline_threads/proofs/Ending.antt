@@ -146,7 +146,7 @@ pub record EndsAll (T : Type 0) (kind : Kind) (bound : Bound) : Type 0 where
   pub asks : KnownAsksLoad T kind bound
   pub rest : PassesRest T kind bound
 
--- and where none may lock
+-- all that follows where none may lock
 pub record EndsDefault (T : Type 0) (kind : Kind) (bound : Bound) : Type 0 where
   pub end : PassesEndOf T kind IsDefault bound
   pub keep : PassesKeepEndingOf T kind IsDefault bound

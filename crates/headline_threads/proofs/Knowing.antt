@@ -64,7 +64,7 @@ module _ {T : Type 0} where
     abbrev most : ℕ → ℕ
     most n = bound n capacity code.size
 
-    -- of the first turns of a list, and of the others
+    -- what is known of the first turns of a list, and of those after them
     record Later (first rest : List (Turn T)) (n : ℕ) : Type 0 where
       pub of_kind : (so_far first).world.kind ≡ kind
       pub sized : (so_far first).world.capacity ≡ capacity
@@ -121,12 +121,14 @@ module _ {T : Type 0} where
           → AllByRecursion (BeginsSuch Such) turns
           → AreWithinEnds (most n) (steps_in (so_far first) turns) (ends (so_far first).events) (ends (after_turns (so_far first) turns).events)
       all_end turns allowed below such =
-          let t = so_far first in
-          subst (λ (c : ℕ). AreWithinEnds (bound n c code.size) (steps_in t turns) (ends t.events) (ends (after_turns t turns).events)) h.sized
-          (subst (λ (c : Coding T). AreWithinEnds (bound n t.world.capacity c.size) (steps_in t turns) (ends t.events)
-          (ends (after_turns t turns).events))
+          let run_now = so_far first in
+          subst (λ (c : ℕ). AreWithinEnds (bound n c code.size) (steps_in run_now turns) (ends run_now.events)
+          (ends (after_turns run_now turns).events))
+          h.sized
+          (subst (λ (c : Coding T). AreWithinEnds (bound n run_now.world.capacity c.size) (steps_in run_now turns) (ends run_now.events)
+          (ends (after_turns run_now turns).events))
           h.coded
-          (R.keeps t h.of_kind h.reached h.such_before n turns allowed below such))
+          (R.keeps run_now h.of_kind h.reached h.such_before n turns allowed below such))
 
       ends_within : AreWithinEnds (most n) (steps_in (so_far first) rest) (ends (so_far first).events) (ends (so_far (first ++ rest)).events)
       ends_within =
@@ -136,20 +138,20 @@ module _ {T : Type 0} where
       -- the steps of the others are at most the load of the calls that had not ended
       load_of : steps_in (so_far first) rest ≤ load (most n) (begun (so_far (first ++ rest)).events - ends (so_far first).events)
       load_of =
-          let t = so_far first in
+          let run_now = so_far first in
           let steps =
-          load_within (refusal_as kind) R.possible n (λ turn. IsBelow n turn × BeginsSuch Such turn) (λ turn may. may.0) (most n) t rest h.allowed
+          load_within (refusal_as kind) R.possible n (λ turn. IsBelow n turn × BeginsSuch Such turn) (λ turn may. may.0) (most n) run_now rest h.allowed
           (both (IsBelow n) (BeginsSuch Such) rest h.below h.such)
           (λ turns allowed may.
           all_end turns allowed (first_all (IsBelow n) (BeginsSuch Such) turns may) (second_all (IsBelow n) (BeginsSuch Such) turns may)) in
           let under = counted (refusal_as kind) R.possible n start first h.allowed_before h.below_before in
           let none = none_pending n code kind capacity in
           let began = begins_are start first in
-          let begins = begins_are t rest in
-          let runs : begun (so_far (first ++ rest)).events ≡ begun (after_turns t rest).events
+          let begins = begins_are run_now rest in
+          let runs : begun (so_far (first ++ rest)).events ≡ begun (after_turns run_now rest).events
           = ap (λ (u : Trace T). begun u.events) (turns_after start first rest) in
-          let same : pending n t.world + begins_in rest ≡ begun (so_far (first ++ rest)).events - ends t.events = omega arith in
-          subst (λ k. steps_in t rest ≤ load (most n) k) same steps
+          let same : pending n run_now.world + begins_in rest ≡ begun (so_far (first ++ rest)).events - ends run_now.events = omega arith in
+          subst (λ k. steps_in run_now rest ≤ load (most n) k) same steps
 
     -- ---- of what a pass knows
 

@@ -42,7 +42,7 @@ all_but_allowed : IsCoding one_word
 all_but_allowed = (one_word_codes, (refl, ((tt, (tt, tt)), refl)))
 
 busy : IsKnown kinds.Indices 1 again → ⊥
-busy h = let e = h.allowed.1.0 in cc
+busy known = cc (known.allowed.1.0)
 
 -- the first of both it may know
 one_begun : IsKnown kinds.Indices 1 (Begin 0 acquire ∷ [])
@@ -60,14 +60,14 @@ one_begun =
 -- ---- a party without a call goes on, a party without the role pushes, a set of indices is told of a death
 
 idle : IsKnown kinds.Indices 1 (Next 0 ∷ []) → ⊥
-idle h = let e = h.allowed.0 in cc
+idle known = cc (known.allowed.0)
 
 no_role : IsKnown kinds.IndexQueue 1 (Begin 0 (Queues (PushIndex 7)) ∷ []) → ⊥
-no_role h = let e = h.allowed.0 in cc
+no_role known = cc (known.allowed.0)
 
 no_owners : IsKnown kinds.Indices 1 (Die 0 ∷ []) → ⊥
-no_owners h = let e = h.allowed.0 in cc
+no_owners known = cc (known.allowed.0)
 
 -- a call of another kind
 other_kind : IsKnown kinds.Indices 1 (Begin 0 (Robust (Find 7)) ∷ []) → ⊥
-other_kind h = let e = h.allowed.0 in cc
+other_kind known = cc (known.allowed.0)

@@ -129,12 +129,12 @@ loads = (refl, refl)
 took_five : steps_in (opening one_word kinds.Indices 1 0) knows.turns ≡ 5
 took_five = refl
 
--- its events are of two parties
+-- the events are of the parties 0 and 1
 below_two : AreBelow 2 knows.seen
 below_two = (omega arith, (omega arith, (omega arith, (omega arith, (omega arith, tt)))))
 
 none_above : AreBelow 1 knows.seen → ⊥
-none_above h = absurd (omega (h.1.1.1.0, arith))
+none_above below = absurd (omega (below.1.1.1.0, arith))
 
 -- ---- what the definitions refuse
 
@@ -150,7 +150,7 @@ same_events : (after mine).events ≡ (after others).events
 same_events = refl
 
 another_run : Continues one_word kinds.Indices 1 (knowing mine) (knowing others) → ⊥
-another_run h = let e = h.first.is in cc
+another_run continues = cc (continues.first.is)
 
 -- all that a call says of its pass but that its run went on
 as_much : (knowing others).share ≡ (knowing mine).share
@@ -159,12 +159,12 @@ as_much : (knowing others).share ≡ (knowing mine).share
 as_much = (refl, record { rest = []; is = refl }, λ all f. refl)
 
 not_gone_on : Goes (knowing mine) (knowing others) → ⊥
-not_gone_on h = let e = h.first.is in cc
+not_gone_on goes = cc (goes.first.is)
 
 -- a pass that has seen the events of a turn that is not among its turns
 module _ (turns : List (Turn ℕ)) (turn : Turn ℕ) (e : Event ℕ) (wrote : List (Event ℕ))
     (writes : events_of (after turns).world turn ≡ e ∷ wrote) where
-  -- that pass knows no run
+  -- a pass that lacks the last turn knows no run
   one_too_few : Knows one_word kinds.Indices 1 (told turns (after (turns ++ turn ∷ [])).events) → ⊥
   one_too_few h =
       let start : Trace ℕ = opening one_word kinds.Indices 1 0 in
@@ -180,7 +180,7 @@ last_left_out h = one_too_few (begins 0 acquire 3) (Next 0) _ _ refl h
 
 -- nor does it count a change by another that its run does not have
 one_change_too_many : Knows one_word kinds.Indices 1 (record knows { others = 1 }) → ⊥
-one_change_too_many h = let e = h.others in cc
+one_change_too_many h = cc (h.others)
 
 -- nor has it asked for less than the run took, where it has the whole share, or for more
 one_asked_too_few : Knows one_word kinds.Indices 1 (record knows { asked = 4 }) → ⊥

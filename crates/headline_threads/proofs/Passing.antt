@@ -51,7 +51,7 @@ module _ {T : Type 0} where
 
   -- ---- turns are of the parties of the events, and begin the calls of the events
 
-  -- whose call is under way is below n
+  -- each party whose call is under way is below n
   abbrev Under : ℕ → World T → Type 0
   Under n w = (p : ℕ) → (p < n) ⊎ (call_in w p ≡ None)
 
@@ -59,7 +59,7 @@ module _ {T : Type 0} where
   going_below n w p under may = ⊎_elim (λ below. below) idle (under p)
     where
       idle : call_in w p ≡ None → p < n
-      idle none = let no : flight_in w p ≡ None = no_flight w p none in let is = may.is in absurd (cc)
+      idle none = let nothing : flight_in w p ≡ None = no_flight w p none in absurd (cc (may.is))
 
   still_under : (n p : ℕ) (u w : World T) → p < n → ((q : ℕ) → q ≢ p → call_in w q ≡ call_in u q) → Under n u → Under n w
   still_under n p u w low same under q =
@@ -94,7 +94,7 @@ module _ {T : Type 0} where
   all_such Such t (turn ∷ turns) such =
       (one_such Such t.world turn (first_turn (λ e. IfSome (begun_as e) Such) t turn turns such), all_such Such (after_turn t turn) turns such)
 
-  -- where any call may begin
+  -- events begin such calls where any call may begin
   pub any_such : (events : List (Event T)) → BeginSuch (λ start. Unit {0}) events
   any_such [] = tt
   any_such (e ∷ events) = (any (begun_as e), any_such events)

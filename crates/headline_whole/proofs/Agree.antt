@@ -61,6 +61,7 @@ module _ {T : Type 0} where
   IsNoLook (containers.Look which call) = ⊥
   IsNoLook flight = Unit {0}
 
+  -- the call, its stage and the registry are of one kind, and a call of a container is no look
   abbrev pub Agree : Start T → Flight T → Registry T → Type 0
   Agree (starts.Bits start) (flights.Bits flight) registries.Nothing = Unit {0}
   Agree (starts.Indices start) (flights.Indices flight) (registries.Indices holders) = Unit {0}
@@ -74,12 +75,14 @@ module _ {T : Type 0} where
   pub goes_so : (code : Coding T) (words : List ℕ) (beside : Option (ℕ × ℕ)) (p : ℕ) (start : Start T) (flight : Flight T) (old : ℕ)
       (kept : Registry T) → Agree start flight kept
       → (step_of code words beside p start flight old kept).after ≡ after_of code flight old
-  goes_so code words beside p (starts.Bits start) (flights.Bits flight) old registries.Nothing h = refl
-  goes_so code words beside p (starts.Indices start) (flights.Indices flight) old (registries.Indices holders) h = refl
-  goes_so code words beside p (starts.Robust start) (flights.Robust flight) old (registries.Owners dead) h = refl
-  goes_so code words beside p (starts.Container start) (flights.Container (containers.Look which call)) old (registries.Container dead states) h = absurd h
-  goes_so code words beside p (starts.Container start) (flights.Container flight) old (registries.Container dead states) h = refl
-  goes_so code words beside p start flight old kept h = absurd h
+  goes_so code words beside p (starts.Bits start) (flights.Bits flight) old registries.Nothing agree = refl
+  goes_so code words beside p (starts.Indices start) (flights.Indices flight) old (registries.Indices holders) agree = refl
+  goes_so code words beside p (starts.Robust start) (flights.Robust flight) old (registries.Owners dead) agree = refl
+  goes_so code words beside p (starts.Container start) (flights.Container (containers.Look which call)) old
+      (registries.Container dead states) agree =
+      absurd agree
+  goes_so code words beside p (starts.Container start) (flights.Container flight) old (registries.Container dead states) agree = refl
+  goes_so code words beside p start flight old kept agree = absurd agree
 
   -- ---- and then stays one of its family
 
@@ -103,49 +106,49 @@ module _ {T : Type 0} where
   pub agrees_then : (code : Coding T) (words : List ℕ) (beside : Option (ℕ × ℕ)) (p : ℕ) (start : Start T) (flight : Flight T) (old : ℕ)
       (kept : Registry T) (d : Flight T) → Agree start flight kept → after_of code flight old ≡ GoOn d
       → Agree start d (step_of code words beside p start flight old kept).kept
-  agrees_then code words beside p (starts.Bits start) (flights.Bits flight) old registries.Nothing d h e =
+  agrees_then code words beside p (starts.Bits start) (flights.Bits flight) old registries.Nothing d agree e =
       stays (starts.Bits start) registries.Nothing flights.Bits (λ r. tt) d (bits_calls.after flight old) e
-  agrees_then code words beside p (starts.Indices start) (flights.Indices flight) old (registries.Indices holders) d h e =
+  agrees_then code words beside p (starts.Indices start) (flights.Indices flight) old (registries.Indices holders) d agree e =
       stays (starts.Indices start)
       (step_of code words beside p (starts.Indices start) (flights.Indices flight) old (registries.Indices holders)).kept
       flights.Indices (λ r. tt) d (index_calls.after flight old) e
-  agrees_then code words beside p (starts.Robust start) (flights.Robust flight) old (registries.Owners dead) d h e =
+  agrees_then code words beside p (starts.Robust start) (flights.Robust flight) old (registries.Owners dead) d agree e =
       stays (starts.Robust start)
       (step_of code words beside p (starts.Robust start) (flights.Robust flight) old (registries.Owners dead)).kept
       flights.Robust (λ r. tt) d (robust_calls.after flight old) e
-  agrees_then code words beside p (starts.Container start) (flights.Container (containers.Add run)) old (registries.Container dead states) d h e =
+  agrees_then code words beside p (starts.Container start) (flights.Container (containers.Add run)) old (registries.Container dead states) d agree e =
       still_none start (registries.Container dead states) containers.Add container_calls.added (λ r. tt) d
       (went_on as_it_is run.given run.room (add_after code.size run.call old)) e
-  agrees_then code words beside p (starts.Container start) (flights.Container (containers.Remove run)) old (registries.Container dead states) d h e =
+  agrees_then code words beside p (starts.Container start) (flights.Container (containers.Remove run)) old (registries.Container dead states) d agree e =
       still_none start (registries.Container dead states) containers.Remove container_calls.removed (λ r. tt) d
       (went_on as_it_is run.given run.room (remove_after run.call run.given old)) e
-  agrees_then code words beside p (starts.Container start) (flights.Container (containers.Replace run)) old (registries.Container dead states) d h e =
+  agrees_then code words beside p (starts.Container start) (flights.Container (containers.Replace run)) old (registries.Container dead states) d agree e =
       still_none start (registries.Container dead states) containers.Replace container_calls.replaced (λ r. tt) d
       (went_on as_it_is run.given run.room (replace_after code.size run.call run.given old)) e
-  agrees_then code words beside p (starts.Container start) (flights.Container (containers.Find run)) old (registries.Container dead states) d h e =
+  agrees_then code words beside p (starts.Container start) (flights.Container (containers.Find run)) old (registries.Container dead states) d agree e =
       still_none start (registries.Container dead states) containers.Find answers.Number (λ r. tt) d
       (went_on as_it_is run.given (find_kept kept_at run.call run.room old) (find_after code.size run.call run.given old)) e
-  agrees_then code words beside p (starts.Container start) (flights.Container (containers.Recover run)) old (registries.Container dead states) d h e =
+  agrees_then code words beside p (starts.Container start) (flights.Container (containers.Recover run)) old (registries.Container dead states) d agree e =
       still_none start (registries.Container dead states) containers.Recover answers.State (λ r. tt) d
       (went_on as_it_is run.given (recover_kept kept_at run.call run.room old) (recover_after code.size run.call run.given old)) e
-  agrees_then code words beside p (starts.Container start) (flights.Container (containers.Look which call)) old (registries.Container dead states) d h e =
-      absurd h
-  agrees_then code words beside p (starts.Container start) (flights.Container (containers.Count which run)) old (registries.Container dead states) d h e =
+  agrees_then code words beside p (starts.Container start) (flights.Container (containers.Look which call)) old (registries.Container dead states) d agree e =
+      absurd agree
+  agrees_then code words beside p (starts.Container start) (flights.Container (containers.Count which run)) old (registries.Container dead states) d agree e =
       still_none start (registries.Container dead states) (λ r. containers.Count which r) (container_calls.counted which) (λ r. tt) d
       (went_on as_it_is run.given run.room (borrowed_after run.call old)) e
-  agrees_then code words beside p (starts.Container start) (flights.Container (containers.IsLocked run)) old (registries.Container dead states) d h e =
+  agrees_then code words beside p (starts.Container start) (flights.Container (containers.IsLocked run)) old (registries.Container dead states) d agree e =
       still_none start (registries.Container dead states) containers.IsLocked answers.Truth (λ r. tt) d
       (went_on as_it_is run.given run.room (locked_after run.call old)) e
-  agrees_then code words beside p start flight old kept d h e = absurd h
+  agrees_then code words beside p start flight old kept d agree e = absurd agree
 
   -- the call stays one of the family as an owner dies
   pub agrees_still : (start : Start T) (flight : Flight T) (kept : Registry T) (owner : ℕ) → Agree start flight kept
       → Agree start flight (kept_after_death kept owner)
-  agrees_still (starts.Bits start) (flights.Bits flight) registries.Nothing owner h = tt
-  agrees_still (starts.Indices start) (flights.Indices flight) (registries.Indices holders) owner h = tt
-  agrees_still (starts.Robust start) (flights.Robust flight) (registries.Owners dead) owner h = tt
-  agrees_still (starts.Container start) (flights.Container flight) (registries.Container dead states) owner h = h
-  agrees_still start flight kept owner h = absurd h
+  agrees_still (starts.Bits start) (flights.Bits flight) registries.Nothing owner agree = tt
+  agrees_still (starts.Indices start) (flights.Indices flight) (registries.Indices holders) owner agree = tt
+  agrees_still (starts.Robust start) (flights.Robust flight) (registries.Owners dead) owner agree = tt
+  agrees_still (starts.Container start) (flights.Container flight) (registries.Container dead states) owner agree = agree
+  agrees_still start flight kept owner agree = absurd agree
 
   -- ---- and writes no end of a call but its own
 
@@ -177,6 +180,7 @@ module _ {T : Type 0} where
         set_writes (sets.ExchangesElement found) = if_writes (old == found) (events.Set p run.given) refl
     bit_writes p (bit_flights.ResetNext run) old = reset_writes run.call.stage
       where
+        -- no stage of a reset writes the answer of a call
         reset_writes : (stage : ResetNextStage) → flat_map (whole.answer_in is_call) (bits_steps.reset_events {T = T} p run.call.capacity stage old) ≡ []
         reset_writes (resets.ExchangesElement start passed found) =
             if_writes (old == found) (events.Cleared p (place_after run.call.capacity start passed)) refl
@@ -206,11 +210,11 @@ module _ {T : Type 0} where
     pub writes_none : (code : Coding T) (words : List ℕ) (beside : Option (ℕ × ℕ)) (p : ℕ) (start : Start T) (flight : Flight T) (old : ℕ)
         (kept : Registry T) → Agree start flight kept
         → flat_map (whole.answer_in is_call) (step_of code words beside p start flight old kept).wrote ≡ []
-    writes_none code words beside p (starts.Bits start) (flights.Bits flight) old registries.Nothing h = bit_writes p flight old
-    writes_none code words beside p (starts.Indices start) (flights.Indices flight) old (registries.Indices holders) h =
+    writes_none code words beside p (starts.Bits start) (flights.Bits flight) old registries.Nothing agree = bit_writes p flight old
+    writes_none code words beside p (starts.Indices start) (flights.Indices flight) old (registries.Indices holders) agree =
         index_writes p (index_steps.frees flight) (answer_in (index_calls.after {T = T} flight old))
-    writes_none code words beside p (starts.Robust start) (flights.Robust flight) old (registries.Owners dead) h =
+    writes_none code words beside p (starts.Robust start) (flights.Robust flight) old (registries.Owners dead) agree =
         effects_none (Next p) (robust_steps.effects p flight old) (robust.all_effects (Next p) p refl flight old)
-    writes_none code words beside p (starts.Container start) (flights.Container flight) old (registries.Container dead states) h =
+    writes_none code words beside p (starts.Container start) (flights.Container flight) old (registries.Container dead states) agree =
         container_writes code p flight old states
-    writes_none code words beside p start flight old kept h = absurd h
+    writes_none code words beside p start flight old kept agree = absurd agree

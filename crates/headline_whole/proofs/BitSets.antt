@@ -70,10 +70,10 @@ none_stands capacity start m =
 empties : (capacity : ℕ) (words : List ℕ) → Represents capacity words → Emptied capacity words
 empties capacity [] fits = let long : 0 ≡ 1 + elements capacity = fits.long in absurd (omega arith)
 empties capacity (start ∷ words) fits =
-    let n : length words ≡ elements capacity =
+    let same_length : length words ≡ elements capacity =
     let long : suc (length words) ≡ 1 + elements capacity = fits.long in omega arith in
     let same : cleared (start ∷ words) 1 (elements capacity) ≡ start ∷ replicate (elements capacity) 0 =
-    subst (λ m. cleared (start ∷ words) 1 m ≡ start ∷ replicate m 0) n (all_but_first start words) in
+    subst (λ m. cleared (start ∷ words) 1 m ≡ start ∷ replicate m 0) same_length (all_but_first start words) in
     let long = length-replicate {A = ℕ} (elements capacity) 0 in
     record {
       fits = subst (Represents capacity) (sym same)
@@ -87,6 +87,7 @@ empties capacity (start ∷ words) fits =
     }
 
 module _ {T : Type 0} where
+  -- a bit set as an object: what its calls do to a set of places, and how the words represent one
   abbrev pub places_reading : ℕ → Reading T
   places_reading capacity =
       record {
@@ -96,6 +97,7 @@ module _ {T : Type 0} where
         read = places_in capacity;
       }
 
+  -- a counting bit set as an object: a list of counts, of which each word holds one
   abbrev pub counts_reading : ℕ → Reading T
   counts_reading capacity =
       record {
@@ -250,7 +252,7 @@ module _ {T : Type 0} where
     places_begin : (t : Trace T) (p : ℕ) (start : Start T) (flight : Flight T) → IsReached t → IsMadeSo code kinds.Bits capacity t
         → refusal_of t.world (Begin p start) ≡ None → Represents capacity t.world.words
         → first_of kinds.Bits capacity start t.world.kept ≡ Some flight → BeginsSo (places_reading capacity) code t p start flight
-    places_begin t p (starts.Bits start) flight r made free fits named =
+    places_begin t p (starts.Bits start) flight reached made free fits named =
         go start named
         (subst (λ n. first_row (kept_rows n start t.world.kept p) ≡ None) made.capacity
         (may_begin t.world p (starts.Bits start) (passes t.world (Begin p (starts.Bits start)) free).on).rows)
@@ -280,7 +282,7 @@ module _ {T : Type 0} where
             so (calls.IsSet place) (under_way.IsSet (record { call = look_set; given = place; room = tt })) (same_flight _ flight e) rows
             (looks code capacity t.world.turns t.world.words fits place (low_look capacity p place t.world.kept rows))
         go (calls.Count place) e rows = absurd (cc)
-    places_begin t p start flight r made free fits named = absurd (cc)
+    places_begin t p start flight reached made free fits named = absurd (cc)
 
     -- a bit set whose calls run whole is a set of places
     pub places_law : capacity_error kinds.Bits capacity ≡ None → Law (places_reading capacity) code kinds.Bits capacity
@@ -304,7 +306,7 @@ module _ {T : Type 0} where
       counts_begin : (t : Trace T) (p : ℕ) (start : Start T) (flight : Flight T) → IsReached t → IsMadeSo code kinds.Counts capacity t
           → refusal_of t.world (Begin p start) ≡ None → length t.world.words ≡ capacity
           → first_of kinds.Counts capacity start t.world.kept ≡ Some flight → BeginsSo (counts_reading capacity) code t p start flight
-      counts_begin t p (starts.Bits start) flight r made free long named =
+      counts_begin t p (starts.Bits start) flight reached made free long named =
           go start named
           (subst (λ n. first_row (kept_rows n start t.world.kept p) ≡ None) made.capacity
           (may_begin t.world p (starts.Bits start) (passes t.world (Begin p (starts.Bits start)) free).on).rows)
@@ -332,7 +334,7 @@ module _ {T : Type 0} where
           go (calls.Count place) e rows =
               so (calls.Count place) (under_way.CountOf (record { call = look_count; given = place; room = tt })) (same_flight _ flight e) rows
               (look_counts code capacity t.world.turns t.world.words long place)
-      counts_begin t p start flight r made free long named = absurd (cc)
+      counts_begin t p start flight reached made free long named = absurd (cc)
 
     -- a counting bit set whose calls run whole is a list of counts
     pub counts_law : capacity_error kinds.Counts capacity ≡ None → Law (counts_reading capacity) code kinds.Counts capacity

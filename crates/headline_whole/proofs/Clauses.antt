@@ -30,13 +30,13 @@ module _ {T : Type 0} where
   -- ---- queues
 
   acts_as_list : (kind : QueueKind) (queue : ℕ) (t : Trace T) → Runs (kind_of kind) queue t → ActAs (as_list kind t.world.capacity) t.events
-  acts_as_list queues.IndexQueue queue t h = h.list
-  acts_as_list queues.Overflow queue t h = h.list
-  acts_as_list queues.Queue queue t h = h.list
+  acts_as_list queues.IndexQueue queue t runs = runs.list
+  acts_as_list queues.Overflow queue t runs = runs.list
+  acts_as_list queues.Queue queue t runs = runs.list
 
   pub acts : (kind : QueueKind) (queue : ℕ) (t : Trace T) → Runs t.world.kind queue t → t.world.kind ≡ kind_of kind
       → ActAs (as_list kind t.world.capacity) t.events
-  acts kind queue t h is = acts_as_list kind queue t (subst (λ k. Runs k queue t) is h)
+  acts kind queue t runs is = acts_as_list kind queue t (subst (λ k. Runs k queue t) is runs)
 
   -- ---- holders
 
@@ -54,11 +54,11 @@ module _ {T : Type 0} where
 
   -- in a well-formed run no index has two holders
   pub one_holder : (kind : Kind) (queue : ℕ) (t : Trace T) → Runs kind queue t → IsWellFormedFor kind t.events → NoTwoHold (hand_of kind) t.events
-  one_holder kinds.Indices queue t h right = h.no_two_hold
-  one_holder kinds.Robust queue t h right = h.no_two_hold right
-  one_holder kinds.Container queue t h right = h.no_two_hold right
-  one_holder kinds.Loan queue t h right = h.no_two_hold
-  one_holder kind queue t h right = no_hand (hand_of kind) (λ e. refl) t.events
+  one_holder kinds.Indices queue t runs right = runs.no_two_hold
+  one_holder kinds.Robust queue t runs right = runs.no_two_hold right
+  one_holder kinds.Container queue t runs right = runs.no_two_hold right
+  one_holder kinds.Loan queue t runs right = runs.no_two_hold
+  one_holder kind queue t runs right = no_hand (hand_of kind) (λ e. refl) t.events
 
   -- a channel is never locked
   unlocked : (t : Trace T) → IsKeptBy (promise_of kinds.Loan) t → Always (λ past. is_locked past ≡ false) t.events
@@ -75,11 +75,11 @@ module _ {T : Type 0} where
   -- in a well-formed run no index has a holder once the set is locked
   pub none_locked : (kind : Kind) (queue : ℕ) (t : Trace T) → Runs kind queue t → IsKeptBy (promise_of kind) t → IsWellFormedFor kind t.events
       → NoneOnceLocked (hand_of kind) t.events
-  none_locked kinds.Indices queue t h kept right = h.none_once_locked
-  none_locked kinds.Robust queue t h kept right = h.none_once_locked right
-  none_locked kinds.Container queue t h kept right = h.none_once_locked right
-  none_locked kinds.Loan queue t h kept right = λ past future is locked i. let off = unlocked t kept past future is in absurd (cc)
-  none_locked kind queue t h kept right = no_hand_locked (hand_of kind) (λ e. refl) t.events
+  none_locked kinds.Indices queue t runs kept right = runs.none_once_locked
+  none_locked kinds.Robust queue t runs kept right = runs.none_once_locked right
+  none_locked kinds.Container queue t runs kept right = runs.none_once_locked right
+  none_locked kinds.Loan queue t runs kept right = λ past future is locked i. let off = unlocked t kept past future is in absurd (cc)
+  none_locked kind queue t runs kept right = no_hand_locked (hand_of kind) (λ e. refl) t.events
 
   -- ---- recoveries
 
@@ -89,10 +89,10 @@ module _ {T : Type 0} where
       → Follows (Finished p start (State Unlocked)) before t.events
       → MayFree index owner (Some start) (set_acts_of p before) (acts_of p before)
       → filled_of index before ≢ Some owner
-  leaves_none kinds.Robust queue t h p index owner (starts.Robust (robust.Recover mode)) before is at free = h.recovered p index owner mode before at free
-  leaves_none kinds.Robust queue t h p index owner start before is at free = absurd is
-  leaves_none kinds.Container queue t h p index owner (starts.Container (containers.Recover o mode)) before is at free =
-      h.recovered p index owner mode before
+  leaves_none kinds.Robust queue t runs p index owner (starts.Robust (robust.Recover mode)) before is at free = runs.recovered p index owner mode before at free
+  leaves_none kinds.Robust queue t runs p index owner start before is at free = absurd is
+  leaves_none kinds.Container queue t runs p index owner (starts.Container (containers.Recover o mode)) before is at free =
+      runs.recovered p index owner mode before
       (subst (λ n. Follows (Finished p (starts.Container (containers.Recover n mode)) (State Unlocked)) before t.events) free.0 at) free.1
-  leaves_none kinds.Container queue t h p index owner start before is at free = absurd is
-  leaves_none kind queue t h p index owner start before is at free = absurd is
+  leaves_none kinds.Container queue t runs p index owner start before is at free = absurd is
+  leaves_none kind queue t runs p index owner start before is at free = absurd is

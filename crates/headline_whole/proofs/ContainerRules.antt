@@ -127,15 +127,15 @@ module _ {T : Type 0} (code : Coding T) (coded : IsCoding code) (capacity : ℕ)
       → first_of kinds.Container capacity start t.world.kept ≡ Some flight
       → Begun code coded capacity (seen code coded capacity t.world.words (views_in (states_in t.world.kept))) p start [] flight t.world.words
       (kept_after_begin t.world.coding t.world.capacity start p t.world.kept)
-  begins t p (starts.Container start) flight r made free h named =
-      let is = named_if flights.Container (first capacity start) flight (names_owner start) named in
+  begins t p (starts.Container start) flight reached made free h named =
+      let first_flight = named_if flights.Container (first capacity start) flight (names_owner start) named in
       subst (λ (x : Flight T × Coding T × ℕ).
       Begun code coded capacity (seen code coded capacity t.world.words (views_in (states_in t.world.kept))) p (starts.Container start) [] x.0 t.world.words
       (kept_after_begin x.1 x.2 (starts.Container start) p t.world.kept))
-      (λ i. (is.1 i, sym made.coding i, sym made.capacity i))
-      (begun_on p start t.world.kept t.world.words h.0 h.1 is.0
+      (λ i. (first_flight.1 i, sym made.coding i, sym made.capacity i))
+      (begun_on p start t.world.kept t.world.words h.0 h.1 first_flight.0
       (may_begin t.world p (starts.Container start) (passes t.world (Begin p (starts.Container start)) free).on).rows)
-  begins t p start flight r made free h named = absurd (cc)
+  begins t p start flight reached made free h named = absurd (cc)
 
   -- ---- the rules
 

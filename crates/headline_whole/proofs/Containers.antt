@@ -52,15 +52,15 @@ module _ {T : Type 0} where
   -- No step of a call but of a look writes the states of the parties.
   states_same : (code : Coding T) (words : List ℕ) (beside : Option (ℕ × ℕ)) (p : ℕ) (start : Start T) (flight : Flight T) (old : ℕ)
       (kept : Registry T) → Agree start flight kept → states_in (step_of code words beside p start flight old kept).kept ≡ states_in kept
-  states_same code words beside p (starts.Queues start) (flights.Queues flight) old (registries.Queues roles) h = refl
-  states_same code words beside p (starts.Atomic start) (flights.Atomic flight) old (registries.Atomic producer) h = refl
-  states_same code words beside p (starts.Bits start) (flights.Bits flight) old registries.Nothing h = refl
-  states_same code words beside p (starts.Indices start) (flights.Indices flight) old (registries.Indices holders) h = refl
-  states_same code words beside p (starts.Robust start) (flights.Robust flight) old (registries.Owners dead) h = refl
-  states_same code words beside p (starts.Container start) (flights.Container (under_way.Look which call)) old (registries.Container dead states) h =
-      absurd h
-  states_same code words beside p (starts.Container start) (flights.Container flight) old (registries.Container dead states) h = refl
-  states_same code words beside p start flight old kept h = absurd h
+  states_same code words beside p (starts.Queues start) (flights.Queues flight) old (registries.Queues roles) agree = refl
+  states_same code words beside p (starts.Atomic start) (flights.Atomic flight) old (registries.Atomic producer) agree = refl
+  states_same code words beside p (starts.Bits start) (flights.Bits flight) old registries.Nothing agree = refl
+  states_same code words beside p (starts.Indices start) (flights.Indices flight) old (registries.Indices holders) agree = refl
+  states_same code words beside p (starts.Robust start) (flights.Robust flight) old (registries.Owners dead) agree = refl
+  states_same code words beside p (starts.Container start) (flights.Container (under_way.Look which call)) old (registries.Container dead states) agree =
+      absurd agree
+  states_same code words beside p (starts.Container start) (flights.Container flight) old (registries.Container dead states) agree = refl
+  states_same code words beside p start flight old kept agree = absurd agree
 
   either_same : (b : Bool) (s : Contents T) (start : Start T) (view : Option (Snapshot T)) → view_after s start view ≡ view
       → (if b then view_after s start view else view) ≡ view
@@ -71,6 +71,7 @@ module _ {T : Type 0} (code : Coding T) (coded : IsCoding code) (capacity : ℕ)
   abbrev pub map_course : Course T
   map_course = course (whole_map {T = T} capacity)
 
+  -- the map that these words hold, with what the states of the parties show
   abbrev pub seen : List ℕ → (ℕ → Option (Snapshot T)) → Viewed T
   seen words views = record { contents = map_in code capacity words; views = views }
 
@@ -106,6 +107,7 @@ module _ {T : Type 0} (code : Coding T) (coded : IsCoding code) (capacity : ℕ)
     pub under : Talking first_words views p start told flight words kept
         ⊎ Viewing first_words holds views p start told flight words kept
 
+  -- how a container stands for its map: between calls its words hold the map, and during a call the call has begun on it
   abbrev pub holding : Holding map_course
   holding =
       record {
@@ -324,15 +326,17 @@ module _ {T : Type 0} (code : Coding T) (coded : IsCoding code) (capacity : ℕ)
       (kept : Registry T) (beside : Option (ℕ × ℕ)) → Begun s p start told flight words kept → is_question (want_of code flight) ≡ false
       → Steps map_course holding s turns p start told (words_after words (ask_of (want_of code flight)))
       (step_of code words beside p start flight (old_of words (ask_of (want_of code flight))) kept)
-  goes s turns p start told flight words kept beside u calm =
+  goes s turns p start told flight words kept beside begun calm =
       subst (λ z. Steps map_course holding z turns p start told (words_after words (ask_of (want_of code flight)))
-      (step_of code words beside p start flight (old_of words (ask_of (want_of code flight))) kept)) (sym u.is) (go u.under)
+      (step_of code words beside p start flight (old_of words (ask_of (want_of code flight))) kept)) (sym begun.is) (go begun.under)
     where
-      go : Talking u.first_words u.views p start told flight words kept ⊎ Viewing u.first_words u.holds u.views p start told flight words kept
-          → Steps map_course holding (seen u.first_words u.views) turns p start told (words_after words (ask_of (want_of code flight)))
+      -- the cases are whether the call under way is no look or is a look
+      go : Talking begun.first_words begun.views p start told flight words kept
+          ⊎ Viewing begun.first_words begun.holds begun.views p start told flight words kept
+          → Steps map_course holding (seen begun.first_words begun.views) turns p start told (words_after words (ask_of (want_of code flight)))
           (step_of code words beside p start flight (old_of words (ask_of (want_of code flight))) kept)
-      go (inl k) = talk_on turns p u.first_words u.holds u.views start told flight words kept beside k calm
-      go (inr k) = view_on turns p u.first_words u.holds u.views start told flight words kept beside k
+      go (inl k) = talk_on turns p begun.first_words begun.holds begun.views start told flight words kept beside k calm
+      go (inr k) = view_on turns p begun.first_words begun.holds begun.views start told flight words kept beside k
 
   -- a step that is told yes or no goes as the map's rules say, of each call under way
   pub decides : (s : Viewed T) (turns p : ℕ) (start : Start T) (told : List (Decision T)) (flight : Flight T) (words : List ℕ)
@@ -340,28 +344,30 @@ module _ {T : Type 0} (code : Coding T) (coded : IsCoding code) (capacity : ℕ)
       → is_question (want_of code flight) ≡ true
       → Steps map_course holding s turns p start (told ++ decided code (Some flight) said) words
       (step_of code words beside p start flight (number_of said) kept)
-  decides s turns p start told flight words kept beside said u is =
+  decides s turns p start told flight words kept beside said begun is =
       subst (λ z. Steps map_course holding z turns p start (told ++ decided code (Some flight) said) words
-      (step_of code words beside p start flight (number_of said) kept)) (sym u.is) (go u.under)
+      (step_of code words beside p start flight (number_of said) kept)) (sym begun.is) (go begun.under)
     where
       -- it does so whether the call is a look or another
-      go : Talking u.first_words u.views p start told flight words kept ⊎ Viewing u.first_words u.holds u.views p start told flight words kept
-          → Steps map_course holding (seen u.first_words u.views) turns p start (told ++ decided code (Some flight) said) words
+      go : Talking begun.first_words begun.views p start told flight words kept
+          ⊎ Viewing begun.first_words begun.holds begun.views p start told flight words kept
+          → Steps map_course holding (seen begun.first_words begun.views) turns p start (told ++ decided code (Some flight) said) words
           (step_of code words beside p start flight (number_of said) kept)
-      go (inl k) = talk_told turns p u.first_words u.holds u.views start told flight words kept beside said k is
+      go (inl k) = talk_told turns p begun.first_words begun.holds begun.views start told flight words kept beside said k is
       go (inr k) =
-          none_asked (is_question (want_of code flight)) is (view_asks_none turns p u.first_words u.holds u.views start told flight words kept k)
+          none_asked (is_question (want_of code flight)) is (view_asks_none turns p begun.first_words begun.holds begun.views start told flight words kept k)
 
   -- each call under way stays so as an owner dies
   pub stays : (s : Viewed T) (p : ℕ) (start : Start T) (told : List (Decision T)) (flight : Flight T) (words : List ℕ) (kept : Registry T) (owner : ℕ)
       → Begun s p start told flight words kept → Begun s p start told flight words (kept_after_death kept owner)
-  stays s p start told flight words kept owner u =
-      record { first_words = u.first_words; views = u.views; is = u.is; holds = u.holds; under = go u.under }
+  stays s p start told flight words kept owner begun =
+      record { first_words = begun.first_words; views = begun.views; is = begun.is; holds = begun.holds; under = go begun.under }
     where
       -- it does so whether it is a look or another
-      go : Talking u.first_words u.views p start told flight words kept ⊎ Viewing u.first_words u.holds u.views p start told flight words kept
-          → Talking u.first_words u.views p start told flight words (kept_after_death kept owner)
-          ⊎ Viewing u.first_words u.holds u.views p start told flight words (kept_after_death kept owner)
+      go : Talking begun.first_words begun.views p start told flight words kept
+          ⊎ Viewing begun.first_words begun.holds begun.views p start told flight words kept
+          → Talking begun.first_words begun.views p start told flight words (kept_after_death kept owner)
+          ⊎ Viewing begun.first_words begun.holds begun.views p start told flight words (kept_after_death kept owner)
       go (inl k) =
           inl (record {
             agrees = agrees_still start flight kept owner k.agrees;

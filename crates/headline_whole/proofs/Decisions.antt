@@ -76,6 +76,7 @@ module _ {T : Type 0} where
     some_visited [] index rest = refl
     some_visited (x ∷ before) index rest = ap (λ xs. x ∷ xs) (some_visited before index rest)
 
+    -- a find that is told yes at these indices and no at the next has asked about each of them
     some_questions : (before : List ℕ) (index : ℕ) → map question_of (map on before ++ off index ∷ []) ≡ map shows (before ++ index ∷ [])
     some_questions [] index = refl
     some_questions (x ∷ before) index = ap (λ xs. shows x ∷ xs) (some_questions before index)
@@ -98,30 +99,30 @@ module _ {T : Type 0} where
 
       -- the questions of a find are those of the indices that it came to, and it answers their number
       pub found_so : (all : List ℕ) (n : ℕ) (told : List (Decision T)) → HasFound R all [] n told → WasTold all n told
-      found_so all n told h = go h.ended
+      found_so all n told found = go found.ended
         where
-          been : h.now ≡ map on h.before
-          been = told_all h.before [] h.now h.calls
+          been : found.now ≡ map on found.before
+          been = told_all found.before [] found.now found.calls
 
-          -- so it is whether it came to all of them or was told to stop
-          go : ((h.before ≡ all) × (h.now ≡ told) × (n ≡ length h.before))
-              ⊎ ((index : ℕ) × (rest : List ℕ) × (h.before ++ index ∷ rest ≡ all) × R h.now index Stop told × (n ≡ length h.before + 1))
+          -- the cases are whether it came to all of them or was told to stop
+          go : ((found.before ≡ all) × (found.now ≡ told) × (n ≡ length found.before))
+              ⊎ ((index : ℕ) × (rest : List ℕ) × (found.before ++ index ∷ rest ≡ all) × R found.now index Stop told × (n ≡ length found.before + 1))
               → WasTold all n told
           go (inl e) =
-              let is : told ≡ map on all = sym e.1 ∙ (been ∙ ap (map on) e.0) in
-              let same : visited all (map yes_of told) ≡ all = ap (λ xs. visited all (map yes_of xs)) is ∙ all_visited all in
+              let told_is : told ≡ map on all = sym e.1 ∙ (been ∙ ap (map on) e.0) in
+              let same : visited all (map yes_of told) ≡ all = ap (λ xs. visited all (map yes_of xs)) told_is ∙ all_visited all in
               record {
-                asked = ap (map question_of) is ∙ (all_questions all ∙ ap (map shows) (sym same));
+                asked = ap (map question_of) told_is ∙ (all_questions all ∙ ap (map shows) (sym same));
                 number = e.2 ∙ (ap length e.0 ∙ ap length (sym same));
               }
           go (inr e) =
-              let is : told ≡ map on h.before ++ off e.0 ∷ [] =
-              writes h.now e.0 Stop told e.3 ∙ ap (λ (xs : List (Decision T)). xs ++ off e.0 ∷ []) been in
-              let same : visited all (map yes_of told) ≡ h.before ++ e.0 ∷ [] =
-              (λ i. visited (sym e.2 i) (map yes_of (is i))) ∙ some_visited h.before e.0 e.1 in
+              let told_is : told ≡ map on found.before ++ off e.0 ∷ [] =
+              writes found.now e.0 Stop told e.3 ∙ ap (λ (xs : List (Decision T)). xs ++ off e.0 ∷ []) been in
+              let same : visited all (map yes_of told) ≡ found.before ++ e.0 ∷ [] =
+              (λ i. visited (sym e.2 i) (map yes_of (told_is i))) ∙ some_visited found.before e.0 e.1 in
               record {
-                asked = ap (map question_of) is ∙ (some_questions h.before e.0 ∙ ap (map shows) (sym same));
-                number = e.4 ∙ (sym (length-append h.before (e.0 ∷ [])) ∙ ap length (sym same));
+                asked = ap (map question_of) told_is ∙ (some_questions found.before e.0 ∙ ap (map shows) (sym same));
+                number = e.4 ∙ (sym (length-append found.before (e.0 ∷ [])) ∙ ap length (sym same));
               }
 
   -- ---- a recovery
@@ -156,6 +157,7 @@ module _ {T : Type 0} where
     yes_so [] = refl
     yes_so (a ∷ asked) = ap (λ xs. a.yes ∷ xs) (yes_so asked)
 
+    -- what was told of these questions has them as its questions
     questions_so : (asked : List Asked) → map question_of (map as_told asked) ≡ map shows (questions asked)
     questions_so [] = refl
     questions_so (a ∷ asked) = ap (λ xs. shows a.of ∷ xs) (questions_so asked)

@@ -56,8 +56,12 @@ module _ {C G M E : Type 0} (want : C → G → Want (Unit {0})) (after : C → 
       → StopsFrom want after kept given (StopsIn want after kept given n s r last) a room words s r last
       → StopsFrom want after kept given (StopsIn want after kept given k z q end) a room words z q end
       → (s ≡ z) × (r ≡ q) × (last ≡ end)
-  same_from n k s z r q last end (GoOn d) room words on t u = on d t u
-  same_from n k s z r q last end (Done x) room words on t u = (t.0 ∙ sym u.0, t.1 ∙ sym u.1, t.2 ∙ sym u.2)
+  same_from n k s z r q last end (GoOn d) room words on first_stops_from second_stops_from = on d first_stops_from second_stops_from
+  same_from n k s z r q last end (Done x) room words on first_stops_from second_stops_from = (
+    first_stops_from.0 ∙ sym second_stops_from.0,
+    first_stops_from.1 ∙ sym second_stops_from.1,
+    first_stops_from.2 ∙ sym second_stops_from.2,
+  )
 
   -- a call alone has one stop, with one room and one list of words
   same_stop : (n k : ℕ) (s z : Stop C E) (r q : M) (last end : List ℕ) (call : C) (room : M) (words : List ℕ)
@@ -93,24 +97,24 @@ module _ {C G M E : Type 0} (want : C → G → Want (Unit {0})) (after : C → 
       → StopsFrom want after kept given (StopsIn want after kept given n (Ended end) r last) (stepped w call a) (room_then w room next)
       (words_then words w) (Ended end) r last
       → RunsOn a next (words_then words w)
-  run_moved n end r last call (wants.Ask ask) (GoOn d) room next words few holds calm t =
-      record { steps = n; few = few; end = end; last_room = r; last_words = last; ends = t; holds = holds }
-  run_moved n end r last call (wants.Ask ask) (Done x) room next words few holds calm t =
-      let is = ended_is end x t.0 in subst (λ (z : E × M × List ℕ). P z.0 z.1 z.2) (λ i. (is i, t.1 i, t.2 i)) holds
-  run_moved n end r last call (wants.Question question) a room next words few holds calm t = absurd (cc)
-  run_moved n end r last call wants.Nothing (GoOn d) room next words few holds calm t =
-      record { steps = n; few = few; end = end; last_room = r; last_words = last; ends = t; holds = holds }
-  run_moved n end r last call wants.Nothing (Done x) room next words few holds calm t =
-      let is = ended_is end x t.0 in subst (λ (z : E × M × List ℕ). P z.0 z.1 z.2) (λ i. (is i, t.1 i, t.2 i)) holds
+  run_moved n end r last call (wants.Ask ask) (GoOn d) room next words few holds calm stops_from =
+      record { steps = n; few = few; end = end; last_room = r; last_words = last; ends = stops_from; holds = holds }
+  run_moved n end r last call (wants.Ask ask) (Done x) room next words few holds calm stops_from =
+      let is = ended_is end x stops_from.0 in subst (λ (z : E × M × List ℕ). P z.0 z.1 z.2) (λ i. (is i, stops_from.1 i, stops_from.2 i)) holds
+  run_moved n end r last call (wants.Question question) a room next words few holds calm stops_from = absurd (cc)
+  run_moved n end r last call wants.Nothing (GoOn d) room next words few holds calm stops_from =
+      record { steps = n; few = few; end = end; last_room = r; last_words = last; ends = stops_from; holds = holds }
+  run_moved n end r last call wants.Nothing (Done x) room next words few holds calm stops_from =
+      let is = ended_is end x stops_from.0 in subst (λ (z : E × M × List ℕ). P z.0 z.1 z.2) (λ i. (is i, stops_from.1 i, stops_from.2 i)) holds
 
   -- a call that runs to an end does so behind each step that puts no question
   pub run_goes : (call : C) (room : M) (words : List ℕ) → Runs want after kept given P call room words → is_question (want call given) ≡ false
       → RunsOn (after call given (old_of words (ask_of (want call given)))) (kept call room (old_of words (ask_of (want call given))))
       (words_after words (ask_of (want call given)))
-  run_goes call room words h calm = go h.steps h.few h.ends
+  run_goes call room words runs calm = go runs.steps runs.few runs.ends
     where
       -- it does, in however many steps the end is reached
-      go : (n : ℕ) → n ≤ 2 ^ 64 - 1 → StopsIn want after kept given n (Ended h.end) h.last_room h.last_words call room words
+      go : (n : ℕ) → n ≤ 2 ^ 64 - 1 → StopsIn want after kept given n (Ended runs.end) runs.last_room runs.last_words call room words
           → RunsOn (after call given (old_of words (ask_of (want call given)))) (kept call room (old_of words (ask_of (want call given))))
           (words_after words (ask_of (want call given)))
       go zero few t = absurd t
@@ -119,8 +123,8 @@ module _ {C G M E : Type 0} (want : C → G → Want (Unit {0})) (after : C → 
           (same_old words (want call given))
           (subst (RunsOn (after call given (answer_in words (want call given))) (kept call room (answer_in words (want call given))))
           (same_words words (want call given))
-          (run_moved n h.end h.last_room h.last_words call (want call given) (after call given (answer_in words (want call given))) room
-          (kept call room (answer_in words (want call given))) words (omega arith) h.holds calm t))
+          (run_moved n runs.end runs.last_room runs.last_words call (want call given) (after call given (answer_in words (want call given))) room
+          (kept call room (answer_in words (want call given))) words (omega arith) runs.holds calm t))
 
 pub same_flight : {T : Type 0} (a b : Flight T) → ◌≡◌ {A = Option (Flight T)} (Some a) (Some b) → a ≡ b
 same_flight a b e = cc
@@ -169,35 +173,35 @@ module _ {T : Type 0} (code : Coding T) where
           (a : After (Flight T) (Answer T)) (words : List ℕ) → n ≤ 2 ^ 64 - 1 → AtStop rest told stop last → is_question w ≡ false
           → HaltsFrom n stop room last (stepped w flight a) (room_then w tt tt) (words_then words w)
           → Turns (Halting rest) told a (words_then words w)
-      moved n stop room last flight (wants.Ask ask) (GoOn d) words few holds calm t =
-          record { steps = n; few = few; stop = stop; last_room = room; last_words = last; stops = t; holds = holds }
-      moved n stop room last flight (wants.Ask ask) (Done x) words few holds calm t =
-          subst (λ s. AtStop rest told s (words_then words (wants.Ask ask))) t.0 (subst (AtStop rest told stop) t.2 holds)
-      moved n stop room last flight (wants.Question question) a words few holds calm t = absurd (cc)
-      moved n stop room last flight wants.Nothing (GoOn d) words few holds calm t =
-          record { steps = n; few = few; stop = stop; last_room = room; last_words = last; stops = t; holds = holds }
-      moved n stop room last flight wants.Nothing (Done x) words few holds calm t =
-          subst (λ s. AtStop rest told s words) t.0 (subst (AtStop rest told stop) t.2 holds)
+      moved n stop room last flight (wants.Ask ask) (GoOn d) words few holds calm halts_from =
+          record { steps = n; few = few; stop = stop; last_room = room; last_words = last; stops = halts_from; holds = holds }
+      moved n stop room last flight (wants.Ask ask) (Done x) words few holds calm halts_from =
+          subst (λ s. AtStop rest told s (words_then words (wants.Ask ask))) halts_from.0 (subst (AtStop rest told stop) halts_from.2 holds)
+      moved n stop room last flight (wants.Question question) a words few holds calm halts_from = absurd (cc)
+      moved n stop room last flight wants.Nothing (GoOn d) words few holds calm halts_from =
+          record { steps = n; few = few; stop = stop; last_room = room; last_words = last; stops = halts_from; holds = holds }
+      moved n stop room last flight wants.Nothing (Done x) words few holds calm halts_from =
+          subst (λ s. AtStop rest told s words) halts_from.0 (subst (AtStop rest told stop) halts_from.2 holds)
 
       -- behind a question, the call goes on as its stop says, whatever is decided
       heard : (n : ℕ) (stop : Stop (Flight T) (Answer T)) (room : Unit {0}) (last : List ℕ) (flight : Flight T) (w : Want (Unit {0}))
           (a : After (Flight T) (Answer T)) (words : List ℕ) → AtStop rest told stop last → is_question w ≡ true
           → HaltsFrom n stop room last (stepped w flight a) (room_then w tt tt) (words_then words w)
           → (said : Bool) → Turns rest (told ++ decided code (Some flight) said) (after_of code flight (number_of said)) words
-      heard n stop room last flight (wants.Ask ask) a words holds is t = absurd (cc)
-      heard n stop room last flight (wants.Question question) a words holds is t =
-          subst (λ s. AtStop rest told s words) t.0 (subst (AtStop rest told stop) t.2 holds)
-      heard n stop room last flight wants.Nothing a words holds is t = absurd (cc)
+      heard n stop room last flight (wants.Ask ask) a words holds is halts_from = absurd (cc)
+      heard n stop room last flight (wants.Question question) a words holds is halts_from =
+          subst (λ s. AtStop rest told s words) halts_from.0 (subst (AtStop rest told stop) halts_from.2 holds)
+      heard n stop room last flight wants.Nothing a words holds is halts_from = absurd (cc)
 
-      -- after a step of a machine that needs no decision, the call still halts, or has ended with P
+      -- after a step that needs no decision, the call still halts, or has ended with an answer of which P holds
       pub talk_goes : (flight : Flight T) (words : List ℕ) → Halting rest told flight words → is_question (want_of code flight) ≡ false
           → Turns (Halting rest) told (after_of code flight (old_of words (ask_of (want_of code flight)))) (words_after words (ask_of (want_of code flight)))
-      talk_goes flight words h calm = go h.steps h.few h.stops
+      talk_goes flight words halting calm = go halting.steps halting.few halting.stops
         where
           -- it does, in however many steps the stop is reached
           go : (n : ℕ) → n ≤ 2 ^ 64 - 1
               → StopsIn (λ (f : Flight T) (given : Unit {0}). want_of code f) (λ f given old. after_of code f old) (λ f (room : Unit {0}) old. room) tt
-              n h.stop h.last_room h.last_words flight tt words
+              n halting.stop halting.last_room halting.last_words flight tt words
               → Turns (Halting rest) told (after_of code flight (old_of words (ask_of (want_of code flight))))
               (words_after words (ask_of (want_of code flight)))
           go zero few t = absurd t
@@ -206,36 +210,38 @@ module _ {T : Type 0} (code : Coding T) where
               (same_old words (want_of code flight))
               (subst (λ ws. Turns (Halting rest) told (after_of code flight (answer_in words (want_of code flight))) ws)
               (same_words words (want_of code flight))
-              (moved n h.stop h.last_room h.last_words flight (want_of code flight) (after_of code flight (answer_in words (want_of code flight))) words
-              (omega arith) h.holds calm t))
+              (moved n halting.stop halting.last_room halting.last_words flight (want_of code flight)
+              (after_of code flight (answer_in words (want_of code flight))) words
+              (omega arith) halting.holds calm t))
 
-      -- after a yes or no, the call goes on with `rest`, or has ended with P
+      -- whatever is decided, `rest` holds of the call that goes on, or it has ended with an answer of which P holds
       pub talk_hears : (flight : Flight T) (words : List ℕ) → Halting rest told flight words → is_question (want_of code flight) ≡ true → (said : Bool)
           → Turns rest (told ++ decided code (Some flight) said) (after_of code flight (number_of said)) words
-      talk_hears flight words h is = go h.steps h.stops
+      talk_hears flight words halting is = go halting.steps halting.stops
         where
           -- it does, in however many steps the stop is reached
           go : (n : ℕ)
               → StopsIn (λ (f : Flight T) (given : Unit {0}). want_of code f) (λ f given old. after_of code f old) (λ f (room : Unit {0}) old. room) tt
-              n h.stop h.last_room h.last_words flight tt words
+              n halting.stop halting.last_room halting.last_words flight tt words
               → (said : Bool) → Turns rest (told ++ decided code (Some flight) said) (after_of code flight (number_of said)) words
           go zero t = absurd t
           go (suc n) t =
-              heard n h.stop h.last_room h.last_words flight (want_of code flight) (after_of code flight (answer_in words (want_of code flight))) words
-              h.holds is t
+              heard n halting.stop halting.last_room halting.last_words flight (want_of code flight)
+              (after_of code flight (answer_in words (want_of code flight))) words
+              halting.holds is t
 
     -- a call that puts no question asks fewer than one question
     pub talks_once : (Q : Answer T → List ℕ → Type 0) (told : List (Decision T)) (flight : Flight T) (words : List ℕ)
         → ((answer : Answer T) (last : List ℕ) → Q answer last → P told answer last) → FlightRuns Q flight words → Talks 1 told flight words
-    talks_once Q told flight words so h =
+    talks_once Q told flight words so flight_runs =
         record {
-          steps = h.steps;
-          few = h.few;
-          stop = Ended h.end;
-          last_room = h.last_room;
-          last_words = h.last_words;
-          stops = h.ends;
-          holds = so h.end h.last_words h.holds;
+          steps = flight_runs.steps;
+          few = flight_runs.few;
+          stop = Ended flight_runs.end;
+          last_room = flight_runs.last_room;
+          last_words = flight_runs.last_words;
+          stops = flight_runs.ends;
+          holds = so flight_runs.end flight_runs.last_words flight_runs.holds;
         }
 
   -- ---- a call of `steps` as a call of a machine
@@ -274,11 +280,11 @@ module _ {T : Type 0} (code : Coding T) where
         → StopsFrom want after kept given (StopsIn want after kept given n s r last) (stepped w c a) (room_then w room next)
         (words_then words w) s r last
         → StopsOn n (lift_stop s r) last (stepped w (flight c room) (came next a)) (room_then w tt tt) (words_then words w)
-    lifted n s r last (wants.Ask ask) c (GoOn d) room next words low on t = on d next (words_then words (wants.Ask ask)) low t
-    lifted n s r last (wants.Ask ask) c (Done x) room next words low on t = ((λ i. lift_stop (t.0 i) (t.1 i)), refl, t.2)
-    lifted n s r last (wants.Question question) c a room next words low on t = ((λ i. lift_stop (t.0 i) (t.1 i)), refl, t.2)
-    lifted n s r last wants.Nothing c (GoOn d) room next words low on t = on d next words low t
-    lifted n s r last wants.Nothing c (Done x) room next words low on t = ((λ i. lift_stop (t.0 i) (t.1 i)), refl, t.2)
+    lifted n s r last (wants.Ask ask) c (GoOn d) room next words low on stops_from = on d next (words_then words (wants.Ask ask)) low stops_from
+    lifted n s r last (wants.Ask ask) c (Done x) room next words low on stops_from = ((λ i. lift_stop (stops_from.0 i) (stops_from.1 i)), refl, stops_from.2)
+    lifted n s r last (wants.Question question) c a room next words low on stops_from = ((λ i. lift_stop (stops_from.0 i) (stops_from.1 i)), refl, stops_from.2)
+    lifted n s r last wants.Nothing c (GoOn d) room next words low on stops_from = on d next words low stops_from
+    lifted n s r last wants.Nothing c (Done x) room next words low on stops_from = ((λ i. lift_stop (stops_from.0 i) (stops_from.1 i)), refl, stops_from.2)
 
     -- where the call of `steps` stops, alone, the machine's call stops too
     lifts : IsFlight → (n : ℕ) (s : Stop C E) (r : M) (last : List ℕ) (c : C) (room : M) (words : List ℕ) → Low c
@@ -300,15 +306,15 @@ module _ {T : Type 0} (code : Coding T) where
     pub runs_as : IsFlight → (Q : E → M → List ℕ → Type 0) (P : Answer T → List ℕ → Type 0)
         → ((e : E) (room : M) (last : List ℕ) → Q e room last → P (answer e room) last)
         → (c : C) (room : M) (words : List ℕ) → Low c → Runs want after kept given Q c room words → FlightRuns P (flight c room) words
-    runs_as is Q P so c room words low h =
+    runs_as is Q P so c room words low runs =
         record {
-          steps = h.steps;
-          few = h.few;
-          end = answer h.end h.last_room;
+          steps = runs.steps;
+          few = runs.few;
+          end = answer runs.end runs.last_room;
           last_room = tt;
-          last_words = h.last_words;
-          ends = lifts is h.steps (Ended h.end) h.last_room h.last_words c room words low h.ends;
-          holds = so h.end h.last_room h.last_words h.holds;
+          last_words = runs.last_words;
+          ends = lifts is runs.steps (Ended runs.end) runs.last_room runs.last_words c room words low runs.ends;
+          holds = so runs.end runs.last_room runs.last_words runs.holds;
         }
 
     -- where the call of `steps` stops, alone, and the machine's call talks on from there, it talks, with one question

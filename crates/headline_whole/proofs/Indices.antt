@@ -91,14 +91,15 @@ linked : (c : ℕ) → Linked c c (opening_words c)
 linked c = record { long = opening_long c; head = refl; next = after_index c; flags = past_indices c }
 
 some_held : (o : Option ℕ) (p : ℕ) → holds o p ≡ true → is_some o ≡ true
-some_held None p e = absurd (cc)
-some_held (Some q) p e = refl
+some_held None p it_holds = absurd (cc)
+some_held (Some q) p it_holds = refl
 
 not_free : (b : Bool) → true ≡ not b → b ≡ false
 not_free true e = absurd (cc)
 not_free false e = refl
 
 module _ {T : Type 0} where
+  -- a unique index set as an object: the stack of its free indices, which its words represent
   abbrev pub reading : ℕ → Reading T
   reading capacity =
       record {
@@ -138,12 +139,12 @@ module _ {T : Type 0} where
   is_out : (t : Trace T) (p index : ℕ) (mode : ReleaseMode) → IsReached t → t.world.kind ≡ kinds.Indices
       → refusal_of t.world (Begin p (starts.Indices (calls.Release index mode))) ≡ None → Represents t.world.capacity t.world.words
       → IsOut (stack_in t.world.capacity t.world.words) index
-  is_out t p index mode r is free fits =
+  is_out t p index mode reached is free fits =
       let rows =
       (may_begin t.world p (starts.Indices (calls.Release index mode))
       (passes t.world (Begin p (starts.Indices (calls.Release index mode))) free).on).rows in
       let may = may_release t.world.capacity t.world.kept p index mode rows in
-      let set : IsIndexSet t = subst (λ k. (promise_of {T = T} k).holds t) is (reached_kept laws_of t r).promised in
+      let set : IsIndexSet t = subst (λ k. (promise_of {T = T} k).holds t) is (reached_kept laws_of t reached).promised in
       let kept : KeepsHolders (registries.Indices may.holders) t.events = subst (λ k. KeepsHolders k t.events) may.is set.holders in
       let held : claimed t.world.capacity t.world.words index ≡ true =
       set.flags index may.below ∙ (ap is_some (sym (kept index)) ∙ may.mine) in
@@ -240,13 +241,13 @@ module _ {T : Type 0} where
     begins : (t : Trace T) (p : ℕ) (start : Start T) (flight : Flight T) → IsReached t → IsMadeSo code kinds.Indices capacity t
         → refusal_of t.world (Begin p start) ≡ None → Represents capacity t.world.words
         → first_of kinds.Indices capacity start t.world.kept ≡ Some flight → BeginsSo (reading capacity) code t p start flight
-    begins t p (starts.Indices start) flight r made free fits named =
-        let is = same_flight (flights.Indices (first capacity start)) flight named in
+    begins t p (starts.Indices start) flight reached made free fits named =
+        let first_flight = same_flight (flights.Indices (first capacity start)) flight named in
         let rows = (may_begin t.world p (starts.Indices start) (passes t.world (Begin p (starts.Indices start)) free).on).rows in
         record {
-          agrees = has_registry capacity p start flight t.world.kept is
+          agrees = has_registry capacity p start flight t.world.kept first_flight
               (subst (λ n. first_row (kept_rows n start t.world.kept p) ≡ None) made.capacity rows);
-          runs = subst (λ f. FlightRuns code (Answers (reading capacity) t.world.turns t.world.words (starts.Indices start)) f t.world.words) is
+          runs = subst (λ f. FlightRuns code (Answers (reading capacity) t.world.turns t.world.words (starts.Indices start)) f t.world.words) first_flight
               (runs start free);
         }
       where
@@ -254,7 +255,7 @@ module _ {T : Type 0} where
             → IsOut (stack_in capacity t.world.words) index
         out index mode allowed =
             subst (λ n. IsOut (stack_in n t.world.words) index) made.capacity
-            (is_out t p index mode r made.kind allowed (subst (λ n. Represents n t.world.words) (sym made.capacity) fits))
+            (is_out t p index mode reached made.kind allowed (subst (λ n. Represents n t.world.words) (sym made.capacity) fits))
 
         -- it does, whichever call begins
         runs : (s : IndexStart) → refusal_of t.world (Begin p (starts.Indices s)) ≡ None → Whole code capacity t.world.turns t.world.words fits s
@@ -264,7 +265,7 @@ module _ {T : Type 0} where
             locks code capacity t.world.turns t.world.words fits index (out index LockIfLastIndex allowed)
         runs calls.BorrowedIndices allowed = counts code capacity t.world.turns t.world.words fits
         runs calls.IsLocked allowed = looks code capacity t.world.turns t.world.words fits
-    begins t p start flight r made free fits named = absurd (cc)
+    begins t p start flight reached made free fits named = absurd (cc)
 
     -- a unique index set whose calls run whole is a stack of free indices
     pub law : capacity_error kinds.Indices capacity ≡ None → Law (reading capacity) code kinds.Indices capacity

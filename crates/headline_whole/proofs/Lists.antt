@@ -39,7 +39,7 @@ use Rattle.headline_whole.proofs.WithoutQuestions.{HasAnswered}
 use Rattle.headline_whole.proofs.Sequential.{of_parties, whole_call, ReadsEffects, reads_same, reads_call, open_shut, rests}
 
 not_zero : {A : Type 0} (less : ℕ) → suc less ≡ 0 → A
-not_zero less e = absurd (omega arith)
+not_zero less is_zero = absurd (omega arith)
 
 no_first : {A : Type 0} (xs ys : List A) → xs ++ ys ≡ [] → xs ≡ []
 no_first [] ys e = refl
@@ -67,7 +67,7 @@ module _ {T : Type 0} where
   front_leaves kind less (items.Index index ∷ list) = ap (λ (xs : List (Item T)). xs ++ list) (sym (through kind less (items.Index index)))
   front_leaves kind less (items.Value value ∷ list) = ap (λ (xs : List (Item T)). xs ++ list) (sym (through kind less (items.Value value)))
 
-  -- where the list is too long
+  -- what is handed out is the front, and the rest is left, where the list is too long
   front_cut : (less : ℕ) (list : List (Item T)) (long : Bool)
       → list ≡ handed_out_by Overflow (suc less) (answer_of_item (if long then slice_get list 0 else None)) ++ (if long then drop 1 list else list)
   front_cut less list true = front_leaves Overflow less list
@@ -199,12 +199,12 @@ module _ {T : Type 0} (kind : QueueKind) (t : Trace T) (kept : IsKeptBy (of_queu
 
   -- as an owner dies the values of the list wait still
   dies : (es : List (Event T)) (owner : ℕ) → Rest es → Rest (es ++ Died owner ∷ [])
-  dies es owner h =
+  dies es owner rest =
       let same = still_now spec acting es (Died owner ∷ []) refl in
       record {
-        answered = mourned spec acting es owner h.answered;
-        waits = conserved es (Died owner ∷ []) (list es) (list (es ++ Died owner ∷ [])) h.waits (append-nil (list es) ∙ sym same);
-        none = λ z. same ∙ h.none z;
+        answered = mourned spec acting es owner rest.answered;
+        waits = conserved es (Died owner ∷ []) (list es) (list (es ++ Died owner ∷ [])) rest.waits (append-nil (list es) ∙ sym same);
+        none = λ z. same ∙ rest.none z;
       }
 
   module _ (p : ℕ) (start : QueueStart T) (answer : Answer T) (begun since : List (Event T)) (none : NoneEnds since)
@@ -222,7 +222,7 @@ module _ {T : Type 0} (kind : QueueKind) (t : Trace T) (kept : IsKeptBy (of_queu
     -- after a whole call that says what the object says, and leaves this list, the values of the list wait
     leaves : Says → (new : List (Item T)) → list (begun ++ told) ≡ new → Leaves new
         → list begun ++ put_by start answer ≡ out_by start answer ++ new → (t.world.capacity ≡ 0 → new ≡ []) → Rest (begun ++ told)
-    leaves said new is so moves empty =
+    leaves said new is so moves empty_without_capacity =
         record {
           answered = once_ended spec acting p (starts.Queues start) answer begun since none said (is ∙ so) h.answered;
           waits =
@@ -231,7 +231,7 @@ module _ {T : Type 0} (kind : QueueKind) (t : Trace T) (kept : IsKeptBy (of_queu
               (reads_call publishes publishes_effects p (starts.Queues start) since answer ∙ wrote.published)
               ∙ (moves
               ∙ (λ i. sym (reads_call hands_out hands_out_effects p (starts.Queues start) since answer ∙ wrote.handed_out) i ++ sym is i)));
-          none = λ z. is ∙ empty z;
+          none = λ z. is ∙ empty_without_capacity z;
         }
 
     -- a push or a pop
@@ -274,32 +274,32 @@ module _ {T : Type 0} (kind : QueueKind) (t : Trace T) (kept : IsKeptBy (of_queu
   ends : (p : ℕ) (start : Start T) (answer : Answer T) (begun since after : List (Event T))
       → t.events ≡ (begun ++ Begun p start ∷ since) ++ Finished p start answer ∷ after → NoneEnds since
       → of_queue.wrote kind t.world.capacity start answer (of_parties since) → Rest begun → Rest (begun ++ whole_call p start since answer)
-  ends p (starts.Queues calls.AcquireProducer) answer begun since after at none wrote h =
-      moves_none p calls.AcquireProducer answer begun since none wrote h refl refl
+  ends p (starts.Queues calls.AcquireProducer) answer begun since after at none wrote rest =
+      moves_none p calls.AcquireProducer answer begun since none wrote rest refl refl
       (ap (out_by calls.AcquireProducer) (kept.promised.roles _ after _ at)) no_call refl
-  ends p (starts.Queues calls.ReleaseProducer) answer begun since after at none wrote h =
-      moves_none p calls.ReleaseProducer answer begun since none wrote h refl refl
+  ends p (starts.Queues calls.ReleaseProducer) answer begun since after at none wrote rest =
+      moves_none p calls.ReleaseProducer answer begun since none wrote rest refl refl
       (ap (out_by calls.ReleaseProducer) (kept.promised.roles _ after _ at).0) no_call refl
-  ends p (starts.Queues calls.AcquireConsumer) answer begun since after at none wrote h =
-      moves_none p calls.AcquireConsumer answer begun since none wrote h refl refl
+  ends p (starts.Queues calls.AcquireConsumer) answer begun since after at none wrote rest =
+      moves_none p calls.AcquireConsumer answer begun since none wrote rest refl refl
       (ap (out_by calls.AcquireConsumer) (kept.promised.roles _ after _ at)) no_call refl
-  ends p (starts.Queues calls.ReleaseConsumer) answer begun since after at none wrote h =
-      moves_none p calls.ReleaseConsumer answer begun since none wrote h refl refl
+  ends p (starts.Queues calls.ReleaseConsumer) answer begun since after at none wrote rest =
+      moves_none p calls.ReleaseConsumer answer begun since none wrote rest refl refl
       (ap (out_by calls.ReleaseConsumer) (kept.promised.roles _ after _ at).0) no_call refl
-  ends p (starts.Queues calls.HasProducer) answer begun since after at none wrote h =
-      moves_none p calls.HasProducer answer begun since none wrote h refl refl
+  ends p (starts.Queues calls.HasProducer) answer begun since after at none wrote rest =
+      moves_none p calls.HasProducer answer begun since none wrote rest refl refl
       (ap (out_by calls.HasProducer) (kept.promised.roles _ after _ at)) no_call refl
-  ends p (starts.Queues calls.HasConsumer) answer begun since after at none wrote h =
-      moves_none p calls.HasConsumer answer begun since none wrote h refl refl
+  ends p (starts.Queues calls.HasConsumer) answer begun since after at none wrote rest =
+      moves_none p calls.HasConsumer answer begun since none wrote rest refl refl
       (ap (out_by calls.HasConsumer) (kept.promised.roles _ after _ at)) no_call refl
-  ends p (starts.Queues (calls.PushIndex index)) answer begun since after at none wrote h =
-      acts_so p (calls.PushIndex index) answer begun since none wrote h after at refl refl refl refl
-  ends p (starts.Queues (calls.Push value)) answer begun since after at none wrote h =
-      acts_so p (calls.Push value) answer begun since none wrote h after at refl refl refl refl
-  ends p (starts.Queues calls.Pop) answer begun since after at none wrote h =
-      acts_so p calls.Pop answer begun since none wrote h after at refl refl refl refl
-  ends p (starts.Queues calls.Len) answer begun since after at none wrote h =
-      tells_so p calls.Len answer begun since none wrote h (λ xs. Number (length xs)) (λ xs. refl) refl refl (kept.promised.lengths _ after _ at) refl
+  ends p (starts.Queues (calls.PushIndex index)) answer begun since after at none wrote rest =
+      acts_so p (calls.PushIndex index) answer begun since none wrote rest after at refl refl refl refl
+  ends p (starts.Queues (calls.Push value)) answer begun since after at none wrote rest =
+      acts_so p (calls.Push value) answer begun since none wrote rest after at refl refl refl refl
+  ends p (starts.Queues calls.Pop) answer begun since after at none wrote rest =
+      acts_so p calls.Pop answer begun since none wrote rest after at refl refl refl refl
+  ends p (starts.Queues calls.Len) answer begun since after at none wrote rest =
+      tells_so p calls.Len answer begun since none wrote rest (λ xs. Number (length xs)) (λ xs. refl) refl refl (kept.promised.lengths _ after _ at) refl
       (sym (first_and_counts kind t.world.capacity (list begun)).1)
   ends p (starts.Queues calls.IsEmpty) answer begun since after at none wrote h =
       tells_so p calls.IsEmpty answer begun since none wrote h (λ xs. Truth (length xs == 0)) (λ xs. refl) refl refl (kept.promised.lengths _ after _ at) refl
@@ -307,12 +307,12 @@ module _ {T : Type 0} (kind : QueueKind) (t : Trace T) (kept : IsKeptBy (of_queu
   ends p (starts.Queues calls.IsFull) answer begun since after at none wrote h =
       tells_so p calls.IsFull answer begun since none wrote h (λ xs. Truth (length xs == t.world.capacity)) (λ xs. refl) refl refl
       (kept.promised.lengths _ after _ at) refl (sym (first_and_counts kind t.world.capacity (list begun)).3)
-  ends p (starts.Queues calls.Peek) answer begun since after at none wrote h =
-      tells_so p calls.Peek answer begun since none wrote h (λ xs. answer_of_item (slice_get xs 0)) (λ xs. refl) refl refl
+  ends p (starts.Queues calls.Peek) answer begun since after at none wrote rest =
+      tells_so p calls.Peek answer begun since none wrote rest (λ xs. answer_of_item (slice_get xs 0)) (λ xs. refl) refl refl
       (held_now p (λ part. answer ≡ answer_of_item (slice_get (waiting part) 0)) (begun ++ Begun p (starts.Queues calls.Peek) ∷ since)
       (kept.promised.lengths _ after _ at))
       refl (sym (first_and_counts kind t.world.capacity (list begun)).4)
-  ends p start answer begun since after at none wrote h = absurd wrote
+  ends p start answer begun since after at none wrote rest = absurd wrote
 
   -- a queue whose calls run whole answers as its list
   pub list_answers : AnswersAs (whole_list kind t.world.capacity) t.events

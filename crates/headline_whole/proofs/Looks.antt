@@ -98,6 +98,7 @@ module _ {T : Type 0} (code : Coding T) (coded : IsCoding code) (capacity : ℕ)
     Ends old changed room last =
         P code.value_of code.size coded.some coded.few capacity first_words holds.0 old.seen old.shown (changed, room) last
 
+    -- a look that runs on from `call` and `room` ends as one that began with the state `old`
     abbrev pub Runs_on : ContainerState T → Look T → Showing T → List ℕ → Type 0
     Runs_on old call room words =
         Runs (λ (c : Look T) (given : Numbers). look_want code.size c) (look_after code.size) (look_kept code.value_of code.size) old.seen

@@ -121,8 +121,8 @@ module _ {T : Type 0} (code : Coding T) (capacity : ℕ) where
       -- a find that has come to its end says what the map says, if it has left the words
       found : (told : List (Decision T)) (n : ℕ) (last : List ℕ) → HasFound sees (indices_of (map_in code capacity words).owners owner) [] n told
           → last ≡ words → At (calls.Find owner) told (answers.Number n) last
-      found told n last f same =
-          let was = found_so (about (map_in code capacity words)) sees seen_so (indices_of (map_in code capacity words).owners owner) n told f in
+      found told n last has_found same =
+          let was = found_so (about (map_in code capacity words)) sees seen_so (indices_of (map_in code capacity words).owners owner) n told has_found in
           record {
             said = λ i. record { questions = was.asked i; answer = answers.Number (was.number i) };
             holds = subst (Holds code.value_of code.size capacity 0) (sym same) h;
@@ -150,10 +150,10 @@ module _ {T : Type 0} (code : Coding T) (capacity : ℕ) where
             → StopsAlike wants_find (find_after code.size) (find_kept kept_at) owner call room ws (stops.Asked question asks) r last
             → find_want code.size asks ≡ wants.Question (questions.Value (index_in question) tt)
         find_asks question asks r last alone =
-            let at = stops_so wants_find (find_after code.size) (find_kept kept_at) owner _ call room words t.2.run (stops.Asked question asks) r last
+            let stop_is = stops_so wants_find (find_after code.size) (find_kept kept_at) owner _ call room words t.2.run (stops.Asked question asks) r last
             (subst (λ vs. StopsAlike wants_find (find_after code.size) (find_kept kept_at) owner call room vs (stops.Asked question asks) r last)
             t.1 alone) in
-            ap (find_want code.size) at.stands ∙ ap (λ q. wants.Question (questions.Value (index_in q) tt)) (sym at.asks)
+            ap (find_want code.size) stop_is.stands ∙ ap (λ q. wants.Question (questions.Value (index_in q) tt)) (sym stop_is.asks)
 
         -- at each stop a find has ended as the map says, or talks on, whatever is decided
         find_stops : (s : Stop (Find T (Buffer 128)) ℕ) (r : Buffer 128) (last : List ℕ)
@@ -183,14 +183,14 @@ module _ {T : Type 0} (code : Coding T) (capacity : ℕ) where
       -- a find that has put `done` questions talks on as the object does, to its end, within `m` more
       find_talks : (m done : ℕ) (call : Find T (Buffer 128)) (room : Buffer 128) (now : List (Decision T)) (ws : List ℕ) → done + m ≡ 2 ^ 64 - 1
           → Searches done call room now ws → Talks code (At (calls.Find owner)) m now (find_flight call room) ws
-      find_talks zero done call room now ws sum t =
-          let few = finding.few_rounds code.value_of room_words kept_at put_in finds [] code.size capacity 0 owner words done call room now ws t in
+      find_talks zero done call room now ws sum searches =
+          let few = finding.few_rounds code.value_of room_words kept_at put_in finds [] code.size capacity 0 owner words done call room now ws searches in
           absurd (omega arith)
-      find_talks (suc m) done call room now ws sum t =
-          let can = finding.can_go code.value_of room_words kept_at put_in finds [] code.size capacity 0 owner words done call room now ws t in
+      find_talks (suc m) done call room now ws sum searches =
+          let can = finding.can_go code.value_of room_words kept_at put_in finds [] code.size capacity 0 owner words done call room now ws searches in
           talks_as code wants_find (find_after code.size) (find_kept kept_at) owner (λ c. Unit {0}) find_flight (λ e room. answers.Number e) find_is
           (At (calls.Find owner)) m now call room ws tt can
-          (find_stops m done call room now ws t (λ d r later last u. find_talks m (done + 1) d r later last (omega arith) u)
+          (find_stops m done call room now ws searches (λ d r later last u. find_talks m (done + 1) d r later last (omega arith) u)
           can.stop can.last_room can.last_words (alike wants_find (find_after code.size) (find_kept kept_at) owner call room ws can))
 
       -- a find, alone, says what the map says
@@ -261,15 +261,15 @@ module _ {T : Type 0} (code : Coding T) (capacity : ℕ) where
           let was =
           asked_so (to_ask (map_in code capacity words) owner) (λ o. about (map_in code capacity words) o.index)
           says said_so g.calls.asked told g.calls.all g.calls.answers in
-          let is : map_in code capacity last ≡ map_freed (map_in code capacity words) owner mode (map yes_of told) =
+          let left_is : map_in code capacity last ≡ map_freed (map_in code capacity words) owner mode (map yes_of told) =
           g.calls.next ∙ ap (λ which. one_change (all_freed mode (map_in code capacity words) which)) (sym was.agreed_are) in
           record {
             said = λ i. record {
               questions = was.questions_are i;
-              answer = answers.State ((g.state_is ∙ ap (λ (s : Contents T). state_of s.owners) is) i);
+              answer = answers.State ((g.state_is ∙ ap (λ (s : Contents T). state_of s.owners) left_is) i);
             };
             holds = g.fit;
-            object = is;
+            object = left_is;
           }
 
       abbrev Recovers : ℕ → Recover T (Buffer 128) → Buffer 128 → List (Decision T) → List ℕ → Type 0
@@ -285,16 +285,16 @@ module _ {T : Type 0} (code : Coding T) (capacity : ℕ) where
             → StopsAlike (recover_want code.size) (recover_after code.size) (recover_kept kept_at) dead call room ws (stops.Asked question put) r last
             → recover_want code.size put dead ≡ wants.Question (questions.Value (asked_at (length now)) tt)
         recover_asks question put r last alone =
-            let at = stops_so (recover_want code.size) (recover_after code.size) (recover_kept kept_at) dead _ call room ws t.1.run
+            let stop_is = stops_so (recover_want code.size) (recover_after code.size) (recover_kept kept_at) dead _ call room ws t.1.run
             (stops.Asked question put) r last alone in
             let long : length now ≡ length t.1.asked =
             (let all = folds_long says
             (λ p a q w. ap length w.2 ∙ length-append p (decision (questions.Value (asked_at (length p)) w.0) a.yes ∷ []))
             t.1.asked [] now t.1.answers in omega arith) in
-            let place : asked_at (length now) ≡ at.index =
-            (λ i. slice_index (map (λ (o : Owned). o.index) ((sym t.1.joined ∙ ap (λ l. asked_questions t.1.asked ++ l) at.left_is) i)) (long i))
-            ∙ placed t.1.asked (record { owner = owner; index = at.index }) _ in
-            ap (λ c. recover_want code.size c dead) at.stands ∙ ap (λ n. wants.Question (questions.Value n tt)) (sym place)
+            let place : asked_at (length now) ≡ stop_is.index =
+            (λ i. slice_index (map (λ (o : Owned). o.index) ((sym t.1.joined ∙ ap (λ l. asked_questions t.1.asked ++ l) stop_is.left_is) i)) (long i))
+            ∙ placed t.1.asked (record { owner = owner; index = stop_is.index }) _ in
+            ap (λ c. recover_want code.size c dead) stop_is.stands ∙ ap (λ n. wants.Question (questions.Value n tt)) (sym place)
 
         -- at each stop a recovery has ended as the map says, or talks on, whatever is decided
         recover_stops : (s : Stop (Recover T (Buffer 128)) ReleaseState) (r : Buffer 128) (last : List ℕ)
@@ -332,14 +332,16 @@ module _ {T : Type 0} (code : Coding T) (capacity : ℕ) where
       -- a recovery that has put `done` questions talks on as the object does, to its end, within `m` more
       recover_talks : (m done : ℕ) (call : Recover T (Buffer 128)) (room : Buffer 128) (now : List (Decision T)) (ws : List ℕ)
           → done + m ≡ 2 ^ 64 - 1 → Recovers done call room now ws → Talks code (At (calls.Recover owner mode)) m now (recover_flight call room) ws
-      recover_talks zero done call room now ws sum t =
-          let few = recovering.few_rounds code.value_of room_words kept_at put_in asks [] code.size capacity 0 owner mode words done call room now ws t in
+      recover_talks zero done call room now ws sum recovers =
+          let few =
+          recovering.few_rounds code.value_of room_words kept_at put_in asks [] code.size capacity 0 owner mode
+          words done call room now ws recovers in
           absurd (omega arith)
-      recover_talks (suc m) done call room now ws sum t =
-          let can = recovering.can_go code.value_of room_words kept_at put_in asks [] code.size capacity 0 owner mode words done call room now ws t in
+      recover_talks (suc m) done call room now ws sum recovers =
+          let can = recovering.can_go code.value_of room_words kept_at put_in asks [] code.size capacity 0 owner mode words done call room now ws recovers in
           talks_as code (recover_want code.size) (recover_after code.size) (recover_kept kept_at) dead (λ c. Unit {0}) recover_flight
           (λ e room. answers.State e) recover_is (At (calls.Recover owner mode)) m now call room ws tt can
-          (recover_stops m done call room now ws t (λ d r later last u. recover_talks m (done + 1) d r later last (omega arith) u)
+          (recover_stops m done call room now ws recovers (λ d r later last u. recover_talks m (done + 1) d r later last (omega arith) u)
           can.stop can.last_room can.last_words
           (alike (recover_want code.size) (recover_after code.size) (recover_kept kept_at) dead call room ws can))
 

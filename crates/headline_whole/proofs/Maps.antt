@@ -53,6 +53,7 @@ module _ {T : Type 0} (code : Coding T) (capacity : ℕ) where
   pub record Answers (words : List ℕ) (view : Option (Snapshot T)) (start : ContainerStart T) (answer : Answer T) (last : List ℕ) : Type 0 where
     pub said : answer ≡ map_answer capacity (map_in words) view (starts.Container start) []
     pub holds : Holds code.value_of code.size capacity 0 last
+    -- the answer is the one of a map that the call found so
     pub object : map_in last ≡ map_after capacity (map_in words) (starts.Container start) []
 
   -- the call `start` of party `p` began on `words`, where the states of the parties show `views`, was told `told`, and has given
@@ -99,10 +100,10 @@ module _ {T : Type 0} (code : Coding T) (capacity : ℕ) where
           (record { value = value; owner = owner }) words e ws)
           (Answers words (views p) (calls.Add value owner))
           (λ e room last p.
-          let so = still code.value_of code.size capacity 0 (λ (s : Contents T). contents.added s owner) (λ s. contents.after_add s owner value) words
+          let still_stands = still code.value_of code.size capacity 0 (λ (s : Contents T). contents.added s owner) (λ s. contents.after_add s owner value) words
           (filled_add owner value (contents_in code.value_of code.size capacity 0 words) (values_long code.value_of code.size capacity 0 words h.0) h.1)
           _ last p in
-          record { said = say_added e ∙ ap add_answer so.1; holds = so.0; object = so.2 })
+          record { said = say_added e ∙ ap add_answer still_stands.1; holds = still_stands.0; object = still_stands.2 })
           (first_add capacity) tt words tt
           (add_at code.words_of code.value_of code.size coded.sized coded.given_back coded.some coded.few capacity 0
           (record { value = value; owner = owner }) owner refl lives (first_add capacity) refl words h.0)
@@ -126,10 +127,10 @@ module _ {T : Type 0} (code : Coding T) (capacity : ℕ) where
         (λ e room ws. removes.Gone code.value_of code.size coded.few capacity 0 (place_of capacity index) owner mode words e ws)
         (Answers words (views p) (calls.Remove index owner mode))
         (λ e room last p.
-        let so = still code.value_of code.size capacity 0 (λ (s : Contents T). contents.removed s (handle_to capacity index owner) mode)
+        let still_stands = still code.value_of code.size capacity 0 (λ (s : Contents T). contents.removed s (handle_to capacity index owner) mode)
         (λ s. contents.after_remove s (handle_to capacity index owner) mode) words
         (filled_remove (handle_to capacity index owner) mode (contents_in code.value_of code.size capacity 0 words) h.1) e last p in
-        record { said = ap removed so.1; holds = so.0; object = so.2 })
+        record { said = ap removed still_stands.1; holds = still_stands.0; object = still_stands.2 })
         (first_remove capacity (place_of capacity index)) tt words tt
         (remove_at code.value_of code.size coded.few capacity 0 (place_of capacity index) owner mode owner refl lives
         (first_remove capacity (place_of capacity index)) refl words h.0)
@@ -154,10 +155,10 @@ module _ {T : Type 0} (code : Coding T) (capacity : ℕ) where
         (record { index = place_of capacity index; owner = owner; value = value }) words e ws)
         (Answers words (views p) (calls.Replace index value owner))
         (λ e room last p.
-        let so = still code.value_of code.size capacity 0 (λ (s : Contents T). contents.replaced s (handle_to capacity index owner))
+        let still_stands = still code.value_of code.size capacity 0 (λ (s : Contents T). contents.replaced s (handle_to capacity index owner))
         (λ s. contents.after_replace s (handle_to capacity index owner) value) words
         (filled_replace (handle_to capacity index owner) value (contents_in code.value_of code.size capacity 0 words) h.1) e last p in
-        record { said = ap replaced so.1; holds = so.0; object = so.2 })
+        record { said = ap replaced still_stands.1; holds = still_stands.0; object = still_stands.2 })
         (first_replace capacity (place_of capacity index)) tt words tt
         (replace_at code.words_of code.value_of code.size coded.sized coded.given_back coded.some coded.few capacity 0
         (record { index = place_of capacity index; owner = owner; value = value }) owner refl lives
@@ -181,9 +182,9 @@ module _ {T : Type 0} (code : Coding T) (capacity : ℕ) where
         (λ e room ws. Counted code.value_of code.size capacity 0 words e ws)
         (Answers words (views p) start)
         (λ e room last p.
-        let s = still code.value_of code.size capacity 0 (contents.number {V = T}) (contents.counted {V = T}) words
+        let still_stands = still code.value_of code.size capacity 0 (contents.number {V = T}) (contents.counted {V = T}) words
         (filled_counted (contents_in code.value_of code.size capacity 0 words) h.1) e last p in
-        so e last s.1 s.0 s.2)
+        so e last still_stands.1 still_stands.0 still_stands.2)
         (first_borrowed capacity) tt words tt (count_at code.value_of code.size capacity 0 (first_borrowed capacity) refl words h.0)
 
     -- a look whether the container is locked, run alone, answers and leaves what the map does
@@ -199,6 +200,6 @@ module _ {T : Type 0} (code : Coding T) (capacity : ℕ) where
         (λ e room ws. Looked code.value_of code.size capacity 0 words e ws)
         (Answers words (views p) calls.IsLocked)
         (λ e room last p.
-        let so = still code.value_of code.size capacity 0 (contents.is_locked {V = T}) (λ s. s) words h.1 e last p in
-        record { said = ap answers.Truth so.1; holds = so.0; object = so.2 })
+        let still_stands = still code.value_of code.size capacity 0 (contents.is_locked {V = T}) (λ s. s) words h.1 e last p in
+        record { said = ap answers.Truth still_stands.1; holds = still_stands.0; object = still_stands.2 })
         (record {}) tt words tt (look_at code.value_of code.size capacity 0 (record {}) words h.0)

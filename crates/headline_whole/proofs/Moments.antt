@@ -48,9 +48,9 @@ module _ {T State : Type 0} (spec : Specification T State) (object : Object T St
       (flat_map-append acts es more ∙ (ap (λ (ms : List (Start T × Answer T)). moments es ++ ms) none ∙ append-nil (moments es)))
 
   pub mourned : (es : List (Event T)) (owner : ℕ) → HasAnswered spec (now es) es → HasAnswered spec (now (es ++ Died owner ∷ [])) (es ++ Died owner ∷ [])
-  mourned es owner h =
+  mourned es owner answered =
       subst (λ (s : State). HasAnswered spec s (es ++ Died owner ∷ [])) (sym (still_now es (Died owner ∷ []) refl))
-      (still_answered spec (now es) es (Died owner ∷ []) (λ is_call. refl) h)
+      (still_answered spec (now es) es (Died owner ∷ []) (λ is_call. refl) answered)
 
   module _ (p : ℕ) (start : Start T) (answer : Answer T) (begun since : List (Event T)) where
     pub quiet_now : moments (of_parties since) ≡ [] → now (begun ++ whole_call p start since answer) ≡ now begun
@@ -61,9 +61,9 @@ module _ {T State : Type 0} (spec : Specification T State) (object : Object T St
         → now (begun ++ whole_call p start since answer) ≡ (if spec.is_call start then spec.object.after (now begun) start else now begun)
         → HasAnswered spec (now begun) begun
         → HasAnswered spec (now (begun ++ whole_call p start since answer)) (begun ++ whole_call p start since answer)
-    once_ended none said leaves h =
+    once_ended none said leaves answered =
         subst (λ (s : State). HasAnswered spec s (begun ++ whole_call p start since answer)) (sym leaves)
-        (once_more spec (now begun) begun (Begun p start ∷ since) p start answer none said h)
+        (once_more spec (now begun) begun (Begun p start ∷ since) p start answer none said answered)
 
     -- a call that acts answers as the object does, and so leaves it
     pub acted : (events after : List (Event T)) → IsLegal object (moments events)
@@ -87,8 +87,8 @@ module _ {T State : Type 0} (spec : Specification T State) (object : Object T St
   -- the answers of a run, from those at the end of its calls
   pub answers_then : (events begun since : List (Event T)) → events ≡ begun ++ since → NoneEnds since → HasAnswered spec (now begun) begun
       → AnswersAs spec events
-  answers_then events begun since is none h =
-      subst (AnswersAs spec) (sym is) (still_answered spec (now begun) begun since none h).legal
+  answers_then events begun since is none answered =
+      subst (AnswersAs spec) (sym is) (still_answered spec (now begun) begun since none answered).legal
 
 -- ---- the value
 

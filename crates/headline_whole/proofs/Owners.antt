@@ -212,8 +212,8 @@ module _ {T : Type 0} where
       -- a find that has come to its end says what the map says, if it has left the words
       found : (told : List (Decision T)) (n : ℕ) (last : List ℕ) → HasFound finds (objects.indices_of (owners_in words) owner) [] n told
           → last ≡ words → At (calls.Find owner) told (answers.Number n) last
-      found told n last h same =
-          let was = found_so questions.Index finds (λ p index said q e. e) (objects.indices_of (owners_in words) owner) n told h in (
+      found told n last has_found same =
+          let was = found_so questions.Index finds (λ p index said q e. e) (objects.indices_of (owners_in words) owner) n told has_found in (
             (λ i. record { questions = was.asked i; answer = answers.Number (was.number i) }),
             subst (Represents capacity) (sym same) fits,
             ap owners_in same,
@@ -234,13 +234,15 @@ module _ {T : Type 0} where
             → StopsAlike (λ (c : Find) (given : ℕ). find_want c) find_after (λ c (room : Unit {0}) old. room) owner call tt ws
             (stops.Asked question asks) r last
             → find_want asks ≡ wants.Question (questions.Index (index_in question))
-        find_asks [] question asks r last u alone = absurd u
-        find_asks (g ∷ cells) question asks r last u alone =
-            let at = stops_so (λ (c : Find) (given : ℕ). find_want c) find_after (λ c (room : Unit {0}) old. room) owner _ call tt (g ∷ cells) u.4.run
+        find_asks [] question asks r last searching alone = absurd searching
+        find_asks (g ∷ cells) question asks r last searching alone =
+            let stop_is =
+            stops_so (λ (c : Find) (given : ℕ). find_want c) find_after (λ c (room : Unit {0}) old. room) owner _
+            call tt (g ∷ cells) searching.4.run
             (stops.Asked question asks) r last
             (subst (λ vs. StopsAlike (λ (c : Find) (given : ℕ). find_want c) find_after (λ c (room : Unit {0}) old. room) owner call tt vs
-            (stops.Asked question asks) r last) u.3 alone) in
-            ap find_want at.stands ∙ ap (λ q. wants.Question (questions.Index (index_in q))) (sym at.asks)
+            (stops.Asked question asks) r last) searching.3 alone) in
+            ap find_want stop_is.stands ∙ ap (λ q. wants.Question (questions.Index (index_in q))) (sym stop_is.asks)
 
         -- at each stop a find has ended as the map says, or talks on, whatever is decided
         find_stops : (s : Stop Find ℕ) (r : Unit {0}) (last : List ℕ)
@@ -266,13 +268,13 @@ module _ {T : Type 0} where
       -- a find that has put `done` questions talks on as the object does, to its end, within `m` more
       find_talks : (m done : ℕ) (call : Find) (now : List (Decision T)) (ws : List ℕ) → done + m ≡ 2 ^ 64 - 1
           → Searching finds [] capacity owner words done call now ws → Talks code (At (calls.Find owner)) m now (find_flight call tt) ws
-      find_talks zero done call now ws sum t =
-          let few = find_rounds finds [] capacity owner words done call now ws t in absurd (omega arith)
-      find_talks (suc m) done call now ws sum t =
-          let can = can_go finds [] capacity owner words done call now ws t in
+      find_talks zero done call now ws sum searching =
+          let few = find_rounds finds [] capacity owner words done call now ws searching in absurd (omega arith)
+      find_talks (suc m) done call now ws sum searching =
+          let can = can_go finds [] capacity owner words done call now ws searching in
           talks_as code (λ (c : Find) (given : ℕ). find_want c) find_after (λ c (room : Unit {0}) old. room) owner (λ c. Unit {0})
           find_flight (λ e room. answers.Number e) find_is (At (calls.Find owner)) m now call tt ws tt can
-          (find_stops m done call now ws t (λ d later last u. find_talks m (done + 1) d later last (omega arith) u)
+          (find_stops m done call now ws searching (λ d later last u. find_talks m (done + 1) d later last (omega arith) u)
           can.stop can.last_room can.last_words
           (alike (λ (c : Find) (given : ℕ). find_want c) find_after (λ c (room : Unit {0}) old. room) owner call tt ws can))
 
@@ -360,13 +362,13 @@ module _ {T : Type 0} where
       -- a recovery that has put `done` questions talks on as the object does, to its end, within `m` more
       recover_talks : (m done : ℕ) (call : Recover) (now : List (Decision T)) (ws : List ℕ) → done + m ≡ 2 ^ 64 - 1
           → Recovering asks tells mode [] tt capacity words done call now tt ws → Talks code (At (calls.Recover mode)) m now (recover_flight call tt) ws
-      recover_talks zero done call now ws sum t =
-          let few = recover_rounds asks tells mode [] tt capacity words fits done call now tt ws t in absurd (omega arith)
-      recover_talks (suc m) done call now ws sum t =
-          let can = recover_can asks tells mode [] tt capacity words done call now tt ws t in
+      recover_talks zero done call now ws sum recovering =
+          let few = recover_rounds asks tells mode [] tt capacity words fits done call now tt ws recovering in absurd (omega arith)
+      recover_talks (suc m) done call now ws sum recovering =
+          let can = recover_can asks tells mode [] tt capacity words done call now tt ws recovering in
           talks_as code (λ (c : Recover) (given : ReleaseMode). recover_want c) recover_after (λ c (room : Unit {0}) old. room) mode (λ c. Unit {0})
           recover_flight (λ e room. answers.State e) recover_is (At (calls.Recover mode)) m now call tt ws tt can
-          (recover_stops m done call now ws t (λ d later last u. recover_talks m (done + 1) d later last (omega arith) u)
+          (recover_stops m done call now ws recovering (λ d later last u. recover_talks m (done + 1) d later last (omega arith) u)
           can.stop can.last_room can.last_words
           (alike (λ (c : Recover) (given : ReleaseMode). recover_want c) recover_after (λ c (room : Unit {0}) old. room) mode call tt ws can))
 
@@ -398,13 +400,13 @@ module _ {T : Type 0} where
         → first_of kinds.Robust capacity start t.world.kept ≡ Some flight
         → Speaks (robust_course capacity) (robust_speech capacity) code (owners_in t.world.words) t.world.turns p start [] flight t.world.words
         (kept_after_begin t.world.coding t.world.capacity start p t.world.kept)
-    begins t p (starts.Robust start) flight r made free fits named =
-        let is = named_if flights.Robust (first capacity start) flight (names_owner start) named in
+    begins t p (starts.Robust start) flight reached made free fits named =
+        let first_flight = named_if flights.Robust (first capacity start) flight (names_owner start) named in
         let rows = subst (λ n. first_row (kept_rows n start t.world.kept p) ≡ None) made.capacity
         (may_begin t.world p (starts.Robust start) (passes t.world (Begin p (starts.Robust start)) free).on).rows in
         let talk = subst (λ f. (n : ℕ) × Talks code (Ends (robust_course capacity) (robust_speech capacity) code (owners_in t.world.words)
-        t.world.turns p (starts.Robust start)) n [] f t.world.words) is.1 (runs start is.0 rows) in
-        (has_registry capacity p start flight t.world.kept is.1 rows, talk.0, talk.1)
+        t.world.turns p (starts.Robust start)) n [] f t.world.words) first_flight.1 (runs start first_flight.0 rows) in
+        (has_registry capacity p start flight t.world.kept first_flight.1 rows, talk.0, talk.1)
       where
         -- it does, whichever call begins
         runs : (s : RobustStart) → names_owner s ≡ true → first_row (kept_rows capacity s t.world.kept p) ≡ None
@@ -424,7 +426,7 @@ module _ {T : Type 0} where
         runs calls.IsLocked names rows =
             speaks code capacity t.world.turns p t.world.words fits calls.IsLocked refl
             (looks code capacity t.world.turns p t.world.words fits)
-    begins t p start flight r made free fits named = absurd (cc)
+    begins t p start flight reached made free fits named = absurd (cc)
 
     opened_so : owners_in (robust_words capacity) ≡ objects.opened_at capacity 0
     opened_so = λ i. record { owners = no_owner capacity i; generation = 0 }

@@ -25,7 +25,7 @@ module _ {T State : Type 0} (D : Dialogue T State) where
   -- one more call that replies as the object does leaves the object as that call does
   pub once_more : (object : State) (calls : List (Request T × Reply T)) (request : Request T) (reply : Reply T) → reply ≡ D.reply object request
       → HasReplied object calls → HasReplied (D.after object request) (calls ++ (request, reply) ∷ [])
-  once_more object calls request reply said h =
+  once_more object calls request reply said replied =
       let asked : requests (calls ++ (request, reply) ∷ []) ≡ requests calls ++ request ∷ [] =
       map-append (λ (x : Request T × Reply T). x.0) calls ((request, reply) ∷ []) in
       let told : replies (calls ++ (request, reply) ∷ []) ≡ replies calls ++ reply ∷ [] =
@@ -33,11 +33,12 @@ module _ {T State : Type 0} (D : Dialogue T State) where
       record {
         legal = ap (replies_from D D.opening) asked
             ∙ (replies_more D.opening (requests calls) (request ∷ [])
-            ∙ ((λ i. h.legal i ++ (ap (λ s. D.reply s request) h.stands ∙ sym said) i ∷ []) ∙ sym told));
+            ∙ ((λ i. replied.legal i ++ (ap (λ s. D.reply s request) replied.stands ∙ sym said) i ∷ []) ∙ sym told));
         stands = ap (fold D.after D.opening) asked
-            ∙ (fold-append D.after D.opening (requests calls) (request ∷ []) ∙ ap (λ s. D.after s request) h.stands);
+            ∙ (fold-append D.after D.opening (requests calls) (request ∷ []) ∙ ap (λ s. D.after s request) replied.stands);
       }
 
+  -- a course in which each reply is what the object replies to the request
   abbrev pub course : Course T
   course =
       record {

@@ -45,9 +45,9 @@ module _ {T : Type 0} where
   -- a party whose span is shut has no call under way
   pub shut_rests : (promise : Promise T) (capacity size : ℕ) (span : Span T) (g : Progress) → g.finished ≡ false → IsShut span
       → Progresses promise capacity size span (Some g) → ⊥
-  shut_rests promise capacity size Never g on shut h = h
-  shut_rests promise capacity size (Open start wrote) g on shut h = shut
-  shut_rests promise capacity size (Ended start answer wrote) g on shut h = let over : g.finished ≡ true = h.1 in absurd (cc)
+  shut_rests promise capacity size Never g on shut progresses = progresses
+  shut_rests promise capacity size (Open start wrote) g on shut progresses = shut
+  shut_rests promise capacity size (Ended start answer wrote) g on shut progresses = let over : g.finished ≡ true = progresses.1 in absurd (cc)
 
   -- where no event of `es` ends a call, no call has finished in `es`
   pub none_finished : (told : List (Decision T)) (es : List (Event T)) → flat_map (whole.answer_in (λ start. true)) es ≡ []
@@ -116,6 +116,7 @@ module _ {T : Type 0} (C : Course T) (H : Holding C) where
   -- ---- the call under way goes on
 
   module _ (t : Trace T) (story : Story T) (h : Goes t story) (told : List (Decision T)) (ask : Option Ask) where
+    -- the trace after a step of the call under way
     abbrev now : Step (Flight T) (Registry T) T → Trace T
     now s =
         record {
@@ -170,7 +171,7 @@ module _ {T : Type 0} (C : Course T) (H : Holding C) where
           found = party_put_same h.party (call_now s) t.world.latest;
           doing = refl;
           others = still_none s;
-          later = let l = h.later in omega arith;
+          later = omega (arith, h.later);
           under = came;
           answers =
               subst (C.HasAnswered h.object (t.events ++ (wrote ++ []))) (sym (no_more_calls wrote none))
@@ -180,7 +181,7 @@ module _ {T : Type 0} (C : Course T) (H : Holding C) where
         let s : Step (Flight T) (Registry T) T = record { after = Done answer; back = back; wrote = wrote; kept = kept } in
         inl (record {
           none = λ q. ⊎_elim (mine s q refl) (still_none s q) (cases_eq q h.party);
-          holds = later (h.turns + 1) (t.world.turns + 1) (words_after t.world.words ask) kept (let l = h.later in omega arith) came.1;
+          holds = later (h.turns + 1) (t.world.turns + 1) (words_after t.world.words ask) kept (omega (arith, h.later)) came.1;
           answers =
               subst (λ (object : C.State). C.HasAnswered object (now s).events (story_now s).calls) (sym came.2)
               (subst (C.HasAnswered (C.after h.object (as_request h.party h.call.start told)) (now s).events) (sym (one_more_call wrote answer none))

@@ -36,6 +36,7 @@ module _ {T : Type 0} (C : Course T) where
     Speaks s turns p start told flight words kept =
         Agree start flight kept × (n : ℕ) × Talks code (Ends s turns p start) n told flight words
 
+    -- how words stand for an object: between calls they hold it, and during a call the call speaks of it
     abbrev pub talking : Holding C
     talking =
         record {
@@ -84,11 +85,11 @@ module _ {T : Type 0} (C : Course T) where
         → is_question (want_of code flight) ≡ false
         → Steps C talking s turns p start told (words_after words (ask_of (want_of code flight)))
         (step_of code words beside p start flight (old_of words (ask_of (want_of code flight))) kept)
-    goes s turns p start told flight words kept beside agrees zero t calm = absurd t
-    goes s turns p start told flight words kept beside agrees (suc n) t calm =
+    goes s turns p start told flight words kept beside agrees zero talks calm = absurd talks
+    goes s turns p start told flight words kept beside agrees (suc n) talks calm =
         steps s turns p start flight words (words_after words (ask_of (want_of code flight))) kept beside
         (old_of words (ask_of (want_of code flight))) agrees (suc n) told
-        (talk_goes code (Ends s turns p start) (λ told f ws. Talks code (Ends s turns p start) n told f ws) told flight words t calm)
+        (talk_goes code (Ends s turns p start) (λ told f ws. Talks code (Ends s turns p start) n told f ws) told flight words talks calm)
 
     -- a step that is told yes or no goes as the rules say
     hears : (s : C.State) (turns p : ℕ) (start : Start T) (told : List (Decision T)) (flight : Flight T) (words : List ℕ) (kept : Registry T)
@@ -96,10 +97,10 @@ module _ {T : Type 0} (C : Course T) where
         → is_question (want_of code flight) ≡ true
         → Steps C talking s turns p start (told ++ decided code (Some flight) said) words
         (step_of code words beside p start flight (number_of said) kept)
-    hears s turns p start told flight words kept beside said agrees zero t is = absurd t
-    hears s turns p start told flight words kept beside said agrees (suc n) t is =
+    hears s turns p start told flight words kept beside said agrees zero talks is = absurd talks
+    hears s turns p start told flight words kept beside said agrees (suc n) talks is =
         steps s turns p start flight words words kept beside (number_of said) agrees n (told ++ decided code (Some flight) said)
-        (talk_hears code (Ends s turns p start) (λ told f ws. Talks code (Ends s turns p start) n told f ws) told flight words t is said)
+        (talk_hears code (Ends s turns p start) (λ told f ws. Talks code (Ends s turns p start) n told f ws) told flight words talks is said)
 
     -- a kind whose calls begin so keeps to the rules
     pub talk_rules : (kind : Kind) (capacity : ℕ) → Begins kind capacity → Rules C talking code kind capacity

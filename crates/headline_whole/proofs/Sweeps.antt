@@ -47,23 +47,23 @@ module _ (k e : ℕ) where
 
   asks : k < e → reset_all_want at ≡ wants.Ask (record { word = k; op = Swap 0 })
   asks low =
-      let t : nat_lt k e ≡ true = grind (arith, nat_tests, low) in
-      ap (λ b. if b then wants.Ask (record { word = k; op = Swap 0 }) else wants.Nothing) t
+      let is_below : nat_lt k e ≡ true = grind (arith, nat_tests, low) in
+      ap (λ b. if b then wants.Ask (record { word = k; op = Swap 0 }) else wants.Nothing) is_below
 
   asks_none : e ≤ k → reset_all_want at ≡ wants.Nothing
   asks_none high =
-      let t : nat_lt k e ≡ false = grind (arith, nat_tests, high) in
-      ap (λ b. if b then wants.Ask (record { word = k; op = Swap 0 }) else wants.Nothing) t
+      let not_below : nat_lt k e ≡ false = grind (arith, nat_tests, high) in
+      ap (λ b. if b then wants.Ask (record { word = k; op = Swap 0 }) else wants.Nothing) not_below
 
   goes_on : k + 1 < e → (old : ℕ) → reset_all_after at old ≡ GoOn (record { word = k + 1; end = e })
   goes_on low old =
-      let t : nat_lt (k + 1) e ≡ true = grind (arith, nat_tests, low) in
-      ap (λ b. if b then GoOn (record { word = k + 1; end = e }) else Done tt) t
+      let is_below : nat_lt (k + 1) e ≡ true = grind (arith, nat_tests, low) in
+      ap (λ b. if b then GoOn (record { word = k + 1; end = e }) else Done tt) is_below
 
   ends : e ≤ k + 1 → (old : ℕ) → reset_all_after at old ≡ Done tt
   ends high old =
-      let t : nat_lt (k + 1) e ≡ false = grind (arith, nat_tests, high) in
-      ap (λ b. if b then GoOn (record { word = k + 1; end = e }) else Done tt) t
+      let not_below : nat_lt (k + 1) e ≡ false = grind (arith, nat_tests, high) in
+      ap (λ b. if b then GoOn (record { word = k + 1; end = e }) else Done tt) not_below
 
 -- the call swaps these words for 0, one after another, and ends
 pub sweeps : (n k e : ℕ) → k + suc n ≡ e → (room : OneWord) (words : List ℕ)

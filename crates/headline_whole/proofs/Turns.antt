@@ -53,8 +53,8 @@ module _ {T : Type 0} (C : Course T) (H : Holding C) (code : Coding T) (kind : K
 
   -- The party of a call that is under way has an open span.
   busy : (t : Trace T) (story : Story T) → IsReached t → (h : Goes C H t story) → IsShut (span_of h.party t.events) → ⊥
-  busy t story r h shut =
-      let kept = reached_kept laws_of t r in
+  busy t story is_reached h shut =
+      let kept = reached_kept laws_of t is_reached in
       let g : Progress =
       record { steps = h.call.steps; backs = h.call.backs; others = others_of t.world.changes h.call.doing; finished = is_over h.call.doing } in
       let is : progress_in t.world h.party ≡ Some g = ap (progress_after t.world.changes) h.found in
@@ -65,8 +65,8 @@ module _ {T : Type 0} (C : Course T) (H : Holding C) (code : Coding T) (kind : K
   begins : (t : Trace T) (story : Story T) → IsReached t → IsMadeSo code kind capacity t → (p : ℕ) (start : Start T)
       → refusal_of t.world (Begin p start) ≡ None → ((q : ℕ) → IsShut (span_of q t.events))
       → Stands C H t story → Stands C H (after_turn t (Begin p start)) (story_after t.world (Begin p start) story)
-  begins t story r made p start free shut (inr h) = absurd (busy t story r h (shut h.party))
-  begins t story r made p start free shut (inl h) =
+  begins t story is_reached made p start free shut (inr h) = absurd (busy t story is_reached h (shut h.party))
+  begins t story is_reached made p start free shut (inl h) =
       let may = may_begin t.world p start (passes t.world (Begin p start) free).on in
       let first = not_none (first_of t.world.kind t.world.capacity start t.world.kept) may.call in
       let flight = first.0 in
@@ -89,7 +89,7 @@ module _ {T : Type 0} (C : Course T) (H : Holding C) (code : Coding T) (kind : K
             ap (λ (o : Option (Party T)). flight_of (doing_of o))
             (party_put_other q p (party_at_begin start flight t.world.changes) t.world.latest ne) ∙ h.none q;
         later = omega arith;
-        under = L.begins t p start flight r made free h.holds (sym named ∙ first.1);
+        under = L.begins t p start flight is_reached made free h.holds (sym named ∙ first.1);
         answers =
             subst (C.HasAnswered (H.read t.world.words t.world.kept) (t.events ++ Begun p start ∷ [])) (sym (append-nil story.calls))
             (C.quiet (H.read t.world.words t.world.kept) t.events (Begun p start ∷ []) story.calls (begun_ends_none p start) h.answers);
@@ -193,7 +193,7 @@ module _ {T : Type 0} (C : Course T) (H : Holding C) (code : Coding T) (kind : K
         found = h.found;
         doing = h.doing;
         others = h.others;
-        later = let l = h.later in omega arith;
+        later = omega (arith, h.later);
         under = L.stays h.object h.turns h.party h.call.start story.told h.flight t.world.words t.world.kept owner h.under;
         answers =
             subst (C.HasAnswered h.object (t.events ++ Died owner ∷ [])) (sym (append-nil story.calls))
@@ -210,40 +210,45 @@ module _ {T : Type 0} (C : Course T) (H : Holding C) (code : Coding T) (kind : K
   -- a turn that is not refused leaves what stands between two turns
   takes : (t : Trace T) (story : Story T) (turn : Turn T) → refusal_of t.world turn ≡ None → HasRun t story
       → RunsWhole (after_turn t turn).events → Stands C H (after_turn t turn) (story_after t.world turn story)
-  takes t story (Begin p start) free h runs =
-      begins t story h.reached h.made p start free (λ q. runs p start t.events ([], refl) q)
-      (h.stands (whole_before t.events (Begun p start ∷ []) runs))
-  takes t story (Next p) free h runs =
-      nexts t story p h.made free
-      (h.stands (whole_before t.events (events_of t.world (Next p)) runs))
-  takes t story (Decide p said) free h runs =
-      decides t story p said h.made free
-      (h.stands (whole_before t.events (events_of t.world (Decide p said)) runs))
-  takes t story (Die owner) free h runs =
+  takes t story (Begin p start) free has_run runs =
+      begins t story has_run.reached has_run.made p start free (λ q. runs p start t.events ([], refl) q)
+      (has_run.stands (whole_before t.events (Begun p start ∷ []) runs))
+  takes t story (Next p) free has_run runs =
+      nexts t story p has_run.made free
+      (has_run.stands (whole_before t.events (events_of t.world (Next p)) runs))
+  takes t story (Decide p said) free has_run runs =
+      decides t story p said has_run.made free
+      (has_run.stands (whole_before t.events (events_of t.world (Decide p said)) runs))
+  takes t story (Die owner) free has_run runs =
       dies t story owner
-      (h.stands (whole_before t.events (Died owner ∷ []) runs))
+      (has_run.stands (whole_before t.events (Died owner ∷ []) runs))
 
   -- a run that has come so far goes on by a turn that is not refused
   keeps : (t : Trace T) (story : Story T) (turn : Turn T) → refusal_of t.world turn ≡ None → HasRun t story
       → HasRun (after_turn t turn) (story_after t.world turn story)
-  keeps t story turn free h =
+  keeps t story turn free has_run =
       let making = turn_making t.world turn in
       record {
-        reached = reached_more t turn free h.reached;
-        made = record { coding = making.coding ∙ h.made.coding; kind = making.kind ∙ h.made.kind; capacity = making.capacity ∙ h.made.capacity };
-        stands = λ runs. takes t story turn free h runs;
+        reached = reached_more t turn free has_run.reached;
+        made =
+            record {
+              coding = making.coding ∙ has_run.made.coding;
+              kind = making.kind ∙ has_run.made.kind;
+              capacity = making.capacity ∙ has_run.made.capacity;
+            };
+        stands = λ runs. takes t story turn free has_run runs;
       }
 
   attempt_keeps : (t : Trace T) (story : Story T) (turn : Turn T) (o : Option Refusal) → refusal_of t.world turn ≡ o → HasRun t story
       → HasRun (turns.unless_refused t (after_turn t turn) o) (stories.unless_refused story (story_after t.world turn story) o)
-  attempt_keeps t story turn None e h = keeps t story turn e h
-  attempt_keeps t story turn (Some refusal) e h = h
+  attempt_keeps t story turn None e has_run = keeps t story turn e has_run
+  attempt_keeps t story turn (Some refusal) e has_run = has_run
 
   run_keeps : (turns : List (Turn T)) (t : Trace T) (story : Story T) → HasRun t story → HasRun (run turns t) (story_on turns t story)
-  run_keeps [] t story h = h
-  run_keeps (turn ∷ turns) t story h =
+  run_keeps [] t story has_run = has_run
+  run_keeps (turn ∷ turns) t story has_run =
       run_keeps turns (attempt t turn) (stories.unless_refused story (story_after t.world turn story) (refusal_of t.world turn))
-      (attempt_keeps t story turn (refusal_of t.world turn) refl h)
+      (attempt_keeps t story turn (refusal_of t.world turn) refl has_run)
 
   abbrev no_calls : Story T
   no_calls = record { told = []; calls = [] }
@@ -251,9 +256,9 @@ module _ {T : Type 0} (C : Course T) (H : Holding C) (code : Coding T) (kind : K
   -- at the opening no call is under way, and the words hold the object
   opens : (t : Trace T) → IsReached t → IsMadeSo code kind capacity t → (queue : ℕ) → queue_error t.world.kind queue ≡ None
       → HasRun (opened t.world.coding t.world.kind t.world.capacity queue t.world.parties) no_calls
-  opens t r made queue queued =
+  opens t is_reached made queue queued =
       record {
-        reached = record { coded = r.coded; admitted = r.admitted; queue = queue; queued = queued; turns = []; is = refl };
+        reached = record { coded = is_reached.coded; admitted = is_reached.admitted; queue = queue; queued = queued; turns = []; is = refl };
         made = record { coding = made.coding; kind = made.kind; capacity = made.capacity };
         stands = λ runs.
             inl (record {

@@ -64,7 +64,7 @@ module _ {T : Type 0} where
             (turns.under_way course holding t.world.coding kinds.Container t.world.capacity rules t (story_of t r) h)
             ∙ ap (λ f. is_look (Some f)) k.flight_is)
 
-        -- so it is whether the call under way is a look or another
+        -- the cases are whether the call under way is a look or another
         go : Talking t.world.coding r.coded t.world.capacity h.under.first_words h.under.views h.party h.call.start (story_of t r).told
             h.flight t.world.words t.world.kept
             ⊎ Viewing t.world.coding r.coded t.world.capacity h.under.first_words h.under.holds h.under.views h.party h.call.start

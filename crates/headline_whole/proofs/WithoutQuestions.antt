@@ -32,18 +32,18 @@ module _ {T State : Type 0} (spec : Specification T State) where
 
   -- events that end no call leave the answers those of the object
   pub still_answered : (object : State) (events es : List (Event T)) → NoneEnds es → HasAnswered object events → HasAnswered object (events ++ es)
-  still_answered object events es none h =
+  still_answered object events es none has_answered =
       let same = more_answered events es none in
       record {
-        legal = subst (λ (xs : List (Start T × Answer T)). IsLegal spec.object xs) (sym same) h.legal;
-        stands = ap (λ (xs : List (Start T × Answer T)). standing spec.object xs) same ∙ h.stands;
+        legal = subst (λ (xs : List (Start T × Answer T)). IsLegal spec.object xs) (sym same) has_answered.legal;
+        stands = ap (λ (xs : List (Start T × Answer T)). standing spec.object xs) same ∙ has_answered.stands;
       }
 
   -- a call ends
   pub once_more : (object : State) (events wrote : List (Event T)) (p : ℕ) (start : Start T) (answer : Answer T) → NoneEnds wrote
       → (spec.is_call start ≡ true → answer ≡ spec.object.answer object start) → HasAnswered object events
       → HasAnswered (if spec.is_call start then spec.object.after object start else object) (events ++ (wrote ++ Finished p start answer ∷ []))
-  once_more object events wrote p start answer none said h = go (spec.is_call start) refl
+  once_more object events wrote p start answer none said has_answered = go (spec.is_call start) refl
     where
       -- a call that ends adds its answer to those that the object has to give, and no other
       grown : answered spec.is_call (events ++ (wrote ++ Finished p start answer ∷ []))
@@ -54,7 +54,7 @@ module _ {T State : Type 0} (spec : Specification T State) where
           (flat_map-append (whole.answer_in spec.is_call) wrote (Finished p start answer ∷ [])
           ∙ ap (λ (xs : List (Start T × Answer T)). xs ++ ((if spec.is_call start then (start, answer) ∷ [] else []) ++ [])) (none spec.is_call))
 
-      -- so it is whether the call is one of the object's or not
+      -- the cases are whether the call is one of the object's
       go : (b : Bool) → spec.is_call start ≡ b
           → HasAnswered (if b then spec.object.after object start else object) (events ++ (wrote ++ Finished p start answer ∷ []))
       go true is =
@@ -62,21 +62,23 @@ module _ {T State : Type 0} (spec : Specification T State) where
           grown ∙ ap (λ (b : Bool). answered spec.is_call events ++ ((if b then (start, answer) ∷ [] else []) ++ [])) is in
           record {
             legal = subst (λ (xs : List (Start T × Answer T)). IsLegal spec.object xs) (sym same)
-                (legal_more spec.object (answered spec.is_call events) ((start, answer) ∷ []) object h.legal h.stands
+                (legal_more spec.object (answered spec.is_call events) ((start, answer) ∷ []) object has_answered.legal has_answered.stands
                 (ap (λ (a : Answer T). a ∷ []) (sym (said is))));
             stands = ap (λ (xs : List (Start T × Answer T)). standing spec.object xs) same
-                ∙ standing_more spec.object (answered spec.is_call events) ((start, answer) ∷ []) object (spec.object.after object start) h.stands refl;
+                ∙ standing_more spec.object (answered spec.is_call events) ((start, answer) ∷ []) object
+                (spec.object.after object start) has_answered.stands refl;
           }
       go false is =
           let same : answered spec.is_call (events ++ (wrote ++ Finished p start answer ∷ [])) ≡ answered spec.is_call events =
           grown ∙ (ap (λ (b : Bool). answered spec.is_call events ++ ((if b then (start, answer) ∷ [] else []) ++ [])) is
           ∙ append-nil (answered spec.is_call events)) in
           record {
-            legal = subst (λ (xs : List (Start T × Answer T)). IsLegal spec.object xs) (sym same) h.legal;
-            stands = ap (λ (xs : List (Start T × Answer T)). standing spec.object xs) same ∙ h.stands;
+            legal = subst (λ (xs : List (Start T × Answer T)). IsLegal spec.object xs) (sym same) has_answered.legal;
+            stands = ap (λ (xs : List (Start T × Answer T)). standing spec.object xs) same ∙ has_answered.stands;
           }
 
 module _ {T : Type 0} (R : Reading T) where
+  -- a course in which each call of the object answers as the object does, and other calls leave it
   abbrev pub course : Course T
   course =
       record {

@@ -55,6 +55,7 @@ as_a_list = subst (λ (xs : List (Start ℕ × Answer ℕ)). IsLegal (whole_list
 
 -- ---- a peek answers the oldest, and leaves it
 
+-- two values are pushed between peeks, one is popped, and a last peek follows
 abbrev peeked : List (Turn ℕ)
 peeked =
     roles
@@ -80,6 +81,7 @@ as_a_list_with_peeks = subst (λ (xs : List (Start ℕ × Answer ℕ)). IsLegal 
 
 -- ---- a list that is full refuses, and one that overflows hands its front back
 
+-- two values are pushed into a list of one place, and two pops follow
 abbrev past_full : List (Turn ℕ)
 past_full =
     roles
@@ -129,6 +131,7 @@ as_one_value = subst (λ (xs : List (Start ℕ × Answer ℕ)). IsLegal (as_valu
 
 -- ---- places are set and reset: a search goes on behind the place that was found last
 
+-- places are set and reset, and a search goes on behind the place that was found last
 abbrev set_and_reset : List (Turn ℕ)
 set_and_reset =
     begins 0 (Bits (bits.Set 1)) 4
@@ -402,7 +405,7 @@ stopped_alone legal =
     let answers : Index 0 ∷ Index 1 ∷ Number 2 ∷ [] ≡ Index 0 ∷ Index 1 ∷ Number 1 ∷ [] = ap answers_in legal in
     let two : ◌≡◌ {A = ℕ} 2 1 = cc in absurd (cc)
 
--- and a recovery asks about each
+-- a recovery asks about each index
 asked_none : RepliesAs (whole_owners 2)
     (a_call 0 (Robust (robust.Acquire 5)) [] [] (Index 0) ∷ a_call 1 (Robust (robust.Recover Default)) [] [] (State Unlocked) ∷ [])
     → ⊥
@@ -431,7 +434,7 @@ shown_before legal = seven (ap questions_in legal)
     seven : ◌≡◌ {A = List (List (Question ℕ))} ([] ∷ [] ∷ (questions.Value 0 9 ∷ []) ∷ []) ([] ∷ [] ∷ (questions.Value 0 7 ∷ []) ∷ []) → ⊥
     seven asked = let nine : ◌≡◌ {A = ℕ} 9 7 = cc in absurd (cc)
 
--- and so does a state that is brought up to date
+-- a state that is brought up to date shows the value that stands there now
 still_seven : (stands_after (whole_map 2)
     (a_call 0 (Container (containers.Add 7 5)) [] [] (Index 0)
     ∷ a_call 1 (Container containers.GetState) [] [] (Number 1)

@@ -34,21 +34,18 @@ module _ {T : Type 0} where
       let sum_none = sum_first (λ x. of_none (whose x)) e es in
       let more =
       all_owned owner id n f es inside
-      (λ j ne low. (let z = none j ne low in let s = sum_first (owned owner j one) e es in omega arith))
+      (λ j ne low. omega (arith, none j ne low, sum_first (owned owner j one) e es))
       (λ q ne past. nil_right (own_of q e) (events_by q es) (beyond q ne past)) (omega arith) in
-      let a = sum_first f e es in
-      let b = sum_first (owned owner id f) e es in
-      omega arith
+      omega (arith, sum_first f e es, sum_first (owned owner id f) e es)
     where
       first : (o : Option ℕ) → whose e ≡ o → f e ≡ owned owner id f e
-      first None is = (let s = sum_first (λ x. of_none (whose x)) e es in let k : of_none (whose e) ≡ 1 = ap of_none is in absurd (omega arith))
+      first None is = (let k : of_none (whose e) ≡ 1 = ap of_none is in absurd (omega (arith, sum_first (λ x. of_none (whose x)) e es)))
       first (Some q) is = ⊎_elim mine other (cases_eq (owner q) id)
         where
           mine : owner q ≡ id → f e ≡ owned owner id f e
           mine = grind (arith, nat_tests)
 
-          -- an event whose party is of another seat counts as much as one of this seat's, since
-          -- there is no such event
+          -- an event whose party is of another seat counts as much as one of this seat's, since there is no such event
           other : owner q ≢ id → f e ≡ owned owner id f e
           other ne =
               ⊎_elim (λ (past : n ≤ q).
@@ -56,8 +53,8 @@ module _ {T : Type 0} where
               (λ (low : q < n). (
               let z = none (owner q) ne (inside q low) in
               let s = sum_first (owned owner (owner q) one) e es in
-              let t : (owner q == owner q) ≡ true = grind (arith, nat_tests) in
-              let k : owned owner (owner q) one e ≡ 1 = ap (λ o. if_owned owner (owner q) o 1) is ∙ rw t refl in
+              let tests_same : (owner q == owner q) ≡ true = grind (arith, nat_tests) in
+              let k : owned owner (owner q) one e ≡ 1 = ap (λ o. if_owned owner (owner q) o 1) is ∙ rw tests_same refl in
               absurd (omega arith))) (nat_cases n q)
 
   -- a seat that is spent has no party that did something
@@ -81,7 +78,7 @@ module _ {T : Type 0} where
         by = 0;
         last = v;
         at = refl;
-        any = (let is = ap (λ s. s.part) all in omega arith);
+        any = omega (arith, ap (λ s. s.part) all);
         all = inl seen;
         someone = refl;
         spent = spent;
@@ -90,13 +87,10 @@ module _ {T : Type 0} where
       -- the only seat has a share, so of seats without one nothing has to be known
       spent : SpentIn (v ∷ [])
       spent zero u at part =
-          (let is = ap (λ (z : View T). z.share.part) (some-injective v u at) in
-          let some_part = ap (λ s. s.part) all in
-          absurd (omega arith))
+          (absurd (omega (arith, ap (λ (z : View T). z.share.part) (some-injective v u at), ap (λ s. s.part) all)))
       spent (suc j) u at part = absurd (some-ne-none u (sym at))
 
-  -- a seat whose view changes keeps to it that who has no share left made nothing and has no call
-  -- under way
+  -- a seat whose view changes keeps to it that who has no share left made nothing and has no call under way
   spent_set : (views : List (View T)) (id : ℕ) (w : View T) → SpentIn views → (w.share.part ≡ 0 → (w.made ≡ []) × (w.going ≡ None)) → SpentIn (set views id w)
   spent_set views id w spent own j u at part =
       ⊎_elim (λ (e : (j ≡ id) × (w ≡ u)). subst (λ (z : View T). (z.made ≡ []) × (z.going ≡ None)) e.1
@@ -115,29 +109,26 @@ module _ {T : Type 0} where
         by = id;
         last = w;
         at = set_here views id w low;
-        any = (let is = ap (λ s. s.part) same in omega arith);
+        any = omega (arith, ap (λ s. s.part) same);
         all = inl seen;
         someone = someone;
-        spent = spent_set views id w spent (λ none. (let is = ap (λ s. s.part) same in absurd (omega arith)));
+        spent = spent_set views id w spent (λ none. (absurd (omega (arith, ap (λ s. s.part) same))));
       }
 
   -- only the seat with the whole has a share
   pub known_whole : (views : List (View T)) (events : List (Event T)) (id : ℕ) (v : View T)
       → get_elem? views id ≡ some v → IsAll v.share → Known views events → HasSeen v events
-  known_whole views events id v at whole k = ⊎_elim mine theirs (cases_eq k.by id)
+  known_whole views events id v at whole known = ⊎_elim mine theirs (cases_eq known.by id)
     where
-      mine : k.by ≡ id → HasSeen v events
-      mine e =
-          let there : some k.last ≡ some v = sym k.at ∙ (ap (get_elem? views) e ∙ at) in
-          subst (λ z. HasSeen z events) (some-injective k.last v there) k.all
+      mine : known.by ≡ id → HasSeen v events
+      mine by_is_id =
+          let there : some known.last ≡ some v = sym known.at ∙ (ap (get_elem? views) by_is_id ∙ at) in
+          subst (λ z. HasSeen z events) (some-injective known.last v there) known.all
 
-      theirs : k.by ≢ id → HasSeen v events
-      theirs ne =
-          let none = others_none share_of views id v at k.shares whole k.by k.last ne k.at in
-          let any = k.any in
-          absurd (omega arith)
+      theirs : known.by ≢ id → HasSeen v events
+      theirs ne = absurd (omega (arith, others_none share_of views id v at known.shares whole known.by known.last ne known.at, known.any))
 
-  -- and its parties did all
+  -- where one seat has the whole share, its parties did all that was done
   pub owned_whole : (owner : ℕ → ℕ) (t : Trace T) (views : List (View T)) (id : ℕ) (v : View T)
       → get_elem? views id ≡ some v → IsAll v.share → Shares share_of views → SpentIn views
       → ((j : ℕ) (u : View T) → j ≢ id → get_elem? views j ≡ some u → Fits owner t j u)
@@ -156,13 +147,13 @@ module _ {T : Type 0} where
   pub known_split : (views : List (View T)) (events : List (Event T)) (id : ℕ) (v : View T) → id < length views
       → get_elem? views id ≡ some v → Known views events
       → Known (set views id (left_view v) ++ right_view v ∷ []) events
-  known_split views events id v low at k = ⊎_elim mine theirs (cases_eq k.by id)
+  known_split views events id v low at known = ⊎_elim mine theirs (cases_eq known.by id)
     where
       cut : List (View T)
       cut = set views id (left_view v) ++ right_view v ∷ []
 
       spent : SpentIn cut
-      spent = spent_end (set views id (left_view v)) (right_view v) (spent_set views id (left_view v) k.spent (λ none. k.spent id v at none)) refl refl
+      spent = spent_end (set views id (left_view v)) (right_view v) (spent_set views id (left_view v) known.spent (λ none. known.spent id v at none)) refl refl
         where
           spent_end : (xs : List (View T)) (w : View T) → SpentIn xs → w.made ≡ [] → w.going ≡ None → SpentIn (xs ++ w ∷ [])
           spent_end [] w h none idle zero u e part = grind (arith, some-injective)
@@ -171,34 +162,34 @@ module _ {T : Type 0} where
           spent_end (x ∷ xs) w h none idle (suc j) u e part = spent_end xs w (λ i z. h (suc i) z) none idle j u e part
 
       -- after the seat that has seen all was split, its left half has seen all
-      mine : k.by ≡ id → Known cut events
-      mine e =
-          let there : some k.last ≡ some v = sym k.at ∙ (ap (get_elem? views) e ∙ at) in
-          let same : k.last ≡ v = some-injective k.last v there in
-          let any : 0 < v.share.part = subst (λ (z : View T). 0 < z.share.part) same k.any in
-          let all : HasSeen v events = subst (λ z. HasSeen z events) same k.all in
+      mine : known.by ≡ id → Known cut events
+      mine by_is_id =
+          let there : some known.last ≡ some v = sym known.at ∙ (ap (get_elem? views) by_is_id ∙ at) in
+          let same : known.last ≡ v = some-injective known.last v there in
+          let any : 0 < v.share.part = subst (λ (z : View T). 0 < z.share.part) same known.any in
+          let all : HasSeen v events = subst (λ z. HasSeen z events) same known.all in
           record {
-            shares = shares_split share_of views id v (left_view v) (right_view v) at refl refl k.shares;
+            shares = shares_split share_of views id v (left_view v) (right_view v) at refl refl known.shares;
             by = id;
             last = left_view v;
             at = at_longer (set views id (left_view v)) (right_view v ∷ []) id (left_view v) (set_here views id (left_view v) low);
             any = any;
             all = all;
-            someone = k.someone;
+            someone = known.someone;
             spent = spent;
           }
 
       -- after another seat was split, the one that has seen all still has
-      theirs : k.by ≢ id → Known cut events
+      theirs : known.by ≢ id → Known cut events
       theirs ne =
           record {
-            shares = shares_split share_of views id v (left_view v) (right_view v) at refl refl k.shares;
-            by = k.by;
-            last = k.last;
-            at = at_longer (set views id (left_view v)) (right_view v ∷ []) k.by k.last (set_else views id k.by (left_view v) ne ∙ k.at);
-            any = k.any;
-            all = k.all;
-            someone = k.someone;
+            shares = shares_split share_of views id v (left_view v) (right_view v) at refl refl known.shares;
+            by = known.by;
+            last = known.last;
+            at = at_longer (set views id (left_view v)) (right_view v ∷ []) known.by known.last (set_else views id known.by (left_view v) ne ∙ known.at);
+            any = known.any;
+            all = known.all;
+            someone = known.someone;
             spent = spent;
           }
 
@@ -207,20 +198,20 @@ module _ {T : Type 0} where
       → get_elem? views id ≡ some v → ¬ (other ≡ id) → get_elem? views other ≡ some w → 0 < v.share.part
       → IsBeginning v.seen events → v.other ≡ [] → w.other ≡ [] → Known views events
       → Known (set (set views id (joined_view v w)) other spent_view) events
-  known_join views events id other v w at apart at' part mine_seen alone alone' k =
-      ⊎_elim mine (λ ne. ⊎_elim theirs (third ne) (cases_eq k.by other)) (cases_eq k.by id)
+  known_join views events id other v w at apart at' part mine_seen alone alone' known =
+      ⊎_elim mine (λ ne. ⊎_elim theirs (third ne) (cases_eq known.by other)) (cases_eq known.by id)
     where
       both : List (View T)
       both = set (set views id (joined_view v w)) other spent_view
 
       shares : Shares share_of both
-      shares = shares_join share_of views id other v w (joined_view v w) spent_view at apart at' refl refl k.shares
+      shares = shares_join share_of views id other v w (joined_view v w) spent_view at apart at' refl refl known.shares
 
       there : get_elem? both id ≡ some (joined_view v w)
       there = grind (arith, set_else, set, other, set_here, within)
 
       more : 0 < v.share.part → 0 < (joined_view v w).share.part
-      more any = let h = positive v.share.part w.share.parts any (k.shares.fits other w at').0 in omega arith
+      more any = omega (arith, positive v.share.part w.share.parts any (known.shares.fits other w at').0)
 
       spent : SpentIn both
       spent = grind (arith, spent_set, set, other, more)
@@ -231,20 +222,20 @@ module _ {T : Type 0} where
 
       -- where nothing has happened all have seen all
       early : events ≡ [] → v.seen ≡ events
-      early e = none_left v.seen mine_seen.rest (sym e ∙ mine_seen.is) ∙ sym e
+      early events_are_empty = none_left v.seen mine_seen.rest (sym events_are_empty ∙ mine_seen.is) ∙ sym events_are_empty
 
       -- where the seat that takes over had seen all, its joined view has, with which all is known
-      mine : k.by ≡ id → Known both events
-      mine e =
-          let same : k.last ≡ v = some-injective k.last v (sym k.at ∙ (ap (get_elem? views) e ∙ at)) in
+      mine : known.by ≡ id → Known both events
+      mine by_is_id =
+          let same : known.last ≡ v = some-injective known.last v (sym known.at ∙ (ap (get_elem? views) by_is_id ∙ at)) in
           record {
             shares = shares;
             by = id;
             last = joined_view v w;
             at = there;
             any = more part;
-            all = seen (subst (λ z. HasSeen z events) same k.all);
-            someone = k.someone;
+            all = seen (subst (λ z. HasSeen z events) same known.all);
+            someone = known.someone;
             spent = spent;
           }
         where
@@ -252,19 +243,18 @@ module _ {T : Type 0} where
           seen (inl h) = inl h
           seen (inr h) = inl (early (sym h ∙ alone))
 
-      -- where the seat that was taken over had seen all, the joined view has, with which all is
-      -- known
-      theirs : k.by ≡ other → Known both events
-      theirs e =
-          let same : k.last ≡ w = some-injective k.last w (sym k.at ∙ (ap (get_elem? views) e ∙ at')) in
+      -- where the seat that was taken over had seen all, the joined view has, with which all is known
+      theirs : known.by ≡ other → Known both events
+      theirs by_is_other =
+          let same : known.last ≡ w = some-injective known.last w (sym known.at ∙ (ap (get_elem? views) by_is_other ∙ at')) in
           record {
             shares = shares;
             by = id;
             last = joined_view v w;
             at = there;
             any = more part;
-            all = seen (subst (λ z. HasSeen z events) same k.all);
-            someone = k.someone;
+            all = seen (subst (λ z. HasSeen z events) same known.all);
+            someone = known.someone;
             spent = spent;
           }
         where
@@ -272,5 +262,5 @@ module _ {T : Type 0} where
           seen (inl h) = inr h
           seen (inr h) = inl (early (sym h ∙ alone'))
 
-      third : k.by ≢ id → k.by ≢ other → Known both events
+      third : known.by ≢ id → known.by ≢ other → Known both events
       third = grind (arith, shares, set_else, set, other, spent)

@@ -83,10 +83,10 @@ module _ {T : Type 0} (machine : OneMachine T) where
   -- a machine that has just been opened is here, with no turn and no event
   pub opens_here : IsCoding code → capacity_error kind capacity ≡ None → Here ((opening_of kind).words code.size capacity ++ 0 ∷ []) [] [] None
   opens_here coded admitted =
-      let t : Trace T = worlds.opening code kind capacity 0 in
+      let trace_now : Trace T = worlds.opening code kind capacity 0 in
       let known = known_alone (first_view capacity) refl refl in
       record {
-        u = t;
+        u = trace_now;
         between =
             record {
               run = record {
@@ -159,7 +159,7 @@ module _ {T : Type 0} (machine : OneMachine T) where
   pub sums : (words : List ℕ) (ts : List (Turn T)) (es : List (Event T)) (going : Option (Start T × Flight T))
       → (h : Here words ts es going) → (f : Event T → ℕ)
       → sum_by f (maker ts es).made ≡ sum_by (owned same_seat 0 f) h.u.events
-  sums words ts es going h f = (let all = h.between.made_own (first_view capacity) refl f in omega arith)
+  sums words ts es going h f = omega (arith, h.between.made_own (first_view capacity) refl f)
 
   -- a call that the model admits here begins, for the only seat
   pub begins : {C M E : Type 0} (call : Calling T C M E) (c : C) (m : M) (words : List ℕ) (ts : List (Turn T)) (es : List (Event T))
@@ -209,8 +209,7 @@ module _ {T : Type 0} (machine : OneMachine T) where
       abbrev wrote : List (Event T)
       wrote = own ++ ending_of 0 start (answer_in comes)
 
-      -- after a step of the call the machine has its word changed, one turn more and what the step
-      -- wrote
+      -- after a step of the call the machine has its word changed, one turn more and what the step wrote
       took : Here (slice_set words a.word (written a.op found)) (ts ++ Next 0 ∷ []) (es ++ wrote) (call_then start comes)
       took =
           let tells : events_of h.u.world (Next 0) ≡ wrote =
@@ -272,30 +271,32 @@ module _ {T : Type 0} (machine : OneMachine T) where
         n = nexts ts;
         have = first_asked capacity;
         has = record { share = (omega arith, omega arith); most = omega arith; all = λ whole. refl };
-        more = (let is = h.steps in omega arith);
+        more = omega (arith, h.steps);
         own = omega arith;
       }
 
   -- what the pass knows then is the run of these turns
   pub knows_so : (words : List ℕ) (ts : List (Turn T)) (es : List (Event T)) → Here words ts es None → Knows code kind capacity (maker ts es)
-  knows_so words ts es h =
-      knows_all code kind capacity (first_view capacity ∷ []) h.u (maker ts es) h.one h.between.run (sym h.turns) (sym h.events) (sym h.others)
-      (subst (λ n. HasAsked (maker ts es) n) (sym h.steps) (all_of ts es))
+  knows_so words ts es here =
+      knows_all code kind capacity (first_view capacity ∷ []) here.u (maker ts es) here.one here.between.run
+      (sym here.turns) (sym here.events) (sym here.others)
+      (subst (λ n. HasAsked (maker ts es) n) (sym here.steps) (all_of ts es))
 
   -- ---- a table opens so
 
   -- a table whose words and view are those of the machine here holds a machine
   pub opens_so : (words : List ℕ) (ts : List (Turn T)) (es : List (Event T)) → Here words ts es None
       → IsMachine code kind capacity (opening words [] (maker ts es))
-  opens_so words ts es h =
+  opens_so words ts es here =
       let first : View T = first_view capacity in
       subst (λ v. IsMachine code kind capacity (opening words [] v))
-      (ap (λ zs. so h.one.turns zs (call_in h.u.world 0) (state_in h.u.world.kept 0) (others_in h.u.world 0)) h.events
-      ∙ (ap (λ o. so h.one.turns es o (state_in h.u.world.kept 0) (others_in h.u.world 0)) h.there
-      ∙ (ap (λ z. so h.one.turns es None z (others_in h.u.world 0)) (stateless_none h.u.world.kept 0 (laws.stateless h.u h.between.run))
-      ∙ (ap (λ xs. so xs es None None (others_in h.u.world 0)) h.turns ∙ ap (λ n. so ts es None None n) h.others))))
-      (settle_with code kind capacity 0 0 same_seat (nexts ts) 0 0 words (alone words) first es h.u refl (omega arith)
-      (λ call is. (let no : ◌≡◌ {A = Option (Start T × Flight T)} None (Some call) = sym h.there ∙ is in absurd (cc))) h.between h.one (gains_so words ts es h))
+      (ap (λ zs. so here.one.turns zs (call_in here.u.world 0) (state_in here.u.world.kept 0) (others_in here.u.world 0)) here.events
+      ∙ (ap (λ o. so here.one.turns es o (state_in here.u.world.kept 0) (others_in here.u.world 0)) here.there
+      ∙ (ap (λ z. so here.one.turns es None z (others_in here.u.world 0)) (stateless_none here.u.world.kept 0 (laws.stateless here.u here.between.run))
+      ∙ (ap (λ xs. so xs es None None (others_in here.u.world 0)) here.turns ∙ ap (λ n. so ts es None None n) here.others))))
+      (settle_with code kind capacity 0 0 same_seat (nexts ts) 0 0 words (alone words) first es here.u refl (omega arith)
+      (λ call is. (let no : ◌≡◌ {A = Option (Start T × Flight T)} None (Some call) = sym here.there ∙ is in absurd (cc)))
+      here.between here.one (gains_so words ts es here))
     where
       -- the view of the only pass with these turns and events, this call under way, this state and
       -- so many changes by others

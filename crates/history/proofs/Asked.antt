@@ -22,26 +22,16 @@ module _ {A : Type 0} where
   sum_set f [] i x y at = absurd (some-ne-none x (sym at))
   sum_set f (z ∷ zs) zero x y at =
       let here : f z ≡ f x = ap f (some-injective z x at) in
-      let a = sum_by-cons f y zs in
-      let b = sum_by-cons f z zs in
-      omega arith
-  sum_set f (z ∷ zs) (suc i) x y at =
-      let more = sum_set f zs i x y at in
-      let a = sum_by-cons f z (set zs i y) in
-      let b = sum_by-cons f z zs in
-      omega arith
+      omega (arith, sum_by-cons f y zs, sum_by-cons f z zs)
+  sum_set f (z ∷ zs) (suc i) x y at = omega (arith, sum_set f zs i x y at, sum_by-cons f z (set zs i y), sum_by-cons f z zs)
 
   -- a sum of numbers that are no more is no more
   sum_most : (f g : A → ℕ) (xs : List A) → ((j : ℕ) (x : A) → get_elem? xs j ≡ some x → f x ≤ g x) → sum_by f xs ≤ sum_by g xs
   sum_most f g [] each = omega arith
   sum_most f g (z ∷ zs) each =
-      let here = each zero z refl in
-      let more = sum_most f g zs (λ j x at. each (suc j) x at) in
-      let a = sum_by-cons f z zs in
-      let b = sum_by-cons g z zs in
-      omega arith
+      omega (arith, each zero z refl, sum_most f g zs (λ j x at. each (suc j) x at), sum_by-cons f z zs, sum_by-cons g z zs)
 
-  -- where all others have no more of the one than of the other
+  -- where every other element has no more of f than of g, the sums differ by no more than this element does
   sum_rest : (f g : A → ℕ) (xs : List A) (i : ℕ) (x : A) → get_elem? xs i ≡ some x
       → ((j : ℕ) (y : A) → j ≢ i → get_elem? xs j ≡ some y → f y ≤ g y) → sum_by f xs + g x ≤ sum_by g xs + f x
   sum_rest f g [] i x at each = absurd (some-ne-none x (sym at))
@@ -49,32 +39,28 @@ module _ {A : Type 0} where
       let one : f z ≡ f x = ap f (some-injective z x at) in
       let two : g z ≡ g x = ap g (some-injective z x at) in
       let more = sum_most f g zs (λ j y there. each (suc j) y (λ e. absurd (omega arith)) there) in
-      let a = sum_by-cons f z zs in
-      let b = sum_by-cons g z zs in
-      omega arith
+      omega (arith, sum_by-cons f z zs, sum_by-cons g z zs)
   sum_rest f g (z ∷ zs) (suc i) x at each =
       let here = each zero z (λ e. absurd (omega arith)) refl in
       let more = sum_rest f g zs i x at (λ j y ne there. each (suc j) y (λ e. ne (let same : j ≡ i = omega arith in same)) there) in
-      let a = sum_by-cons f z zs in
-      let b = sum_by-cons g z zs in
-      omega arith
+      omega (arith, sum_by-cons f z zs, sum_by-cons g z zs)
 
 at_most_all : (k : ℕ → ℕ) (n i : ℕ) → i < n → k i ≤ tally k n
 at_most_all k zero i low = absurd (omega arith)
 at_most_all k (suc n) i low =
     ⊎_elim (λ (past : n ≤ i). (let same : i ≡ n = omega arith in let here : k i ≡ k n = ap k same in omega arith))
-    (λ (low' : i < n). (let more = at_most_all k n i low' in omega arith)) (nat_cases n i)
+    (λ (low' : i < n). omega (arith, at_most_all k n i low')) (nat_cases n i)
 
 no_more_than : (a b n : ℕ) → 0 < n → a * n ≤ b * n → a ≤ b
 no_more_than zero b n any le = omega arith
 no_more_than (suc a) zero n any le = absurd (omega arith)
-no_more_than (suc a) (suc b) n any le = let less : a * n ≤ b * n = omega arith in let more = no_more_than a b n any less in omega arith
+no_more_than (suc a) (suc b) n any le = let less : a * n ≤ b * n = omega arith in omega (arith, no_more_than a b n any less)
 
 half_part : (s : Share) → IsPart s → IsPart (half_of s)
-half_part s h = (let any = h.0 in omega arith, let few = h.1 in omega arith)
+half_part s part = (omega (arith, part.0), omega (arith, part.1))
 
 no_half : (s : Share) → IsPart s → IsAll (half_of s) → s.part ≡ s.parts
-no_half s h whole = (let any = h.0 in let few = h.1 in let is : s.part ≡ s.parts + s.parts = whole in absurd (omega arith))
+no_half s is_part whole = (let is : s.part ≡ s.parts + s.parts = whole in absurd (omega (arith, is_part.0, is_part.1)))
 
 abbrev asked_of : {T : Type 0} → View T → ℕ
 asked_of v = v.asked
@@ -87,9 +73,9 @@ module _ {T : Type 0} where
   pub part_of : (views : List (View T)) (id : ℕ) (v : View T) → get_elem? views id ≡ some v → Shares (λ (v : View T). v.share) views → IsPart v.share
   part_of views id v at h =
       let fit = h.fits id v at in
-      let few : h.each id ≤ h.whole = (let all = h.sum in let low = at_most_all h.each (length views) id (at_below views id v at) in omega arith) in
+      let few : h.each id ≤ h.whole = (omega (arith, h.sum, at_most_all h.each (length views) id (at_below views id v at))) in
       let scaled : v.share.parts * h.each id ≤ v.share.parts * h.whole = mul-le-mul_left v.share.parts few in
-      (fit.0, no_more_than v.share.part v.share.parts h.whole h.any (let is = fit.1 in omega arith))
+      (fit.0, no_more_than v.share.part v.share.parts h.whole h.any (omega (arith, fit.1)))
 
   -- what one of the seats has asked for
   pub asked_at : (views : List (View T)) (steps id : ℕ) (v : View T) → get_elem? views id ≡ some v → Shares (λ (v : View T). v.share) views
@@ -103,17 +89,17 @@ module _ {T : Type 0} where
         all = λ whole. (
             let spent : (j : ℕ) (x : View T) → j ≢ id → get_elem? views j ≡ some x → x.asked ≡ x.aside =
             λ j x ne there. h.spent j x there (others_none (λ (v : View T). v.share) views id v at shares whole j x ne there) in
-            let least = sum_rest asked_of aside_of views id v at (λ j x ne there. (let same = spent j x ne there in omega arith)) in
+            let least = sum_rest asked_of aside_of views id v at (λ j x ne there. omega (arith, spent j x ne there)) in
             omega arith);
       }
 
   -- it asks for some more, and the run takes so many steps more
   pub has_more : (v w : View T) (old n : ℕ) → HasAsked v old → w.share ≡ v.share → w.asked + v.aside ≡ v.asked + w.aside + n → HasAsked w (old + n)
-  has_more v w old n h same own =
+  has_more v w old n asked same own =
       record {
-        share = subst IsPart (sym same) h.share;
-        most = (let most = h.most in omega arith);
-        all = λ whole. (let all = h.all (subst IsAll same whole) in omega arith);
+        share = subst IsPart (sym same) asked.share;
+        most = omega (arith, asked.most);
+        all = λ whole. omega (arith, asked.all (subst IsAll same whole));
       }
 
   -- what all seats have asked for grows by what one of them asks for
@@ -122,12 +108,9 @@ module _ {T : Type 0} where
   have_more views id v w old n at h own none =
       record {
         sum = (
-            let sum = h.sum in
-            let a = sum_set asked_of views id v w at in
-            let b = sum_set aside_of views id v w at in
-            omega arith);
+            omega (arith, h.sum, sum_set asked_of views id v w at, sum_set aside_of views id v w at));
         each = λ j x found.
-            ⊎_elim (λ e. subst (λ (z : View T). z.aside ≤ z.asked) e.1 (let low = h.each id v at in omega arith)) (λ e. h.each j x e.1)
+            ⊎_elim (λ e. subst (λ (z : View T). z.aside ≤ z.asked) e.1 (omega (arith, h.each id v at))) (λ e. h.each j x e.1)
             (at_set views id j w x found);
         spent = λ j x found.
             ⊎_elim (λ e. subst (λ (z : View T). z.share.part ≡ 0 → z.asked ≡ z.aside) e.1 none) (λ e. h.spent j x e.1)
@@ -155,32 +138,32 @@ module _ {T : Type 0} where
 
   pub steps_more : (t : Trace T) (xs : List (Turn T)) (x : Turn T) → run_steps t (xs ++ x ∷ []) ≡ run_steps t xs + turn_steps (after_turns t xs).world x
   steps_more t [] x = omega arith
-  steps_more t (y ∷ xs) x = let rest = steps_more (after_turn t y) xs x in omega arith
+  steps_more t (y ∷ xs) x = omega (arith, steps_more (after_turn t y) xs x)
 
   -- ---- a split
 
   -- what the old pass has asked for after a split
   pub left_asked : (old left : View T) (steps : ℕ) → HasAsked old steps → left.share ≡ half_of old.share → left.asked ≡ old.asked + 1
       → left.aside ≡ old.aside + 1 → HasAsked left steps
-  left_asked old left steps h share asked aside =
+  left_asked old left steps has_asked share asked aside =
       record {
-        share = subst IsPart (sym share) (half_part old.share h.share);
-        most = (let most = h.most in omega arith);
-        all = λ whole. (let all = h.all (no_half old.share h.share (subst IsAll share whole)) in omega arith);
+        share = subst IsPart (sym share) (half_part old.share has_asked.share);
+        most = omega (arith, has_asked.most);
+        all = λ whole. omega (arith, has_asked.all (no_half old.share has_asked.share (subst IsAll share whole)));
       }
 
-  -- the new pass of a split has asked for nothing
+  -- the new pass of a split, which has asked for nothing yet, keeps `HasAsked`
   pub right_asked : (old right : View T) (steps : ℕ) → HasAsked old steps → right.share ≡ half_of old.share → right.asked ≡ 0 → right.aside ≡ 0
       → HasAsked right steps
-  right_asked old right steps h share asked aside =
+  right_asked old right steps has_asked share asked aside =
       record {
-        share = subst IsPart (sym share) (half_part old.share h.share);
+        share = subst IsPart (sym share) (half_part old.share has_asked.share);
         most = omega arith;
-        all = λ whole. absurd (half_not old.share h.share (subst IsAll share whole));
+        all = λ whole. absurd (half_not old.share has_asked.share (subst IsAll share whole));
       }
     where
       half_not : (s : Share) → IsPart s → IsAll (half_of s) → ⊥
-      half_not s part whole = (let any = part.0 in let few = part.1 in let is : s.part ≡ s.parts + s.parts = whole in absurd (omega arith))
+      half_not s part whole = (let is : s.part ≡ s.parts + s.parts = whole in absurd (omega (arith, part.0, part.1)))
 
 -- an operation of a call that asks for no word is no step of it
 abbrev pub none_count : Option Ask → ℕ
@@ -205,15 +188,17 @@ module _ {T : Type 0} where
   have_both views steps id other v w at apart theirs any shares h =
       record {
         sum = (
-            let sum = h.sum in
-            let a = sum_set asked_of views id v (joined_view v w) at in
-            let b = sum_set asked_of (set views id (joined_view v w)) other w spent_view still in
-            let c = sum_set aside_of views id v (joined_view v w) at in
-            let d = sum_set aside_of (set views id (joined_view v w)) other w spent_view still in
-            omega arith);
+            omega (
+              arith,
+              sum_set asked_of (set views id (joined_view v w)) other w spent_view still,
+              sum_set aside_of views id v (joined_view v w) at,
+              sum_set aside_of (set views id (joined_view v w)) other w spent_view still,
+              h.sum,
+              sum_set asked_of views id v (joined_view v w) at,
+            ));
         each = λ j x found.
             ⊎_elim (λ e. subst (λ (z : View T). z.aside ≤ z.asked) e.1 (omega arith))
-            (λ e. ⊎_elim (λ e'. subst (λ (z : View T). z.aside ≤ z.asked) e'.1 (let one = h.each id v at in let two = h.each other w theirs in omega arith))
+            (λ e. ⊎_elim (λ e'. subst (λ (z : View T). z.aside ≤ z.asked) e'.1 (omega (arith, h.each id v at, h.each other w theirs)))
             (λ e'. h.each j x e'.1) (at_set views id j (joined_view v w) x e.1))
             (at_set (set views id (joined_view v w)) other j spent_view x found);
         spent = λ j x found.
@@ -230,9 +215,8 @@ module _ {T : Type 0} where
       some_left : (joined_view v w).share.part ≡ 0 → ⊥
       some_left none =
           let its = (shares.fits other w theirs).0 in
-          let more = positive v.share.part w.share.parts any its in
           let is : v.share.part * w.share.parts + w.share.part * v.share.parts ≡ 0 = none in
-          absurd (omega arith)
+          absurd (omega (arith, positive v.share.part w.share.parts any its))
 
   -- ---- the first pass
 
@@ -258,15 +242,15 @@ module _ {T : Type 0} where
   -- a begin is no step
   pub nexts_begin : (ts : List (Turn T)) (p : ℕ) (start : Start T) → nexts (ts ++ Begin p start ∷ []) ≡ nexts ts + 0
   nexts_begin [] p start = refl
-  nexts_begin (Next q ∷ ts) p start = let more = nexts_begin ts p start in omega arith
+  nexts_begin (Next q ∷ ts) p start = omega (arith, nexts_begin ts p start)
   nexts_begin (Begin q s ∷ ts) p start = nexts_begin ts p start
   nexts_begin (Decide q s ∷ ts) p start = nexts_begin ts p start
   nexts_begin (Die q ∷ ts) p start = nexts_begin ts p start
 
-  -- and a step is one
+  -- a step is one turn more among the steps
   pub nexts_next : (ts : List (Turn T)) (p : ℕ) → nexts (ts ++ Next p ∷ []) ≡ nexts ts + 1
   nexts_next [] p = refl
-  nexts_next (Next q ∷ ts) p = let more = nexts_next ts p in omega arith
+  nexts_next (Next q ∷ ts) p = omega (arith, nexts_next ts p)
   nexts_next (Begin q s ∷ ts) p = nexts_next ts p
   nexts_next (Decide q s ∷ ts) p = nexts_next ts p
   nexts_next (Die q ∷ ts) p = nexts_next ts p

@@ -59,7 +59,7 @@ module _ {T C M E : Type 0} (code : Coding T) (kind : Kind) (call : Calling T C 
 module _ {T C M E : Type 0} (machines : Machines T) (call : Calling T C M E) where
   open machines use {code, kind, effects, size_of, laws}
 
-  -- where the call stands in the view
+  -- this is where the call stands in the view
   abbrev Stage : View T → View T → C → M → Type 0
   Stage base v c m = At code kind call base v c m
 
@@ -186,7 +186,7 @@ module _ {T C M E : Type 0} (machines : Machines T) (call : Calling T C M E) whe
           };
         })
 
-    -- as which party the call began
+    -- the pass had this party as the call began
     first_by : (p : ℕ) → call.by v.party p → (base : View T) → v.going ≡ None → Stage base v c m → call.by base.party p
     first_by = grind arith
 
@@ -200,7 +200,7 @@ module _ {T C M E : Type 0} (machines : Machines T) (call : Calling T C M E) whe
         let size : base.capacity ≡ key = ap (λ (z : View T). z.capacity) (sym first.is) ∙ known in
         let self : r.owner id ≡ id = here.self (some_share code kind call base v c m (inl first)) in
         let own_made : (f : Event T → ℕ) → sum_by f v.made ≡ sum_by (owned r.owner id f) r.trace.events =
-        λ f. (let all = here.made f in let no : sum_by f here.late ≡ 0 = ap (sum_by f) (none_late_here none) in omega arith) in
+        λ f. (let no : sum_by f here.late ≡ 0 = ap (sum_by f) (none_late_here none) in omega (arith, here.made f)) in
         let run : IsRun code kind base.capacity r.trace = subst (λ n. IsRun code kind n r.trace) (sym size) r.run in
         let parties : IfSome base.party (λ p. r.owner p ≡ id) = subst (λ (z : View T). IfSome z.party (λ p. r.owner p ≡ id)) first.is here.party in
         let sums : (f : Event T → ℕ) → sum_by f base.made ≡ sum_by (owned r.owner id f) r.trace.events =
@@ -216,8 +216,7 @@ module _ {T C M E : Type 0} (machines : Machines T) (call : Calling T C M E) whe
         at_first code kind key s id p r [] starts.mine self (λ q of_id ne. idle q of_id)
         (λ u there f.
         (let same : sum_by f u.made ≡ sum_by f v.made = ap (λ (z : View T). sum_by f z.made) (some-injective u v (sym there ∙ at)) in
-        let all = own_made f in
-        omega arith)) in
+        omega (arith, own_made f))) in
         let beginning : Beginning T =
         record {
           turning = turning_at (laws key) before;
@@ -265,8 +264,7 @@ module _ {T C M E : Type 0} (machines : Machines T) (call : Calling T C M E) whe
               (λ e. (let both : ◌≡◌ {A = Option ℕ} (Some p) (Some q) = sym under.mine ∙ e in let same : p ≡ q = cc in ne (sym same))))
               (λ x there f.
               (let same : sum_by f x.made ≡ sum_by f v.made = ap (λ (z : View T). sum_by f z.made) (some-injective x v (sym there ∙ at)) in
-              let all = here.made f in
-              omega arith));
+              omega (arith, here.made f)));
           there = here.going p mine under.mine ∙ under.going;
           by = λ base' stage. later_by p under.mine base' under.going stage;
           prior = λ base' stage. later_prior p mine under.mine base' under.going stage;

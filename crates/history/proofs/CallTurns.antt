@@ -185,10 +185,9 @@ module _ {T C M E : Type 0} (machines : Machines T) (call : Calling T C M E) whe
     -- each operation was a step of the call
     pub asked_then : step_count ask ≡ 1 → (base : View T) → Stage base v c m → StepsOnly base view_then
     asked_then one base stage =
-        let before = asked_so code kind call base v c m stage in
         let counted : steps_in y.u.world y.p ≡ taken_by v.going v.taken = y.counted in
         let more : steps_in then_trace.world y.p ≡ steps_in y.u.world y.p + step_count ask = steps_then in
-        omega arith
+        omega (arith, asked_so code kind call base v c m stage)
 
     -- who has the whole has made all of it
     all_then : (base : View T) → Stage base v c m → IsAll base.share → (f : Event T → ℕ) → sum_by f view_then.seen ≡ sum_by f view_then.made
@@ -258,7 +257,7 @@ module _ {T C M E : Type 0} (machines : Machines T) (call : Calling T C M E) whe
           state = state_then base stage;
           past = past;
           asked = steps;
-          aside = (let is = aside_then base stage in omega arith);
+          aside = omega (arith, aside_then base stage);
           alone = refl;
           wrote = (before.wrote ++ before.late) ++ mine_now;
           tells = tells before.wrote before.late before.tells before.waits (met base stage);

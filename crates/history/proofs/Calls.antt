@@ -119,7 +119,7 @@ module _ {T : Type 0} where
       rw (h.found, h.doing) (ap (others_so (w.changes + change_of w.words (ask_of (want_of w.coding flight)))) (party_put_same p _ w.latest)
       ∙ no_more_others h.since w.changes (change_of w.words (ask_of (want_of w.coding flight))) _)
 
-  -- and named as it began
+  -- after a step the party's call is named as it began
   pub started_next_own : (w : World T) (p : ℕ) (start : Start T) (flight : Flight T) (h : Stands w p start flight)
       → started (party_of p (after_next w p (party_of p w.latest)).latest) ≡ Some start
   started_next_own w p start flight h = rw (h.found, h.doing) (ap started (party_put_same p _ w.latest) ∙ ap Some h.named)
@@ -154,7 +154,7 @@ module _ {T : Type 0} where
   pub look_next : (w : World T) (p q : ℕ) → q ≢ p → is_look_of w q (Next p) ≡ false
   look_next w p q ne = rw (other_number p q ne) refl
 
-  -- nor is a begin, or a step, of a call that is none
+  -- a begin, or a step, of a call that is no look is none
   pub begins_no_look : (w : World T) (p : ℕ) (start : Start T) → is_state_look start ≡ false → is_look_of w p (Begin p start) ≡ false
   begins_no_look = grind arith
 
@@ -174,7 +174,7 @@ module _ {T : Type 0} where
       → (after_next w p (party_of p w.latest)).kept ≡ (step_in w p h.x flight (old_of w.words (ask_of (want_of w.coding flight)))).kept
   next_kept w p start flight h = rw (h.found, h.doing) refl
 
-  -- where it stands once it has gone on
+  -- this is where the call stands once it has gone on
   abbrev pub call_then : Start T → After (Flight T) (Answer T) → Option (Start T × Flight T)
   call_then start (GoOn flight) = Some (start, flight)
   call_then start (Done answer) = None

@@ -53,8 +53,7 @@ AsksFor size want = (a : Ask) × (a.word < size) × (want ≡ wants.Ask a)
 module _ {T C M E : Type 0} (Asks : Type 0) (code : Coding T) (effects : ℕ → Flight T → ℕ → List (Event T)) (driven : Driven T C M E) where
   open driven use {want, after, kept, call}
 
-  -- the model's call wants and goes on as the driver's, and what its steps write is what the call
-  -- tells
+  -- the model's call wants and goes on as the driver's, and what its steps write is what the call tells
   pub record StepsOf : Type 0 where
     pub same_want : (c : C) (m : M) → want_of code (call.flight c m) ≡ want c
     pub same_after : (capacity : ℕ) (c : C) (m : M) (n : ℕ) → call.stands capacity c → after_of code (call.flight c m) n ≡ goes call (after c n) (kept c m n)
@@ -205,7 +204,7 @@ module _ {T C M E Asks : Type 0} (code : Coding T) (kind : Kind) (effects : Worl
   pub in_machine : StepsIn Asks code kind effects driven
   in_machine = steps_as h.same_after
 
--- where it goes on so
+-- the steps are still the model's where something else is said of a call that goes on
 pub with_goes : {T C M E Asks Goes Others : Type 0} (code : Coding T) (kind : Kind) (effects : World T → ℕ → Flight T → ℕ → List (Event T))
     (driven : Driven T C M E) → Others → StepsAs Asks Goes code kind effects driven → StepsAs Asks Others code kind effects driven
 with_goes = grind arith

@@ -70,7 +70,7 @@ module _ {T : Type 0} (code : Coding T) (law : IsCoding code) (given : Owned T) 
   add_then c n = add_after code.size c n
 
   has_words : 0 < code.size
-  has_words = (let some = law.some in omega arith)
+  has_words = omega (arith, law.some)
 
   as_added : (r : After (Adding T) Added) → as_call flights.Container (λ (answer : Answer T). answer)
       (as_call calls.Add added (went_on as_it_is given tt r)) ≡ goes adding r tt
@@ -108,7 +108,7 @@ module _ {T : Type 0} (code : Coding T) (law : IsCoding code) (given : Owned T) 
   pub container_add_keeps : KeepsEnds code kinds.Container (container_words code) add_driven
   container_add_keeps = container_keeps code add_driven (λ c m. tt) add_call (λ c n. refl)
 
-  -- and so it begins, on a pass that rests
+  -- an add begins on a pass that rests
   pub container_add_first : (v : View T) (m : Unit {0}) → v.going ≡ None → v.other ≡ [] → 0 < v.share.part → given.owner < empty
       → At code kinds.Container adding v v (first_add v.capacity) m
   container_add_first v m idle alone any fits =
@@ -161,7 +161,7 @@ module _ {T : Type 0} (code : Coding T) (law : IsCoding code) (given : Replaceme
   replace_then c n = replace_after code.size c given n
 
   has_some : 0 < code.size
-  has_some = (let some = law.some in omega arith)
+  has_some = omega (arith, law.some)
 
   as_replaced : (r : After (Replacing T) Replaced) → as_call flights.Container (λ (answer : Answer T). answer)
       (as_call calls.Replace replaced (went_on as_it_is given tt r)) ≡ goes replacing r tt
@@ -198,7 +198,7 @@ module _ {T : Type 0} (code : Coding T) (law : IsCoding code) (given : Replaceme
   pub container_replace_keeps : KeepsEnds code kinds.Container (container_words code) replace_driven
   container_replace_keeps = container_keeps code replace_driven (λ c m. tt) replace_call (λ c n. refl)
 
-  -- and so it begins, on a pass that rests
+  -- a replacement begins on a pass that rests
   pub container_replace_first : (v : View T) (m : Unit {0}) → v.going ≡ None → v.other ≡ [] → 0 < v.share.part → given.index < v.capacity
       → given.owner < empty → At code kinds.Container replacing v v (first_replace v.capacity given.index) m
   container_replace_first v m idle alone any low fits =

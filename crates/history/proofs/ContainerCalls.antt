@@ -182,7 +182,7 @@ module _ {T : Type 0} (code : Coding T) (given : GiveBack) where
   pub container_remove_keeps : KeepsEnds code kinds.Container (container_words code) remove_driven
   container_remove_keeps = container_keeps code remove_driven (λ c m. tt) remove_call (λ c n. refl)
 
-  -- and so it begins, on a pass that rests
+  -- a removal begins on a pass that rests
   pub container_remove_first : (v : View T) (m : Unit {0}) → v.going ≡ None → v.other ≡ [] → 0 < v.share.part → given.index < v.capacity → given.owner < empty
       → At code kinds.Container (removes_value given) v v (first_remove v.capacity given.index) m
   container_remove_first v m idle alone any low fits =

@@ -43,8 +43,7 @@ find_words capacity size (finds.LoadsWord index found count at) h still = (
   _,
   (
       let row : size * (index + 1) ≤ size * capacity = mul-le-mul_left size (omega arith) in
-      let low = h.1 in
-      omega arith),
+      omega (arith, h.1)),
   refl,
 )
 find_words capacity size (finds.ChecksCount index found count) h still = (_, omega arith, refl)
@@ -206,7 +205,7 @@ module _ {T R : Type 0} (code : Coding T) (law : IsCoding code) (words_in : R �
   rests_so = grind (arith, number_of, asked_room, inr, goes)
 
   ended_step : (base : View T) (e : ℕ) (m : Room) (w : View T) → Ends code kinds.Container finding base e m w → FindOver base e m w
-  ended_step base e m w h = inl h
+  ended_step base e m w ends = inl ends
 
   -- each step of a find keeps the rule of the table
   pub container_find_keeps : KeepsSo code kinds.Container (container_words code) driven (AtAsked code kinds.Container after kept finding) FindOver
@@ -232,13 +231,13 @@ module _ {T R : Type 0} (code : Coding T) (law : IsCoding code) (words_in : R �
       hears_said (container_machines code) tt (plain_effects code) driven
       (plain_acts code finding (λ c m. tt)) find_call FindOver ended_step
 
-  -- or has ended with it
+  -- a find that has asked ends with the answer, where that ends it
   pub container_find_ends : (base v : View T) (c : Finding T R) (m : Room) (said : Bool) (e : ℕ) → is_question (want c) ≡ true
       → after c (number_of said) ≡ Done e → AtAsked code kinds.Container after kept finding base v c m → FindOver base e (kept c m (number_of said)) v
   container_find_ends =
       ends_said (container_machines code) tt (plain_effects code) driven (plain_acts code finding (λ c m. tt)) find_call FindOver ended_step rests_so
 
-  -- in a room of zeros in which a value fits
+  -- a find begins in a room of zeros in which a value fits
   pub container_find_first : (v : View T) (m : Room) → room m.0 ≡ fresh_cell → m.1 ≡ [] → v.going ≡ None
       → v.other ≡ [] → 0 < v.share.part → 0 < v.capacity → owner < empty
       → AtAsked code kinds.Container after kept finding v v (first_find v.capacity) m
@@ -267,8 +266,8 @@ module _ {T R : Type 0} (code : Coding T) (law : IsCoding code) (words_in : R �
       → fold own_after (Open start ws) (copies_of p xs) ≡ Open start (ws ++ copies_of p xs)
   copies_span p start ws [] = ap (Open start) (sym (append-nil ws))
   copies_span p start ws (x ∷ xs) =
-      let e : Event T = events.Copied p x.0 x.1 in
-      copies_span p start (ws ++ e ∷ []) xs ∙ ap (Open start) (append_assoc ws (e ∷ []) (copies_of p xs))
+      let event_now : Event T = events.Copied p x.0 x.1 in
+      copies_span p start (ws ++ event_now ∷ []) xs ∙ ap (Open start) (append_assoc ws (event_now ∷ []) (copies_of p xs))
 
   -- equal copies are of equal lists
   one_list : (p : ℕ) (xs ys : List (ℕ × T)) → copies_of p xs ≡ copies_of p ys → xs ≡ ys

@@ -47,7 +47,7 @@ module _ {T : Type 0} (size : ℕ) (some : 0 < size) (which : LookOf) (capacity 
   LookGoes es (Done changed) = HasLookedAll capacity p changed es
 
   quiet : (es : List (Event T)) (r : After (Looking T) Bool) → LookGoes es r → LookGoes (es ++ []) r
-  quiet es r h = subst (λ zs. LookGoes zs r) (sym (append-nil es)) h
+  quiet es r look_goes = subst (λ zs. LookGoes zs r) (sym (append-nil es)) look_goes
 
   comes_to : (index : ℕ) → index ≤ capacity → (es : List (Event T)) → HasCopied p 0 index es → LookGoes es (look_comes_to c index)
   comes_to = grind arith
@@ -84,7 +84,7 @@ module _ {T : Type 0} (code : Coding T) (which : LookOf) (capacity : ℕ) (seen 
       → goes_of code p (flights.Container (calls.Look which c)) n kept ≡ goes drives (look_after code.size c seen n) (kept_shown c m n)
   look_goes_so = grind arith
 
-  -- and writes into it what the drive's room has then
+  -- the step of the model writes into the state what the drive's room has then
   pub look_keeps_so : (words : List ℕ) (beside : Option (ℕ × ℕ)) (start : ContainerStart T) (c : Looking T) (m : Showing T) (n : ℕ) (kept : Registry T)
       → HasState kept p (state_of_look capacity seen m)
       → HasState (step_of code words beside p (Container start) (flights.Container (calls.Look which c)) n kept).kept p

@@ -54,7 +54,7 @@ module _ {T R : Type 0} (code : Coding T) (law : IsCoding code) (words_in : R �
   kept = recover_visits code words_in with_word given
 
   has_words : 0 < code.size
-  has_words = (let some = law.some in omega arith)
+  has_words = omega (arith, law.some)
 
   abbrev room_in : R → buffers.Buffer 128
   room_in m = room_of code.size (words_in m)
@@ -128,10 +128,10 @@ module _ {T R : Type 0} (code : Coding T) (law : IsCoding code) (words_in : R �
   stands_so capacity c d n h e =
       let value : T = code.value_of [] in
       let some = some_visits code has_words words_in capacity c h.0 0 given c.stage value in
-      let es : List (Event T) = wrote_visits 0 given.owner some.0 ++ told_yet 0 given.owner c.stage in
+      let events_then : List (Event T) = wrote_visits 0 given.owner some.0 ++ told_yet 0 given.owner c.stage in
       (subst (RecoverGoes code has_words words_in capacity c h.0 0 given value (visits_after given.owner c.stage n value some.0)
-      (es ++ wrote code has_words words_in capacity c h.0 0 given value c.stage n)) e
-      (recovers_so code has_words words_in capacity c h.0 0 given value value c.stage n some.0 es (same_keeps value c.stage) h.1 some.1 refl)).0
+      (events_then ++ wrote code has_words words_in capacity c h.0 0 given value c.stage n)) e
+      (recovers_so code has_words words_in capacity c h.0 0 given value value c.stage n some.0 events_then (same_keeps value c.stage) h.1 some.1 refl)).0
     where
       -- every stage keeps a value that stays the same
       same_keeps : (value : T) (stage : RecoverStage) → Keeps stage value value
@@ -213,7 +213,7 @@ module _ {T R : Type 0} (code : Coding T) (law : IsCoding code) (words_in : R �
       → AtAsked code kinds.Container after kept recovering base v d (kept c m (number_of said))
   container_recover_hears = hears_answer (container_machines code) tt (plain_effects code) driven (plain_acts code recovering (λ c m. tt)) recover_call
 
-  -- in a room of zeros in which a value fits
+  -- a recovery begins in a room of zeros in which a value fits
   pub container_recover_first : (v : View T) (m : Room) → room_in m.0 ≡ fresh_cell → m.1 ≡ [] → v.going ≡ None
       → v.other ≡ [] → 0 < v.share.part → given.owner < empty
       → AtAsked code kinds.Container after kept recovering v v (first_recover v.capacity) m
@@ -257,7 +257,7 @@ module _ {T R : Type 0} (code : Coding T) (law : IsCoding code) (words_in : R �
       go (inl x) (inr y) = grind (arith, start)
       go (inr x) (inl y) = grind (arith, start)
       go (inr x) (inr y) =
-          let p = x.3.party in
+          let party_now = x.3.party in
           let same = same_written code kinds.Container recovering base other v x.0 y.0 x.1 y.1 idle still x.3 y.3
           (long base x.0 x.1 idle x.3) (long other y.0 y.1 still y.3) in
           let both : ◌≡◌ {A = Option (Start T × Flight T)} (Some (start, recovering.flight x.0 x.1))
@@ -265,11 +265,13 @@ module _ {T R : Type 0} (code : Coding T) (law : IsCoding code) (words_in : R �
           sym x.3.going ∙ y.3.going in
           let pair : ◌≡◌ {A = Start T × Flight T} (start, recovering.flight x.0 x.1) (start, recovering.flight y.0 y.1) = cc in
           let call : x.0 ≡ y.0 = ap (λ (z : Start T × Flight T). recovery_of x.0 z.1) pair in
-          let lists : wrote_visits p given.owner x.1.1 ++ told_yet p given.owner x.0.stage
-          ≡ wrote_visits p given.owner y.1.1 ++ told_yet p given.owner x.0.stage
+          let lists : wrote_visits party_now given.owner x.1.1 ++ told_yet party_now given.owner x.0.stage
+          ≡ wrote_visits party_now given.owner y.1.1 ++ told_yet party_now given.owner x.0.stage
           =
           sym (x.3.tells idle).1 ∙ (same.1
           ∙ ((y.3.tells still).1 ∙ (ap (λ q. wrote_visits q given.owner y.1.1 ++ told_yet q given.owner y.0.stage) (sym same.0)
-          ∙ ap (λ (z : Recovering T R). wrote_visits p given.owner y.1.1 ++ told_yet p given.owner z.stage) (sym call)))) in
-          sym x.2 ∙ (one_list p given.owner x.1.1 y.1.1
-          (append_cancel_right (wrote_visits p given.owner x.1.1) (wrote_visits p given.owner y.1.1) (told_yet p given.owner x.0.stage) lists) ∙ y.2)
+          ∙ ap (λ (z : Recovering T R). wrote_visits party_now given.owner y.1.1 ++ told_yet party_now given.owner z.stage) (sym call)))) in
+          sym x.2 ∙ (one_list party_now given.owner x.1.1 y.1.1
+          (append_cancel_right (wrote_visits party_now given.owner x.1.1) (wrote_visits party_now given.owner y.1.1)
+          (told_yet party_now given.owner x.0.stage) lists)
+          ∙ y.2)

@@ -40,7 +40,7 @@ module _ {T : Type 0} (code : Coding T) where
       (λ key. IsMachine code kinds.Container key) want after kept
 
   pub never_late : (going : Option (Start T × Flight T)) (late : List (Event T)) → IsLate kinds.Container going late → late ≡ []
-  never_late going late h = h
+  never_late going late is_late = is_late
 
   abbrev pub container_hears : Hearing T
   container_hears = record { machines = container_machines code; decides = tt; alone = never_late; quiet = ends_quiet code }
@@ -86,7 +86,7 @@ module _ {T : Type 0} (code : Coding T) where
             want after kept (AtAsked code kinds.Container after kept call) Ended (λ c. is_question (want c) ≡ false) words Begins asks first
             (λ base v c m. apart_asked base v c m m)
 
-    -- and of one that puts none, whatever is in its room where it begins
+    -- a call that puts no question rests and keeps the rule, whatever is in its room where it begins
     module _ (Begins : ℕ → C → Type 0) (asks : (capacity : ℕ) (c : C) → Begins capacity c → AsksFor (container_words code capacity) (want c))
         (after : C → ℕ → After C E) (kept : C → M → ℕ → M) (keeps : Keeps (At code kinds.Container call) (Ends code kinds.Container call) want after kept)
         (first : (v : View T) (c : C) (m : M) → Begins v.capacity c → v.going ≡ None → v.other ≡ []

@@ -75,10 +75,10 @@ module _ {T : Type 0} (code : Coding T) (capacity : ℕ) where
   by_word = record { by = Word; kept = false }
 
   container_sound : (t : Trace T) → IsOn t → frame.Sound (family_by by_word t.world.coding t.world.capacity) t
-  container_sound t r = reached_open_sound t r.of_kind r.reached
+  container_sound t is_on = reached_open_sound t is_on.of_kind is_on.reached
 
   all_live : (t : Trace T) → IsOn t → AllLive t.events
-  all_live t r = reached_open_lives t r.of_kind r.reached
+  all_live t is_on = reached_open_lives t is_on.of_kind is_on.reached
 
   -- what the model promises of each open run
   pub is_open_container : (t : Trace T) (r : IsOn t) → IsOpenContainer t r.reached
@@ -90,13 +90,13 @@ module _ {T : Type 0} (code : Coding T) (capacity : ℕ) where
   -- nobody has died
   pub kept_there : (t : Trace T) → IsOn t → (dead : List ℕ) × (states : List (ℕ × ContainerState T))
       × (t.world.kept ≡ registries.Container dead states) × ((owner : ℕ) → has_died owner dead ≡ false)
-  kept_there t r =
-      let s = container_sound t r in (
-        s.state.dead,
-        s.state.states,
-        s.fit.kept,
-        λ owner. has_not_died by_word t.world.coding t.world.capacity t s
-            (all_live t r) owner,
+  kept_there t is_on =
+      let is_sound = container_sound t is_on in (
+        is_sound.state.dead,
+        is_sound.state.states,
+        is_sound.fit.kept,
+        λ owner. has_not_died by_word t.world.coding t.world.capacity t is_sound
+            (all_live t is_on) owner,
       )
 
   -- ---- what a step comes to
@@ -106,9 +106,9 @@ module _ {T : Type 0} (code : Coding T) (capacity : ℕ) where
       → (c z : ℕ) (all : List SetAct) (done : List (Act T)) (start : Start T) (flight : Flight T)
       → FlightAt c z all done start flight
       → first_row (going_rows t.world.coding t.world.kept (Some flight) None) ≡ None
-  no_rows t r c z all done (Container start) (flights.Container flight) at =
-      step_is_free by_word t.world.coding t.world.capacity t (container_sound t r) (all_live t r) flight
-  no_rows t r c z all done start flight at = absurd at
+  no_rows t is_on c z all done (Container start) (flights.Container flight) at =
+      step_is_free by_word t.world.coding t.world.capacity t (container_sound t is_on) (all_live t is_on) flight
+  no_rows t is_on c z all done start flight at = absurd at
 
   writes_there : (y : Coding T) (words : List ℕ) (beside : Option (ℕ × ℕ)) (c z p old : ℕ) (all : List SetAct) (done : List (Act T)) (kept : Registry T)
       (s : ContainerNow T) (start : Start T) (flight : Flight T) → kept ≡ registries.Container s.dead s.states → FlightAt c z all done start flight
@@ -123,28 +123,32 @@ module _ {T : Type 0} (code : Coding T) (capacity : ℕ) where
   -- each step of a call under way writes and leads where the container's table says
   steps_on : (t : Trace T) → IsOn t → (p : ℕ) (start : Start T) (flight : Flight T) → call_in t.world p ≡ Some (start, flight)
       → StepsOn code kinds.Container capacity (container_words code capacity) container_effects t p flight
-  steps_on t r p start flight at =
-      let w = t.world in
-      let s = container_sound t r in
-      let here = stands w p start flight at in
-      let there = stands_there (family_by by_word w.coding w.capacity) t s p here.x here.since flight here.found here.doing in
-      let all : List SetAct = set_acts_of p s.state.events in
-      let done : List (Act T) = acts_of p s.state.events in
-      let mine : FlightAt w.capacity w.coding.size all done here.x.start flight = there.at in
+  steps_on t is_on p start flight at =
+      let world_now = t.world in
+      let is_sound = container_sound t is_on in
+      let here = stands world_now p start flight at in
+      let there = stands_there (family_by by_word world_now.coding world_now.capacity) t is_sound p here.x here.since flight here.found here.doing in
+      let all : List SetAct = set_acts_of p is_sound.state.events in
+      let done : List (Act T) = acts_of p is_sound.state.events in
+      let mine : FlightAt world_now.capacity world_now.coding.size all done here.x.start flight = there.at in
       record {
-        may = no_rows t r w.capacity w.coding.size all done here.x.start flight mine;
+        may = no_rows t is_on world_now.capacity world_now.coding.size all done here.x.start flight mine;
         writes = λ x n found. (
             let same : here.x ≡ x = (let both : Some here.x ≡ Some x = sym here.found ∙ found in cc) in
-            subst (λ (z : Party T). (step_in w p z flight n).wrote ≡ container_effects w p flight n) same
-            (writes_there w.coding w.words (beside_of w.words w.kept w.latest p) w.capacity w.coding.size p n all done w.kept s.state
-            here.x.start flight s.fit.kept mine));
-        someone = λ n. all_someone p (container_effects w p flight n) (effects_of_party w.coding w.kept p flight n);
-        beside = λ n q ne. by_other p q (container_effects w p flight n) ne (effects_of_party w.coding w.kept p flight n);
+            subst (λ (z : Party T). (step_in world_now p z flight n).wrote ≡ container_effects world_now p flight n) same
+            (writes_there world_now.coding world_now.words
+            (beside_of world_now.words world_now.kept world_now.latest p) world_now.capacity world_now.coding.size p
+            n all done world_now.kept is_sound.state
+            here.x.start flight is_sound.fit.kept mine));
+        someone = λ n. all_someone p (container_effects world_now p flight n) (effects_of_party world_now.coding world_now.kept p flight n);
+        beside = λ n q ne. by_other p q (container_effects world_now p flight n) ne (effects_of_party world_now.coding world_now.kept p flight n);
         goes = λ x n found. (
             let same : here.x ≡ x = (let both : Some here.x ≡ Some x = sym here.found ∙ found in cc) in
-            subst (λ (z : Party T). (step_in w p z flight n).after ≡ goes_of w.coding p flight n w.kept) same
-            (goes_there w.coding w.words (beside_of w.words w.kept w.latest p) w.capacity w.coding.size p n all done w.kept s.state
-            here.x.start flight s.fit.kept mine));
+            subst (λ (z : Party T). (step_in world_now p z flight n).after ≡ goes_of world_now.coding p flight n world_now.kept) same
+            (goes_there world_now.coding world_now.words
+            (beside_of world_now.words world_now.kept world_now.latest p) world_now.capacity world_now.coding.size p
+            n all done world_now.kept is_sound.state
+            here.x.start flight is_sound.fit.kept mine));
       }
 
   states_stay : (t : Trace T) (r : IsOn t) (turn : Turn T) → open_refusal t.world turn ≡ None → (q : ℕ) → is_look_of t.world q turn ≡ false
@@ -166,10 +170,10 @@ module _ {T : Type 0} (code : Coding T) (capacity : ℕ) where
   -- how many steps its calls take
   pub container_pays : Pays code kinds.Container capacity
   container_pays t r =
-      (let s = container_sound t r in
+      (let is_sound = container_sound t r in
       let F = family_by by_word t.world.coding t.world.capacity in
-      pays_run code kinds.Container capacity t r F refl s
-      (progress_within code kinds.Container capacity t r F refl s (word_bounds t.world.coding t.world.capacity)))
+      pays_run code kinds.Container capacity t r F refl is_sound
+      (progress_within code kinds.Container capacity t r F refl is_sound (word_bounds t.world.coding t.world.capacity)))
 
 -- ---- which party may begin a call
 
@@ -221,4 +225,4 @@ container_keeps code driven plain is_call =
 
 -- a call that needs fewer words
 pub fewer : (some more : ℕ) (want : Want (Unit {0})) → some ≤ more → AsksFor some want → AsksFor more want
-fewer some more want low h = (let below = h.1 in (h.0, omega arith, h.2))
+fewer some more want low asks_for = (let below = asks_for.1 in (asks_for.0, omega arith, asks_for.2))

@@ -48,8 +48,7 @@ module _ {T C M E : Type 0} (code : Coding T) (kind : Kind) (effects : ℕ → F
     pub first : (n : ℕ) (c : C) (m : M) → first_of kind n call.start ((opening_of kind).kept n) ≡ Some (call.flight c m) → is_question (want c) ≡ false
     pub one : (c d : C) (n : ℕ) → is_question (want c) ≡ true → after c n ≡ GoOn d → is_question (want d) ≡ false
 
--- own is what a step of the call writes; Finished is how a drive of the call leaves it once it is
--- over
+-- own is what a step of the call writes; Finished is how a drive of the call leaves it once it is over
 module _ {T C M E : Type 0} (machines : Machines T) (decides : MayDecide machines.kind) (own : ℕ → Flight T → ℕ → List (Event T))
     (driven : Driven T C M E) (acts : ActsAlone machines.code machines.kind machines.effects own driven.call)
     (is_call : IsAskingIn machines.code machines.kind own machines.size_of driven) (Finished : View T → E → M → View T → Type 0)
@@ -200,13 +199,12 @@ module _ {T C M E : Type 0} (machines : Machines T) (decides : MayDecide machine
           (laws key).states y.u (Decide y.p h.said) y.between.run between_heard.run free y.p refl
           ∙ (y.state leaves is_p ∙ k.before.state leaves (was ∙ ap Some (sym same)))
 
-      -- nor a step
+      -- an answer is no step
       asked_heard : StepsOnly base view_heard
       asked_heard =
-          let before = asked_so code kind call base v h.asking h.room stage_then in
           let counted : steps_in y.u.world y.p ≡ taken_by v.going v.taken = y.counted in
           let more : steps_in u_then.world y.p ≡ steps_in y.u.world y.p + 0 = decided_steps answering in
-          omega arith
+          omega (arith, asked_so code kind call base v h.asking h.room stage_then)
 
       run_then : IsRun code kind base.capacity u_then
       run_then = grind (arith, between_heard)
@@ -217,8 +215,7 @@ module _ {T C M E : Type 0} (machines : Machines T) (decides : MayDecide machine
           (continues_further code kind key base v view_heard k.before.ran.first
           (continues_all code kind key s.views u_then id v view_heard between_heard.one at between_heard.run refl refl refl has_heard))
 
-      -- after the answer the call is under way at its next stage, whatever the view with which its
-      -- drive began
+      -- after the answer the call is under way at its next stage, whatever the view with which its drive began
       lifted : IsUnderWay code kind call base view_heard c m
       lifted =
           record {
@@ -284,11 +281,11 @@ module _ {T C M E : Type 0} (machines : Machines T) (decides : MayDecide machine
   -- what a step told, where the view has heard an answer
   told_asked : (c : C) (m : M) (n : ℕ) (x v w : View T) → x.capacity ≡ v.capacity
       → ((base : View T) → AtAsked code kind after kept call base v c m → Stage base x c m) → ToldSo c m x n w → ToldAsked c m v n w
-  told_asked c m n x v w same as_stage h = (
-    h.0 ∙ same,
+  told_asked c m n x v w same as_stage told_so = (
+    told_so.0 ∙ same,
     λ base stage. with_asked base (after c n) (kept c m n) w
         (next_ended machines driven steps_there is_call.never base (after c n) (kept c m n) w
-        (h.1 base (as_stage base stage))),
+        (told_so.1 base (as_stage base stage))),
   )
 
   module _ (key words slots id : ℕ) (c : C) (m : M) (wide : words ≡ size_of key + 1) (still : is_question (want c) ≡ false)
@@ -301,7 +298,7 @@ module _ {T C M E : Type 0} (machines : Machines T) (decides : MayDecide machine
     OwedAt v told = OwesAsk (λ (z : View T). z.asked) (IsMachine code kind key) words slots id (told c m) ask.word ask.op (v, [])
 
     below : ask.word < words
-    below = (let low = asked.1 in omega arith)
+    below = omega (arith, asked.1)
 
     -- a call whose next step is at a word owes that step
     at_word : (base v : View T) → v.capacity ≡ key → Stage base v c m → OwedAt v ToldSo
@@ -385,7 +382,7 @@ module _ {T C M E : Type 0} (machines : Machines T) (decides : MayDecide machine
   -- where the answer ends its call, the call finishes so, as `rested` says
   module _ (rested : (base v : View T) (c : C) (m : M) (said : Bool) (e : E) → is_question (want c) ≡ true → after c (number_of said) ≡ Done e
       → IsUnderWay code kind call base v c m → Finished base e (kept c m (number_of said)) v) where
-    -- and where the answer ends its call, it has ended
+    -- where the answer ends its call, the call has ended
     pub ends_said : (base v : View T) (c : C) (m : M) (said : Bool) (e : E) → is_question (want c) ≡ true → after c (number_of said) ≡ Done e
         → AtAsked code kind after kept call base v c m → Finished base e (kept c m (number_of said)) v
     ends_said = grind arith

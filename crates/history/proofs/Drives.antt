@@ -252,11 +252,21 @@ module _ {T C M E Asks : Type 0} (machines : Machines T) (driven : Driven T C M 
     pub keeps_ends : KeepsOver code kind size_of driven → KeepsEnds code kind size_of driven
     keeps_ends keeps base₀ v c m key words slots id wide known at₀ = go (want c) (keeps base₀ v c m key words slots id wide known at₀)
       where
+        -- whatever the call wants next, what is told of it over all is told of its end
         go : (w : Want (Unit {0})) → Owes (λ (z : View T). z.asked) (IsMachine code kind key) words slots id (ToldOver c m) w (v, [])
             → Owes (λ (z : View T). z.asked) (IsMachine code kind key) words slots id (ToldEnds c m) w (v, [])
-        go (wants.Ask a) h = (h.0, λ s r long at small. (let x = h.1 s r long at small in (x.0, x.1, x.2, x.3, (told_all c m v _ x.0 x.4.0, x.4.1, x.4.2))))
-        go (wants.Question q) h = told_all c m v 0 v h
-        go wants.Nothing h = told_all c m v 0 v h
+        go (wants.Ask a) owes = (
+          owes.0,
+          λ s r long at small. (let told_there = owes.1 s r long at small in (
+            told_there.0,
+            told_there.1,
+            told_there.2,
+            told_there.3,
+            (told_all c m v _ told_there.0 told_there.4.0, told_there.4.1, told_there.4.2),
+          )),
+        )
+        go (wants.Question q) owes = told_all c m v 0 v owes
+        go wants.Nothing owes = told_all c m v 0 v owes
 
 -- ---- a call each step of which is at a word
 

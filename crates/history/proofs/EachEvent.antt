@@ -23,8 +23,8 @@ module _ {T : Type 0} (F : Family T) (May : Trace T → Turn T → Type 0) (laws
     → party_of p t.world.latest ≡ Some x → x.doing ≡ Going flight since → IsHanded t flight n
     → AreRight P t.events (step_in t.world p x flight n).wrote) where
   both : (before xs ys : List (Event T)) → AreRight P before xs → ((b : List (Event T)) → AreRight P b ys) → AreRight P before (xs ++ ys)
-  both before [] ys a b = b before
-  both before (x ∷ xs) ys a b = (a.0, both (before ++ x ∷ []) xs ys a.1 b)
+  both before [] ys first_right second_right = second_right before
+  both before (x ∷ xs) ys first_right second_right = (first_right.0, both (before ++ x ∷ []) xs ys first_right.1 second_right)
 
   ending_right : (p : ℕ) (start : Start T) (o : Option (Answer T)) (before : List (Event T)) → AreRight P before (ending_of p start o)
   ending_right = grind arith
@@ -67,13 +67,13 @@ module _ {T : Type 0} (F : Family T) (May : Trace T → Turn T → Type 0) (laws
 
   attempt_right : (t : Trace T) (turn : Turn T) (o : Option Refusal) → call_refusal t.world turn ≡ o → Sound F t
       → Each P t.events → Each P (unless_refused t (after_turn t turn) o).events
-  attempt_right t turn None free s all = Each-append P t.events (events_of t.world turn) all (turn_right t s turn free)
-  attempt_right t turn (Some refusal) free s all = all
+  attempt_right t turn None free sound all = Each-append P t.events (events_of t.world turn) all (turn_right t sound turn free)
+  attempt_right t turn (Some refusal) free sound all = all
 
-  -- so each event of a run is right
+  -- each event of a run is right, where all events before it were
   pub each_event : (turns : List (Turn T)) (t : Trace T) → AllMay May turns t → Sound F t → Each P t.events → Each P (run_on turns t).events
-  each_event [] t may s all = all
-  each_event (turn ∷ turns) t may s all =
+  each_event [] t may sound all = all
+  each_event (turn ∷ turns) t may sound all =
       each_event turns (attempt_on t turn) may.1
-      (attempt_sound F May laws t turn (call_refusal t.world turn) refl may.0 s)
-      (attempt_right t turn (call_refusal t.world turn) refl s all)
+      (attempt_sound F May laws t turn (call_refusal t.world turn) refl may.0 sound)
+      (attempt_right t turn (call_refusal t.world turn) refl sound all)

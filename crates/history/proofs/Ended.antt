@@ -46,11 +46,7 @@ module _ {A : Type 0} where
   -- a list with something added is no beginning of itself with less
   no_less : (xs ys : List A) (f : A) (later : List A) → xs ≡ (xs ++ (ys ++ f ∷ [])) ++ later → ⊥
   no_less xs ys f later e =
-      let all = ap length e in
-      let one = length-append (xs ++ (ys ++ f ∷ [])) later in
-      let two = length-append xs (ys ++ f ∷ []) in
-      let three = length-append ys (f ∷ []) in
-      absurd (omega arith)
+      absurd (omega (arith, ap length e, length-append (xs ++ (ys ++ f ∷ [])) later, length-append xs (ys ++ f ∷ []), length-append ys (f ∷ [])))
 
 module _ {T : Type 0} where
   -- ---- a turn writes an end last
@@ -67,10 +63,9 @@ module _ {T : Type 0} where
   last_of (w ∷ wrote) tail [] p start answer ys none few e =
       let is : w ≡ Finished p start answer = cc in
       let one : end_of w ≡ 1 = ap end_of is in
-      let all = sum_by-cons end_of w wrote in
-      absurd (omega arith)
+      absurd (omega (arith, sum_by-cons end_of w wrote))
   last_of (w ∷ wrote) tail (x ∷ xs) p start answer ys none few e =
-      last_of wrote tail xs p start answer ys (let all = sum_by-cons end_of w wrote in omega arith) few
+      last_of wrote tail xs p start answer ys (omega (arith, sum_by-cons end_of w wrote)) few
       (let rest : wrote ++ tail ≡ xs ++ Finished p start answer ∷ ys = cc in rest)
 
   one_ending : (p : ℕ) (start : Start T) (o : Option (Answer T)) → length (ending_of p start o) ≤ 1
@@ -87,7 +82,7 @@ module _ {T : Type 0} where
       (writes_no_end T w.coding w.words (beside_of w.words w.kept w.latest q) q x.start flight n w.kept)
       (one_ending q x.start (answer_in (step_in w q x flight n).after)) e
 
-  -- so does a step
+  -- a step writes an end last
   last_next : (w : World T) (q : ℕ) (o : Option (Party T)) (xs : List (Event T)) (p : ℕ) (start : Start T) (answer : Answer T)
       (ys : List (Event T)) → events_of_next w q o ≡ xs ++ Finished p start answer ∷ ys → ys ≡ []
   last_next w q None [] p start answer ys e = absurd (cc)
@@ -101,7 +96,7 @@ module _ {T : Type 0} where
   last_decision w q said None (y ∷ xs) p start answer ys e = absurd (cc)
   last_decision w q said (Some x) xs p start answer ys e = last_answered w q x (number_of said) x.doing xs p start answer ys e
 
-  -- so does every turn
+  -- every turn writes an end last
   last_end : (w : World T) (turn : Turn T) (xs : List (Event T)) (p : ℕ) (start : Start T) (answer : Answer T) (ys : List (Event T))
       → events_of w turn ≡ xs ++ Finished p start answer ∷ ys → ys ≡ []
   last_end w (Begin q s) xs p start answer ys e = last_of [] (Begun q s ∷ []) xs p start answer ys refl (omega arith) e
@@ -163,8 +158,7 @@ module _ {T : Type 0} where
           now : a.0 ≡ [] → UpTo t (turn ∷ turns) (t.events ++ end)
           now none = here (a.1 ∙ (ap (λ zs. es ++ zs) none ∙ append-nil es))
 
-          -- where the call ends only behind the events of the first turn, the first turns lead
-          -- just to that end
+          -- where the call ends only behind the events of the first turn, the first turns lead just to that end
           later_on : (less : List (Event T)) × (a.0 ≡ less ++ Finished p start answer ∷ []) → UpTo t (turn ∷ turns) (t.events ++ end)
           later_on l =
               let same : t.events ++ end ≡ (t.events ++ es) ++ (l.0 ++ Finished p start answer ∷ []) =
@@ -229,8 +223,7 @@ module _ {T : Type 0} where
         no e =
             let all : run_of code kind capacity x ≡ after_turns (run_of code kind capacity y) e.0 =
             ap (run_of code kind capacity) e.1 ∙ turns_more (opening code kind capacity 0) y e.0 in
-            let g = grown (run_of code kind capacity y) e.0 in
-            let long = length-append (run_of code kind capacity y).events g.0 in
-            let one : length a ≡ length ((run_of code kind capacity y).events ++ g.0) = ap length (is_a ∙ (ap (λ (t : Trace T). t.events) all ∙ g.1)) in
-            let two = ap length is_b in
-            omega arith
+            let grown_run = grown (run_of code kind capacity y) e.0 in
+            let one : length a ≡ length ((run_of code kind capacity y).events ++ grown_run.0) =
+            ap length (is_a ∙ (ap (λ (t : Trace T). t.events) all ∙ grown_run.1)) in
+            omega (arith, length-append (run_of code kind capacity y).events grown_run.0, ap length is_b)

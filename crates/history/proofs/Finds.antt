@@ -20,8 +20,7 @@ cell_tells = grind arith
 cell_denies : (o : Option ℕ) (owner k : ℕ) → k ≡ cell_of o → k ≢ owner → o ≢ Some owner
 cell_denies o owner k is ne e = ne (is ∙ ap cell_of e)
 
--- k is what the cell of the index had as it was looked at; v and w are what the seat knew before
--- that and after it
+-- k is what the cell of the index had as it was looked at; v and w are what the seat knew before that and after it
 module _ {T : Type 0} (code : Coding T) (capacity index k : ℕ) (low : index < capacity) (v w : View T)
     (looks : LooksAt code kinds.Robust capacity (cell_word index) v k w) where
   -- the cell that was looked at has the owner of the index by the history that is seen then
@@ -60,10 +59,10 @@ module _ {T : Type 0} where
     -- indices that had the owner at a moment had it at that moment as seen from later on
     pub owned_later : (bound : ℕ) (indices : List ℕ) (mid new : List (Event T)) → IsBeginning mid new → WereOwned owner bound indices old mid
         → WereOwned owner bound indices old new
-    owned_later bound indices mid new on h =
+    owned_later bound indices mid new on were_owned =
         record {
-          had = All-weaker (Had mid) (Had new) (λ i. held_later (λ es. filled_of i es ≡ Some owner) old mid new on) indices h.had;
-          had_not = λ i below out. held_later (λ es. filled_of i es ≢ Some owner) old mid new on (h.had_not i below out);
+          had = All-weaker (Had mid) (Had new) (λ i. held_later (λ es. filled_of i es ≡ Some owner) old mid new on) indices were_owned.had;
+          had_not = λ i below out. held_later (λ es. filled_of i es ≢ Some owner) old mid new on (were_owned.had_not i below out);
         }
 
     module _ (index : ℕ) (indices : List ℕ) (new : List (Event T)) (on : IsBeginning old new) (h : WereOwned owner index indices old new) where

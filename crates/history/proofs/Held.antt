@@ -27,4 +27,6 @@ module _ {T : Type 0} (owner : ℕ → ℕ) (j c i : ℕ) where
 -- a pass freed what it claimed, or holds it once
 pub holds_once : {T : Type 0} (c i : ℕ) (v : View T) → Each (HoldsRight c) v.seen → IsOfParties v
     → (sum_by (frees i) v.made ≤ sum_by (claims i) v.made) × (sum_by (claims i) v.made ≤ sum_by (frees i) v.made + 1)
-holds_once c i v each h = at_most (claims i) (frees i) (holder_after i) h.owner h.seat v.seen v.made (all_move h.owner h.seat c i v.seen each) h.sums
+holds_once c i v each of_parties =
+    at_most (claims i) (frees i) (holder_after i) of_parties.owner of_parties.seat v.seen v.made
+    (all_move of_parties.owner of_parties.seat c i v.seen each) of_parties.sums

@@ -65,8 +65,8 @@ module _ {T : Type 0} (c : ℕ) where
   Right before es = AreRight Rightly before es
 
   both : (before xs ys : List (Event T)) → Right before xs → ((b : List (Event T)) → Right b ys) → Right before (xs ++ ys)
-  both before [] ys a b = b before
-  both before (x ∷ xs) ys a b = (a.0, both (before ++ x ∷ []) xs ys a.1 b)
+  both before [] ys first_right second_right = second_right before
+  both before (x ∷ xs) ys first_right second_right = (first_right.0, both (before ++ x ∷ []) xs ys first_right.1 second_right)
 
   -- a push of its kind
   abbrev push_of : (r : Ring) → Val T (kind_of r) → QueueStart T
@@ -172,7 +172,7 @@ module _ {T : Type 0} (c : ℕ) where
     attempt_right t turn None s all = Each-append Rightly t.events (events_of t.world turn) all (turn_right t s turn)
     attempt_right t turn (Some refusal) s all = all
 
-    -- so all events of every run of fresh turns are right
+    -- all events of every run of fresh turns are right
     runs_right : (law : Rattle.model.specs.Coding.IsCoding en) (turns : List (Turn T)) (t : Trace T)
         → AllMay IsFreshTurn turns t → SoundAt t → AllBy t → AllBy (run_on turns t)
     runs_right law [] t may s all = all
@@ -189,17 +189,20 @@ module _ {T : Type 0} (code : Coding T) (r : Ring) (capacity : ℕ) where
   -- the events of a machine on a table are right
   rightly : (t : Trace T) → IsOn t → Each (Rightly t.world.capacity) t.events
   rightly t run =
-      let w = t.world in
+      let world_now = t.world in
       let kd = kind_of r in
-      let on = queue_run code capacity kd t run in
-      let first : Trace T = opening w.coding w.kind w.capacity w.parties in
-      let admitted : capacity_error (machine_kind kd) w.capacity ≡ None = subst
-      (λ kind. capacity_error kind w.capacity ≡ None) run.of_kind on.reached.admitted in
-      let sound : frame.Sound (family w.coding kd w.capacity) first = subst
-      (λ kind. frame.Sound (family w.coding kd w.capacity) (opening w.coding kind w.capacity w.parties)) (sym run.of_kind)
-      (opening_sound w.coding on.reached.coded kd w.capacity w.parties (admitted_fits kd w.capacity admitted)) in
-      subst (λ z. Each (Rightly w.capacity) z.events) (sym on.fresh.is)
-      (runs_right w.capacity w.coding r on.reached.coded on.fresh.turns first on.fresh.fresh sound (Each-nil (Rightly w.capacity)))
+      let run_here = queue_run code capacity kd t run in
+      let first : Trace T = opening world_now.coding world_now.kind world_now.capacity world_now.parties in
+      let admitted : capacity_error (machine_kind kd) world_now.capacity ≡ None = subst
+      (λ kind. capacity_error kind world_now.capacity ≡ None) run.of_kind run_here.reached.admitted in
+      let sound : frame.Sound (family world_now.coding kd world_now.capacity) first = subst
+      (λ kind. frame.Sound (family world_now.coding kd world_now.capacity)
+      (opening world_now.coding kind world_now.capacity world_now.parties))
+      (sym run.of_kind)
+      (opening_sound world_now.coding run_here.reached.coded kd world_now.capacity world_now.parties (admitted_fits kd world_now.capacity admitted)) in
+      subst (λ z. Each (Rightly world_now.capacity) z.events) (sym run_here.fresh.is)
+      (runs_right world_now.capacity world_now.coding r run_here.reached.coded run_here.fresh.turns first
+      run_here.fresh.fresh sound (Each-nil (Rightly world_now.capacity)))
 
   pub by_holders : (t : Trace T) → IsOn t → Each ByHolder t.events
   by_holders t run before after e is = (rightly t run before after e is).0
@@ -208,55 +211,60 @@ module _ {T : Type 0} (code : Coding T) (r : Ring) (capacity : ℕ) where
   lists_kept t run before after e is = subst (λ n. KeepsList n before e) run.sized (rightly t run before after e is).1
 
   pub history_by_holders : (events : List (Event T)) → IsHistory code (machine_kind (kind_of r)) capacity events → Each ByHolder events
-  history_by_holders events h = subst (Each ByHolder) (sym h.is) (by_holders h.trace h.run)
+  history_by_holders events history = subst (Each ByHolder) (sym history.is) (by_holders history.trace history.run)
 
 -- ---- at any time what was taken out is a beginning of what was published, and no more than the capacity is left
 
 module _ {T : Type 0} (c : ℕ) where
-  -- what was published is what was taken out and then what waits, and no more waits than the
-  -- capacity
+  -- what was published is what was taken out and then what waits, and no more waits than the capacity
   pub record IsListed (events : List (Event T)) : Type 0 where
     pub book : published events ≡ handed_out events ++ waiting events
     pub few : length (waiting events) ≤ c
 
   -- one event more keeps the list as it has to be
   one_more : (before : List (Event T)) (e : Event T) → KeepsList c before e → IsListed before → IsListed (before ++ e ∷ [])
-  one_more before (Published p x) room l =
+  one_more before (Published p x) room listed =
       let more : published (before ++ Published p x ∷ []) ≡ published before ++ x ∷ [] = flat_map-append publishes before (Published p x ∷ []) in
       let same : handed_out (before ++ Published p x ∷ []) ≡ handed_out before =
       flat_map-append hands_out before (Published p x ∷ []) ∙ append-nil (handed_out before) in
       let book : published (before ++ Published p x ∷ []) ≡ handed_out (before ++ Published p x ∷ []) ++ (waiting before ++ x ∷ []) =
-      more ∙ (ap (λ xs. xs ++ x ∷ []) l.book
+      more ∙ (ap (λ xs. xs ++ x ∷ []) listed.book
       ∙ (append_assoc (handed_out before) (waiting before) (x ∷ []) ∙ ap (λ xs. xs ++ (waiting before ++ x ∷ [])) (sym same))) in
       let rest = waiting_is (before ++ Published p x ∷ []) (waiting before ++ x ∷ []) book in
       record {
         book = book ∙ ap (λ xs. handed_out (before ++ Published p x ∷ []) ++ xs) (sym rest);
-        few = (let long = length-append (waiting before) (x ∷ []) in let all = ap length rest in omega arith);
+        few = omega (arith, length-append (waiting before) (x ∷ []), ap length rest);
       }
-  one_more before (HandedOut p x) first l =
+  one_more before (HandedOut p x) first listed =
       let more : handed_out (before ++ HandedOut p x ∷ []) ≡ handed_out before ++ x ∷ [] = flat_map-append hands_out before (HandedOut p x ∷ []) in
       let same : published (before ++ HandedOut p x ∷ []) ≡ published before =
       flat_map-append publishes before (HandedOut p x ∷ []) ∙ append-nil (published before) in
       let book : published (before ++ HandedOut p x ∷ []) ≡ handed_out (before ++ HandedOut p x ∷ []) ++ first.0 =
-      same ∙ (l.book ∙ (ap (λ xs. handed_out before ++ xs) first.1
+      same ∙ (listed.book ∙ (ap (λ xs. handed_out before ++ xs) first.1
       ∙ (sym (append_assoc (handed_out before) (x ∷ []) first.0) ∙ ap (λ xs. xs ++ first.0) (sym more)))) in
       let rest = waiting_is (before ++ HandedOut p x ∷ []) first.0 book in
       record {
         book = book ∙ ap (λ xs. handed_out (before ++ HandedOut p x ∷ []) ++ xs) (sym rest);
-        few = (let long = ap length first.1 in let all = ap length rest in let was = l.few in omega arith);
+        few = omega (arith, ap length first.1, ap length rest, listed.few);
       }
-  one_more before e room l =
+  one_more before e room listed =
       let out : published (before ++ e ∷ []) ≡ published before = flat_map-append publishes before (e ∷ []) ∙ append-nil (published before) in
       let same : handed_out (before ++ e ∷ []) ≡ handed_out before = flat_map-append hands_out before (e ∷ []) ∙ append-nil (handed_out before) in
-      let book : published (before ++ e ∷ []) ≡ handed_out (before ++ e ∷ []) ++ waiting before = out ∙ (l.book ∙ ap (λ xs. xs ++ waiting before) (sym same)) in
+      let book : published (before ++ e ∷ []) ≡ handed_out (before ++ e ∷ []) ++ waiting before =
+      out ∙ (listed.book ∙ ap (λ xs. xs ++ waiting before) (sym same)) in
       let rest = waiting_is (before ++ e ∷ []) (waiting before) book in
-      record { book = book ∙ ap (λ xs. handed_out (before ++ e ∷ []) ++ xs) (sym rest); few = (let all = ap length rest in let was = l.few in omega arith) }
+      record {
+        book = book ∙ ap (λ xs. handed_out (before ++ e ∷ []) ++ xs) (sym rest);
+        few = omega (arith, ap length rest, listed.few);
+      }
 
+  -- where each event keeps the list, the list is right behind any events that come after a right one
   listed_from : (before es : List (Event T)) → Each (KeepsList c) (before ++ es) → IsListed before → IsListed (before ++ es)
-  listed_from before [] each l = subst IsListed (sym (append-nil before)) l
-  listed_from before (e ∷ es) each l =
+  listed_from before [] each listed = subst IsListed (sym (append-nil before)) listed
+  listed_from before (e ∷ es) each listed =
       let longer : (before ++ e ∷ []) ++ es ≡ before ++ e ∷ es = append_assoc before (e ∷ []) es in
-      subst IsListed longer (listed_from (before ++ e ∷ []) es (subst (Each (KeepsList c)) (sym longer) each) (one_more before e (each before es e refl) l))
+      subst IsListed longer (listed_from (before ++ e ∷ []) es (subst (Each (KeepsList c)) (sym longer) each)
+      (one_more before e (each before es e refl) listed))
 
   pub listed_in : (events : List (Event T)) → Each (KeepsList c) events → (part rest : List (Event T)) → events ≡ part ++ rest → IsListed part
   listed_in events each part rest is =
@@ -266,7 +274,7 @@ module _ {T : Type 0} (c : ℕ) where
   pub always_listed : (code : Coding T) (r : Ring) (events : List (Event T))
       → IsHistory code (machine_kind (kind_of r)) c events → (part rest : List (Event T)) → events ≡ part ++ rest
       → IsListed part
-  always_listed code r events h = listed_in events (subst (Each (KeepsList c)) (sym h.is) (lists_kept code r c h.trace h.run))
+  always_listed code r events history = listed_in events (subst (Each (KeepsList c)) (sym history.is) (lists_kept code r c history.trace history.run))
 
 -- ---- a role that one party at a time holds
 

@@ -37,19 +37,19 @@ module _ {T : Type 0} where
 
   -- the promise of the machine, whatever the number of turns
   pub is_index_set : (t : Trace T) → t.world.kind ≡ kinds.Indices → Rattle.model.specs.Turns.IsReachedOn t → IsIndexSet t
-  is_index_set t is r = (subst (λ P. IsKeptBy P t) (ap (promise_of {T = T}) is) (kept_on t is r)).promised
+  is_index_set t is reached_on = (subst (λ P. IsKeptBy P t) (ap (promise_of {T = T}) is) (kept_on t is reached_on)).promised
 
 module _ {T : Type 0} (code : Coding T) (capacity : ℕ) where
   abbrev IsIndices : Trace T → Type 0
   IsIndices t = IsRun code kinds.Indices capacity t
 
   sound : (t : Trace T) → IsIndices t → frame.Sound (family t.world.coding t.world.capacity) t
-  sound t r = reached_on_sound t r.of_kind r.reached
+  sound t indices = reached_on_sound t indices.of_kind indices.reached
 
   size : (t : Trace T) → IsIndices t → length t.world.words ≡ core.size capacity
-  size t r =
-      let s = sound t r in
-      ap length s.fit.words ∙ (s.holds.good.wide ∙ ap core.size r.sized)
+  size t indices =
+      let is_sound = sound t indices in
+      ap length is_sound.fit.words ∙ (is_sound.holds.good.wide ∙ ap core.size indices.sized)
 
   no_rows : (z : Coding T) (c : ℕ) (kept : Registry T) (holders : List (Option ℕ)) (p : ℕ) (start : Start T) (flight : Flight T)
       → FlightAt c holders p start flight → first_row (going_rows z kept (Some flight) None) ≡ None
@@ -75,25 +75,27 @@ module _ {T : Type 0} (code : Coding T) (capacity : ℕ) where
   goes_on : (t : Trace T) → IsIndices t → (p : ℕ) (start : Start T) (flight : Flight T)
       → call_in t.world p ≡ Some (start, flight)
       → CallGoesOn code kinds.Indices capacity (core.size capacity) index_effects t p flight
-  goes_on t r p start flight at =
-      let w = t.world in
-      let s = sound t r in
-      let here = stands w p start flight at in
-      let there = stands_there (family w.coding w.capacity) t s p here.x here.since flight here.found here.doing in
-      let mine : FlightAt w.capacity s.state.holders p here.x.start flight = there.at in
+  goes_on t indices p start flight at =
+      let world_now = t.world in
+      let is_sound = sound t indices in
+      let here = stands world_now p start flight at in
+      let there = stands_there (family world_now.coding world_now.capacity) t is_sound p here.x here.since flight here.found here.doing in
+      let mine : FlightAt world_now.capacity is_sound.state.holders p here.x.start flight = there.at in
       record {
-        may = no_rows w.coding w.capacity w.kept s.state.holders p here.x.start flight mine;
-        own = λ n. own_there w.capacity p n s.state.holders here.x.start flight mine;
+        may = no_rows world_now.coding world_now.capacity world_now.kept is_sound.state.holders p here.x.start flight mine;
+        own = λ n. own_there world_now.capacity p n is_sound.state.holders here.x.start flight mine;
         writes = λ x n found. (
             let same : here.x ≡ x = (let both : Some here.x ≡ Some x = sym here.found ∙ found in cc) in
-            subst (λ (z : Party T). (step_in w p z flight n).wrote ≡ index_effects p flight n) same
-            (writes_there w.coding w.words (beside_of w.words w.kept w.latest p) w.capacity p n w.kept
-            s.state here.x.start flight s.fit.kept mine));
+            subst (λ (z : Party T). (step_in world_now p z flight n).wrote ≡ index_effects p flight n) same
+            (writes_there world_now.coding world_now.words (beside_of world_now.words world_now.kept world_now.latest p) world_now.capacity p n world_now.kept
+            is_sound.state here.x.start flight is_sound.fit.kept mine));
         goes = λ x n found. (
             let same : here.x ≡ x = (let both : Some here.x ≡ Some x = sym here.found ∙ found in cc) in
-            subst (λ (z : Party T). (step_in w p z flight n).after ≡ after_of w.coding flight n) same
-            (goes_there w.coding w.words (beside_of w.words w.kept w.latest p) w.capacity p n w.kept s.state
-            here.x.start flight s.fit.kept mine));
+            subst (λ (z : Party T). (step_in world_now p z flight n).after ≡ after_of world_now.coding flight n) same
+            (goes_there world_now.coding world_now.words
+            (beside_of world_now.words world_now.kept world_now.latest p) world_now.capacity p n world_now.kept
+            is_sound.state
+            here.x.start flight is_sound.fit.kept mine));
       }
 
   -- the unique index set owes what its kind has to
@@ -102,16 +104,16 @@ module _ {T : Type 0} (code : Coding T) (capacity : ℕ) where
     size = size;
     goes_on = goes_on;
     alone = λ going late h. h;
-    stateless = λ t r. (let s = sound t r in subst IsStateless (sym s.fit.kept) tt);
+    stateless = λ t r. (let is_sound = sound t r in subst IsStateless (sym is_sound.fit.kept) tt);
   }
 
   -- how many steps its calls take
   pub index_pays : Pays code kinds.Indices capacity
   index_pays t r =
-      (let s = sound t r in
+      (let is_sound = sound t r in
       let F = family t.world.coding t.world.capacity in
-      pays_run code kinds.Indices capacity t r F refl s
-      (progress_kept code kinds.Indices capacity t r F refl s (kept_on t r.of_kind r.reached)))
+      pays_run code kinds.Indices capacity t r F refl is_sound
+      (progress_kept code kinds.Indices capacity t r F refl is_sound (kept_on t r.of_kind r.reached)))
 
 -- ---- which party may begin a call
 
@@ -120,7 +122,7 @@ module _ {T : Type 0} (code : Coding T) (base : View T) where
   IsOn t = IsRun code kinds.Indices base.capacity t
 
   kept_there : (t : Trace T) → IsOn t → (holders : List (Option ℕ)) × (t.world.kept ≡ registries.Indices holders)
-  kept_there t r = let s = sound code base.capacity t r in (s.state.holders, s.fit.kept)
+  kept_there t is_on = let is_sound = sound code base.capacity t is_on in (is_sound.state.holders, is_sound.fit.kept)
 
   -- a call that names no index always may, as the party that the pass was last
   module _ {C M E : Type 0} (call : Calling T C M E) (start : IndexStart) (c : C) (m : M)
@@ -153,7 +155,7 @@ module _ {T : Type 0} (code : Coding T) (base : View T) where
       (first_is : (kept : Registry T)
       → first_of kinds.Indices base.capacity (Indices (Release index mode)) kept ≡ Some (call.flight c m))
       (below : index < base.capacity) (held : Holds index base.made) where
-    -- so does the release of an index that the pass holds
+    -- a release of an index that the pass holds may begin
     pub release_starts : (t : Trace T) (owner : ℕ → ℕ) (j : ℕ) → IsOn t → owner j ≡ j
         → IfSome base.party (λ p. owner p ≡ j)
         → ((f : Event T → ℕ) → sum_by f base.made ≡ sum_by (owned owner j f) t.events)
@@ -165,10 +167,10 @@ module _ {T : Type 0} (code : Coding T) (base : View T) where
         let keeps : KeepsHolders (registries.Indices kept.0) t.events = subst (λ k. KeepsHolders k t.events) kept.1 set.holders in
         let mine : slice_index_or kept.0 index None ≡ Some by.0 = keeps index ∙ by.2 in
         let past : nat_le base.capacity index ≡ false = grind (arith, nat_tests) in
-        let it : (by.0 == by.0) ≡ true = grind (arith, nat_tests) in
+        let tests_same : (by.0 == by.0) ≡ true = grind (arith, nat_tests) in
         let is_some : is_none (first_of kinds.Indices base.capacity (Indices (Release index mode)) t.world.kept) ≡ false =
         ap is_none (first_is t.world.kept) in
-        let free : first_row (call_rows base.capacity kept.0 by.0 (Release index mode)) ≡ None = rw (past, mine, it) refl in
+        let free : first_row (call_rows base.capacity kept.0 by.0 (Release index mode)) ≡ None = rw (past, mine, tests_same) refl in
         record {
           party = by.0;
           mine = by.1;

@@ -17,9 +17,7 @@ module _ {T : Type 0} where
   all_someone p [] are = refl
   all_someone p (e ∷ es) are =
       let here : of_none (whose e) ≡ 0 = ap of_none are.0 in
-      let more = all_someone p es are.1 in
-      let sum = sum_first (λ x. of_none (whose x)) e es in
-      omega arith
+      omega (arith, all_someone p es are.1, sum_first (λ x. of_none (whose x)) e es)
 
   module _ (code : Coding T) (kind : Kind) (capacity words : ℕ) (effects : World T → ℕ → Flight T → ℕ → List (Event T)) where
     -- of each of its calls under way: what a step writes, for another only what may be late there, and where it leads
@@ -31,7 +29,7 @@ module _ {T : Type 0} where
       pub goes : (x : Party T) (n : ℕ) → party_of p t.world.latest ≡ Some x
           → (step_in t.world p x flight n).after ≡ goes_of t.world.coding p flight n t.world.kept
 
-    -- of a kind whose calls may go on by what is kept
+    -- the laws of a kind whose calls may go on by what is kept
     pub record KeptLaws : Type 0 where
       pub size : (t : Trace T) → IsRun code kind capacity t → length t.world.words ≡ words
       pub steps_on : (t : Trace T) → IsRun code kind capacity t → (p : ℕ) (start : Start T) (flight : Flight T)
@@ -41,7 +39,7 @@ module _ {T : Type 0} where
           → refusal_as kind t.world turn ≡ None → (q : ℕ) → is_look_of t.world q turn ≡ false
           → state_in (after_turn t turn).world.kept q ≡ state_in t.world.kept q
 
-    -- of one whose calls do not
+    -- the laws of a kind whose calls do not
     pub record MachineLaws : Type 0 where
       pub size : (t : Trace T) → IsRun code kind capacity t → length t.world.words ≡ words
       pub steps_on : (t : Trace T) → IsRun code kind capacity t → (p : ℕ) (start : Start T) (flight : Flight T)
@@ -57,16 +55,14 @@ module _ {T : Type 0} where
 
   -- what a kind owes whose parties write for themselves alone
   module _ (code : Coding T) (kind : Kind) (capacity words : ℕ) (effects : ℕ → Flight T → ℕ → List (Event T)) where
-    -- a step of the call may be taken, writes events of its own party alone, and goes on as the
-    -- call does
+    -- a step of the call may be taken, writes events of its own party alone, and goes on as the call does
     pub record CallGoesOn (t : Trace T) (p : ℕ) (flight : Flight T) : Type 0 where
       pub may : first_row (going_rows t.world.coding t.world.kept (Some flight) None) ≡ None
       pub writes : (x : Party T) (n : ℕ) → party_of p t.world.latest ≡ Some x → (step_in t.world p x flight n).wrote ≡ effects p flight n
       pub own : (n : ℕ) → AreOf p (effects p flight n)
       pub goes : (x : Party T) (n : ℕ) → party_of p t.world.latest ≡ Some x → (step_in t.world p x flight n).after ≡ after_of t.world.coding flight n
 
-    -- its machines have so many words and keep no state of a party, each call under way goes on,
-    -- and nothing is late
+    -- its machines have so many words and keep no state of a party, each call under way goes on, and nothing is late
     pub record KindLaws : Type 0 where
       pub size : (t : Trace T) → IsRun code kind capacity t → length t.world.words ≡ words
       pub goes_on : (t : Trace T) → IsRun code kind capacity t → (p : ℕ) (start : Start T) (flight : Flight T)
@@ -110,7 +106,7 @@ Machines T = MachinesOf {T = T} KeptLaws
 abbrev pub SteadyMachines : Type 0 → Type 0
 SteadyMachines T = MachinesOf {T = T} MachineLaws
 
--- and whose parties write for themselves alone
+-- the laws of a kind whose parties write for themselves alone
 abbrev pub LoneMachines : Type 0 → Type 0
 LoneMachines T = MachinesOf {T = T} KindLaws
 

@@ -21,7 +21,7 @@ nat_cases = grind arith
 pub within : {A : Type 0} → (xs : List A) (i : ℕ) (x : A) → get_elem? xs i ≡ some x → i < length xs
 within [] i x e = absurd (some-ne-none x (sym e))
 within (y ∷ ys) zero x e = omega arith
-within (y ∷ ys) (suc i) x e = let h = within ys i x e in omega arith
+within (y ∷ ys) (suc i) x e = omega (arith, within ys i x e)
 
 pub nil_left : {A : Type 0} → (xs ys : List A) → xs ++ ys ≡ [] → xs ≡ []
 nil_left [] ys e = refl
@@ -31,7 +31,7 @@ pub nil_right : {A : Type 0} → (xs ys : List A) → xs ++ ys ≡ [] → ys ≡
 nil_right [] ys e = e
 nil_right (x ∷ xs) ys e = absurd (cc)
 
--- where the one seat takes the other in
+-- once a seat has taken over the parties of another seat, it owns what both owned
 one_both : (owner : ℕ → ℕ) (id other n : ℕ) → id ≢ other → (o : Option ℕ)
     → if_owned owner id o n + if_owned owner other o n ≡ if_owned (handed_on id other owner) id o n
 one_both = grind arith
@@ -50,8 +50,15 @@ module _ {T : Type 0} where
   pub itself : (es : List (Event T)) → IsBeginning es es
   itself es = record { rest = []; is = sym (append-nil es) }
 
+  -- a beginning of a beginning is a beginning
   pub begins_further : (xs ys zs : List (Event T)) → IsBeginning xs ys → IsBeginning ys zs → IsBeginning xs zs
-  begins_further xs ys zs a b = record { rest = a.rest ++ b.rest; is = b.is ∙ (ap (λ es. es ++ b.rest) a.is ∙ append_assoc xs a.rest b.rest) }
+  begins_further xs ys zs first_beginning second_beginning =
+      record {
+        rest = first_beginning.rest ++ second_beginning.rest;
+        is =
+            second_beginning.is
+            ∙ (ap (λ es. es ++ second_beginning.rest) first_beginning.is ∙ append_assoc xs first_beginning.rest second_beginning.rest);
+      }
 
   -- ---- whose events
 
@@ -96,33 +103,39 @@ module _ {T : Type 0} where
       → ((p : ℕ) → owner p ≡ j → events_by p es ≡ []) → sum_by (owned owner j f) es ≡ 0
   owned_none owner j f [] none = refl
   owned_none owner j f (e ∷ es) none =
-      let here = not_by owner j e es none f in
-      let more = owned_none owner j f es (λ p of_j. nil_right (own_of p e) (events_by p es) (none p of_j)) in
-      let sum = sum_first (owned owner j f) e es in
-      omega arith
+      omega (
+        arith,
+        not_by owner j e es none f,
+        owned_none owner j f es (λ p of_j. nil_right (own_of p e) (events_by p es) (none p of_j)),
+        sum_first (owned owner j f) e es,
+      )
 
   -- two seats together own what one of them owns that takes over the parties of the other
   pub owned_both : (owner : ℕ → ℕ) (id other : ℕ) (f : Event T → ℕ) → id ≢ other → (es : List (Event T))
       → sum_by (owned owner id f) es + sum_by (owned owner other f) es ≡ sum_by (owned (handed_on id other owner) id f) es
   owned_both owner id other f ne [] = refl
   owned_both owner id other f ne (e ∷ es) =
-      let here = one_both owner id other (f e) ne (whose e) in
-      let more = owned_both owner id other f ne es in
-      let a = sum_first (owned owner id f) e es in
-      let b = sum_first (owned owner other f) e es in
-      let c = sum_first (owned (handed_on id other owner) id f) e es in
-      omega arith
+      omega (
+        arith,
+        sum_first (owned owner id f) e es,
+        sum_first (owned owner other f) e es,
+        sum_first (owned (handed_on id other owner) id f) e es,
+        one_both owner id other (f e) ne (whose e),
+        owned_both owner id other f ne es,
+      )
 
   -- what a third seat owns stays
   pub owned_third : (owner : ℕ → ℕ) (id other j : ℕ) (f : Event T → ℕ) → j ≢ id → j ≢ other → (es : List (Event T))
       → sum_by (owned owner j f) es ≡ sum_by (owned (handed_on id other owner) j f) es
   owned_third owner id other j f ne apart [] = refl
   owned_third owner id other j f ne apart (e ∷ es) =
-      let here = one_third owner id other j (f e) ne apart (whose e) in
-      let more = owned_third owner id other j f ne apart es in
-      let a = sum_first (owned owner j f) e es in
-      let b = sum_first (owned (handed_on id other owner) j f) e es in
-      omega arith
+      omega (
+        arith,
+        one_third owner id other j (f e) ne apart (whose e),
+        owned_third owner id other j f ne apart es,
+        sum_first (owned owner j f) e es,
+        sum_first (owned (handed_on id other owner) j f) e es,
+      )
 
   -- no party of a seat that is idle has a call under way
   pub idle_seat : (owner : ℕ → ℕ) (t : Trace T) (j : ℕ) (v : View T) → v.going ≡ None → Fits owner t j v → (p : ℕ) → owner p ≡ j → call_in t.world p ≡ None
@@ -150,16 +163,18 @@ module _ {T : Type 0} where
       here None is = rw is refl
       here (Some r) is = grind (arith, by_other, own_mine, own_other, cases_eq)
 
-  -- where no other party of the seat did something
+  -- where no other party of the seat did something, what its parties did is what this one did
   pub owned_one : (owner : ℕ → ℕ) (j p : ℕ) (f : Event T → ℕ) (es : List (Event T)) → owner p ≡ j
       → ((q : ℕ) → owner q ≡ j → q ≢ p → events_by q es ≡ []) → sum_by (owned owner j f) es ≡ sum_by f (events_by p es)
   owned_one owner j p f [] mine none = refl
   owned_one owner j p f (e ∷ es) mine none =
-      let here = first (whose e) refl in
-      let more = owned_one owner j p f es mine (λ q of_j ne. nil_right (own_of q e) (events_by q es) (none q of_j ne)) in
-      let a = sum_first (owned owner j f) e es in
-      let b = sum_by-append f (own_of p e) (events_by p es) in
-      omega arith
+      omega (
+        arith,
+        first (whose e) refl,
+        owned_one owner j p f es mine (λ q of_j ne. nil_right (own_of q e) (events_by q es) (none q of_j ne)),
+        sum_first (owned owner j f) e es,
+        sum_by-append f (own_of p e) (events_by p es),
+      )
     where
       first : (o : Option ℕ) → whose e ≡ o → owned owner j f e ≡ sum_by f (own_of p e)
       first None is = rw is refl
@@ -174,8 +189,8 @@ module _ {T : Type 0} where
   -- ---- what another may write for a call
 
   pub late_none : (k : Kind) (late : List (Event T)) → IsLate k None late → late ≡ []
-  late_none kinds.Overflow late h = h
-  late_none k late h = h
+  late_none kinds.Overflow late is_late = is_late
+  late_none k late is_late = is_late
 
   none_may : (c : Start T × Flight T) → MayBeLate c []
   none_may = grind arith
@@ -200,12 +215,12 @@ module _ {T : Type 0} where
   may_more = grind (arith, all_both, both_none)
 
   more_for : (o : Option (Start T × Flight T)) (a b : List (Event T)) → IsLateFor o a → IsLateFor o b → IsLateFor o (a ++ b)
-  more_for None a b x y = both_none a b x y
-  more_for (Some c) a b x y = may_more c a b x y
+  more_for None a b first_late_for second_late_for = both_none a b first_late_for second_late_for
+  more_for (Some c) a b first_late_for second_late_for = may_more c a b first_late_for second_late_for
 
   pub late_more : (k : Kind) (o : Option (Start T × Flight T)) (a b : List (Event T)) → IsLate k o a → IsLate k o b → IsLate k o (a ++ b)
-  late_more kinds.Overflow o a b x y = more_for o a b x y
-  late_more k o a b x y = both_none a b x y
+  late_more kinds.Overflow o a b first_late second_late = more_for o a b first_late second_late
+  late_more k o a b first_late second_late = both_none a b first_late second_late
 
   pub by_nothing : (o : Option ℕ) → by_party {T = T} o [] ≡ []
   by_nothing None = refl

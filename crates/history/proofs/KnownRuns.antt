@@ -55,7 +55,7 @@ module _ {T : Type 0} {code : Coding T} {kind : Kind} {capacity : ℕ} where
       })
       knows.allowed knows.fresh
 
-  -- so what it has seen is a history
+  -- what a pass has seen is a history, where it knows its run
   pub known_history : {v : View T} → Knows code kind capacity v → IsHistory code kind capacity v.seen
   known_history {v} knows = record { trace = run_of code kind capacity v.turns; run = known_run knows; is = knows.is }
 
@@ -122,7 +122,7 @@ module _ {T : Type 0} where
   asked_prop : (v : View T) (steps : ℕ) → IsProp (HasAsked v steps)
   asked_prop v steps = Prim.hlevel (le_prop, ℕ_set)
 
--- where there is one at most that two values are the same
+-- what is known of a pass has at most one proof, where that two values are the same has at most one
 pub knows_prop : {T : Type 0} → IsSet T → (code : Coding T) (kind : Kind) (capacity : ℕ) (v : View T) → IsProp (Knows code kind capacity v)
 knows_prop set code kind capacity v =
     Prim.hlevel (coding_prop set, error_set, allowed_prop, fresh_turns_prop, is_set, event_set set, others_prop, asked_prop)

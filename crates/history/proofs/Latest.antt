@@ -39,12 +39,7 @@ module _ {T : Type 0} where
     -- a party begins no more calls than all together
     fewer : (es : List (Event T)) → begun_by es ≤ begun es
     fewer [] = omega arith
-    fewer (e ∷ es) =
-        let here = few e in
-        let rest = fewer es in
-        let one = sum_by-append begun_of (own_of p e) (events_by p es) in
-        let two = sum_first begun_of e es in
-        omega arith
+    fewer (e ∷ es) = omega (arith, few e, fewer es, sum_by-append begun_of (own_of p e) (events_by p es), sum_first begun_of e es)
 
     -- a party with no call has begun none
     abbrev None_begun : Trace T → Type 0
@@ -80,28 +75,23 @@ module _ {T : Type 0} where
     decides w q said None none = none
     decides w q said (Some x) none = answers w q x None (number_of said) x.doing none
 
-    -- where the turn begins no call
+    -- a turn that begins no call leaves the party with none begun
     quiet : (t : Trace T) (turn : Turn T) → begun (after_turns t (turn ∷ [])).events ≡ begun t.events → begun_by t.events ≡ 0
         → begun_by (after_turn t turn).events ≡ 0
     quiet t turn same none =
-        let all = sum_by-append begun_of t.events (events_of t.world turn) in
-        let few = fewer (events_of t.world turn) in
-        let both = more t.events (events_of t.world turn) in
-        omega arith
+        omega (arith, sum_by-append begun_of t.events (events_of t.world turn), fewer (events_of t.world turn), more t.events (events_of t.world turn))
 
     -- each turn keeps it that a party without a call has begun none
     turned : (t : Trace T) (turn : Turn T) → IsPossible t.world turn → None_begun t → None_begun (after_turn t turn)
     turned t (Begin q start) may was none =
         let before = begins t.world q start (first_of t.world.kind t.world.capacity start t.world.kept) may.call none in
         let here : begun_by (Begun q start ∷ []) ≡ 0 = ap begun (by_other q p (Begun q start ∷ []) before.1 (refl, tt)) in
-        let all = more t.events (Begun q start ∷ []) in
-        let zero = was before.0 in
-        omega arith
+        omega (arith, more t.events (Begun q start ∷ []), was before.0)
     turned t (Next q) may was none =
-        quiet t (Next q) (let is = begins_are t (Next q ∷ []) in omega arith) (was (nexts t.world q (party_of q t.world.latest) none))
+        quiet t (Next q) (omega (arith, begins_are t (Next q ∷ []))) (was (nexts t.world q (party_of q t.world.latest) none))
     turned t (Decide q said) may was none =
-        quiet t (Decide q said) (let is = begins_are t (Decide q said ∷ []) in omega arith) (was (decides t.world q said (party_of q t.world.latest) none))
-    turned t (Die owner) may was none = quiet t (Die owner) (let is = begins_are t (Die owner ∷ []) in omega arith) (was none)
+        quiet t (Decide q said) (omega (arith, begins_are t (Decide q said ∷ []))) (was (decides t.world q said (party_of q t.world.latest) none))
+    turned t (Die owner) may was none = quiet t (Die owner) (omega (arith, begins_are t (Die owner ∷ []))) (was none)
 
     turns_keep : (kind : Kind) (t : Trace T) (turns : List (Turn T)) → AreAllowedBy (refusal_as kind) t turns → None_begun t → None_begun (after_turns t turns)
     turns_keep kind t [] allowed was = was
@@ -119,23 +109,22 @@ module _ {T : Type 0} where
     one : 1 ≤ begun_by p known.events
     one =
         let is : known.events ≡ (old.seen ++ called.others) ++ Begun p start ∷ (called.during ++ Finished p start answer ∷ []) = sym knows.is ∙ called.is in
-        let all = more p (old.seen ++ called.others) (Begun p start ∷ (called.during ++ Finished p start answer ∷ [])) in
-        let first = more p (Begun p start ∷ []) (called.during ++ Finished p start answer ∷ []) in
         let here : begun_by p (Begun p start ∷ []) ≡ 1 = ap (λ es. begun (es ++ [])) (own_mine p (Begun p start) refl) in
         let same : begun_by p known.events ≡ begun_by p ((old.seen ++ called.others) ++ Begun p start ∷ (called.during ++ Finished p start answer ∷ [])) =
         ap (begun_by p) is in
-        omega arith
+        omega (
+          arith,
+          more p (old.seen ++ called.others) (Begun p start ∷ (called.during ++ Finished p start answer ∷ [])),
+          more p (Begun p start ∷ []) (called.during ++ Finished p start answer ∷ []),
+        )
 
     pub takes_in_run : TakesAlone alone retry old new → TakesInRun code kind capacity alone retry p old new
     takes_in_run takes = go (party_of p known.world.latest) refl
       where
-        -- the party has a latest call in the run, and the view counts the changes that the run
-        -- counts of that call
+        -- the party has a latest call in the run, and the view counts the changes that the run counts of that call
         go : (o : Option (Party T)) → party_of p known.world.latest ≡ o → TakesInRun code kind capacity alone retry p old new
         go None none =
-            let zero = turns_keep p kind (opening code kind capacity 0) new.turns knows.allowed (λ none. refl) none in
-            let some = one in
-            absurd (omega arith)
+            absurd (omega (arith, turns_keep p kind (opening code kind capacity 0) new.turns knows.allowed (λ none. refl) none, one))
         go (Some x) found =
             let counts : new.others ≡ others_of known.world.changes x.doing =
             knows.others ∙ (ap (others_by known.world) mine ∙ ap (others_so known.world.changes) found) in

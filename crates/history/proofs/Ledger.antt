@@ -39,16 +39,18 @@ module _ {T : Type 0} (takes gives : Event T → ℕ) (after : Option ℕ → Ev
         → sum_by (owned owner j takes) es + if_owned owner j (held_in before) 1 ≡ sum_by (owned owner j gives) es + if_owned owner j (held_in (before ++ es)) 1
     adds_up before [] each = grind (arith, append-nil)
     adds_up before (e ∷ es) each =
-        let here = each before es e refl in
         let longer : (before ++ e ∷ []) ++ es ≡ before ++ e ∷ es = append_assoc before (e ∷ []) es in
-        let more = adds_up (before ++ e ∷ []) es (subst (Each Moves) (sym longer) each) in
         let last : if_owned owner j (held_in ((before ++ e ∷ []) ++ es)) 1 ≡ if_owned owner j (held_in (before ++ e ∷ es)) 1 =
         ap (λ xs. if_owned owner j (held_in xs) 1) longer in
         let next : if_owned owner j (held_in (before ++ e ∷ [])) 1 ≡ if_owned owner j (after (held_in before) e) 1 =
         ap (λ o. if_owned owner j o 1) (fold-append after None before (e ∷ [])) in
-        let a = sum_first (owned owner j takes) e es in
-        let b = sum_first (owned owner j gives) e es in
-        omega arith
+        omega (
+          arith,
+          each before es e refl,
+          adds_up (before ++ e ∷ []) es (subst (Each Moves) (sym longer) each),
+          sum_first (owned owner j takes) e es,
+          sum_first (owned owner j gives) e es,
+        )
 
     -- where a seat has taken once more than it gave back, one of its parties has
     pub held_by_one : (all made : List (Event T)) → Each Moves all

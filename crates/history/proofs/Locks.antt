@@ -8,11 +8,11 @@ use Rattle.laws_robust.proofs.Cases.{by_bool}
 
 module _ {T : Type 0} where
   pub lock_stays : {seen events : List (Event T)} → IsBeginning seen events → is_locked seen ≡ true → is_locked events ≡ true
-  lock_stays {seen} {events} h shut =
-      ap is_locked h.is ∙ locked_later seen h.rest shut
+  lock_stays {seen} {events} beginning shut =
+      ap is_locked beginning.is ∙ locked_later seen beginning.rest shut
 
   pub not_locked : {seen events : List (Event T)} → IsBeginning seen events → is_locked events ≡ false → is_locked seen ≡ false
-  not_locked {seen} {events} h unlocked =
+  not_locked {seen} {events} beginning unlocked =
       by_bool (is_locked seen)
-      (λ t. (let shut = lock_stays h t in absurd (true≢false (sym shut ∙ unlocked))))
+      (λ t. (let shut = lock_stays beginning t in absurd (true≢false (sym shut ∙ unlocked))))
       (λ t. t)

@@ -33,17 +33,13 @@ module _ {T : Type 0} (p : ℕ) where
 
     sum_none : owner p ≢ j → (es : List (Event T)) → sum_by (owned owner j ones) es ≡ 0
     sum_none apart [] = refl
-    sum_none apart (e ∷ es) = (let here = one_none apart e in let rest = sum_none apart es in let first = sum_first (owned owner j ones) e es in omega arith)
+    sum_none apart (e ∷ es) = omega (arith, one_none apart e, sum_none apart es, sum_first (owned owner j ones) e es)
 
     -- how many events of its party a seat has made
     sum_mine : owner p ≡ j → (es : List (Event T)) → sum_by (owned owner j ones) es ≡ length (events_by p es)
     sum_mine mine [] = refl
     sum_mine mine (e ∷ es) =
-        let here = one_mine mine e in
-        let rest = sum_mine mine es in
-        let first = sum_first (owned owner j ones) e es in
-        let both = length-append (own_of p e) (events_by p es) in
-        omega arith
+        omega (arith, one_mine mine e, sum_mine mine es, sum_first (owned owner j ones) e es, length-append (own_of p e) (events_by p es))
 
   -- of a party of its own it knows all, of another it has made none
   made_mine : (v : View T) (h : IsOfParties v) → h.owner p ≡ h.seat → sum_by ones v.made ≡ length (events_by p v.seen)
@@ -70,7 +66,7 @@ module _ {T : Type 0} (code : Coding T) (kind : Kind) (size : ℕ) (u v w : View
   mine_both : w.seen ≡ u.seen ++ (a.mine.rest ++ b.mine.rest)
   mine_both = grind (arith, append_assoc)
 
-  -- so two looks one after another are one
+  -- two looks one after another are one
   pub looks_then : Looks code kind size u w
   looks_then =
       record {
@@ -81,7 +77,7 @@ module _ {T : Type 0} (code : Coding T) (kind : Kind) (size : ℕ) (u v w : View
         share = b.share ∙ a.share;
         other = b.other;
         made = b.made ∙ a.made;
-        aside = (let one = a.aside in let two = b.aside in omega arith);
+        aside = omega (arith, a.aside, b.aside);
         mine = record { rest = a.mine.rest ++ b.mine.rest; is = mine_both };
         theirs = begins_further u.other v.seen w.seen a.theirs b.mine;
         whole = λ all. ⊎_elim (λ (e : w.seen ≡ v.seen). ⊎_elim (λ f. inl (e ∙ f)) (λ f. inr (e ∙ f)) (a.whole all))

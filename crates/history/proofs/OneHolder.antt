@@ -18,8 +18,7 @@ module _ {T : Type 0} where
   first_own p [] es e is = absurd (cc)
   first_own p (x ∷ xs) es e is = go (λ rest. first_own p xs es e rest) (is_party p (whose x)) refl
     where
-      -- whether the event in front is the party's or another's, the first event of the party
-      -- stands somewhere
+      -- whether the event in front is the party's or another's, the first event of the party stands somewhere
       go : (events_by p xs ≡ e ∷ es
           → (ls : List (Event T)) × (rs : List (Event T)) × (xs ≡ ls ++ e ∷ rs) × (events_by p ls ≡ []) × (events_by p rs ≡ es))
           → (b : Bool) → is_party p (whose x) ≡ b
@@ -57,16 +56,16 @@ module _ {T : Type 0} where
       → Called p start answer (e ∷ es) base w → Wrote p e (es ++ Finished p start answer ∷ []) base w
   first_wrote p start answer e es base w c =
       let part = first_own p c.during es e c.during_own in
-      let xs : List (Event T) = base.seen ++ c.others in
+      let events_then : List (Event T) = base.seen ++ c.others in
       let last : List (Event T) = Finished p start answer ∷ [] in
-      let whole : w.seen ≡ (xs ++ Begun p start ∷ part.0) ++ e ∷ (part.1 ++ last) =
+      let whole : w.seen ≡ (events_then ++ Begun p start ∷ part.0) ++ e ∷ (part.1 ++ last) =
       c.is
-      ∙ (ap (λ ds. xs ++ Begun p start ∷ (ds ++ last)) part.2
-      ∙ (ap (λ zs. xs ++ Begun p start ∷ zs) (append_assoc part.0 (e ∷ part.1) last)
-      ∙ sym (append_assoc xs (Begun p start ∷ part.0) (e ∷ (part.1 ++ last)))))
+      ∙ (ap (λ ds. events_then ++ Begun p start ∷ (ds ++ last)) part.2
+      ∙ (ap (λ zs. events_then ++ Begun p start ∷ zs) (append_assoc part.0 (e ∷ part.1) last)
+      ∙ sym (append_assoc events_then (Begun p start ∷ part.0) (e ∷ (part.1 ++ last)))))
       in
       record {
-        before = xs ++ Begun p start ∷ part.0;
+        before = events_then ++ Begun p start ∷ part.0;
         after = part.1 ++ last;
         is = whole;
         since = record { rest = c.others ++ Begun p start ∷ part.0; is = append_assoc base.seen c.others (Begun p start ∷ part.0) };
@@ -102,13 +101,12 @@ module _ {T M : Type 0} (role : RoleEvents T M) where
   ArePlain p [] = Unit {0}
   ArePlain p (e ∷ es) = IsPlain p e × ArePlain p es
 
-  -- an event of another neither gives a party the role nor takes it away, and the begin of a call
-  -- moves no role
+  -- an event of another neither gives a party the role nor takes it away, and the begin of a call moves no role
   pub record HasOneHolder : Type 0 where
     -- before another's event that leaves the role to the party, the party held it, and the event tells nothing of it
     pub back : (p : ℕ) (before : List (Event T)) (e : Event T) → role.ByItsHolder before e → is_party p (whose e) ≡ false
         → role.holder_after (held before) e ≡ Some p → (held before ≡ Some p) × (role.marks e ≡ [])
-    -- and while the party holds it, another's event leaves it there and tells nothing of it
+    -- while the party holds the role, another's event leaves it there and tells nothing of it
     pub forth : (p : ℕ) (before : List (Event T)) (e : Event T) → role.ByItsHolder before e → role.Grants before e
         → is_party p (whose e) ≡ false → held before ≡ Some p → IsPlain p e
     pub begin : (o : Option ℕ) (p : ℕ) (start : Start T) → (role.holder_after o (Begun p start) ≡ o) × (role.marks (Begun p start) ≡ [])
@@ -150,8 +148,7 @@ module _ {T M : Type 0} (role : RoleEvents T M) (one : HasOneHolder role) where
       longer : (before ++ e ∷ []) ++ es ≡ before ++ e ∷ es
       longer = append_assoc before (e ∷ []) es
 
-      -- whether the event in front is the party's or another's, nobody writes what the role's
-      -- holder writes
+      -- whether the event in front is the party's or another's, nobody writes what the role's holder writes
       go : (ArePlain role p (events_by p es) → role.holder_after (Some p) e ≡ Some p → flat_map role.marks es ≡ []) → (b : Bool)
           → is_party p (whose e) ≡ b → flat_map role.marks (e ∷ es) ≡ []
       go later true t =
@@ -193,14 +190,14 @@ module _ {T M : Type 0} (role : RoleEvents T M) (one : HasOneHolder role) where
         ∙ (append-nil (flat_map m (seen ++ others))
         ∙ (flat_map-append m seen others ∙ (ap (λ zs. flat_map m seen ++ zs) earlier.1 ∙ append-nil (flat_map m seen))))))
 
-    -- nor with one more event that tells nothing of it
+    -- nobody else wrote such an event up to one more event that tells nothing of the role
     pub none_to_end : (last : Event T) → role.marks last ≡ []
         → flat_map role.marks (((seen ++ others) ++ Begun p start ∷ during) ++ last ∷ []) ≡ flat_map role.marks seen
     none_to_end last none =
         let m = role.marks in
-        let xs : List (Event T) = (seen ++ others) ++ Begun p start ∷ during in
-        flat_map-append m xs (last ∷ [])
-        ∙ (ap (λ zs. flat_map m xs ++ (zs ++ [])) none ∙ (append-nil (flat_map m xs) ∙ none_between))
+        let events_then : List (Event T) = (seen ++ others) ++ Begun p start ∷ during in
+        flat_map-append m events_then (last ∷ [])
+        ∙ (ap (λ zs. flat_map m events_then ++ (zs ++ [])) none ∙ (append-nil (flat_map m events_then) ∙ none_between))
 
   -- where the holder at the end wrote nothing since, nobody wrote what its holder writes
   pub none_looked : (p : ℕ) (seen rest now : List (Event T)) → now ≡ seen ++ rest → Each role.ByItsHolder now → events_by p rest ≡ []
@@ -212,7 +209,7 @@ module _ {T M : Type 0} (role : RoleEvents T M) (one : HasOneHolder role) where
 
   module _ {p : ℕ} {e : Event T} {own : List (Event T)} {base w : View T} (at : Wrote p e own base w)
       (each : Each role.ByItsHolder w.seen) (holds : held role at.before ≡ Some p) where
-    -- so since the pass looked last, nobody wrote one before the event
+    -- since the pass looked last, nobody wrote such an event before this one
     pub none_since : flat_map role.marks at.before ≡ flat_map role.marks base.seen
     none_since =
         ap (flat_map role.marks) at.begins

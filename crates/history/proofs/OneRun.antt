@@ -25,11 +25,16 @@ module _ {T : Type 0} where
   pub first_none : (turns : List (Turn T)) → AreFirst [] turns
   first_none turns = record { rest = turns; is = refl }
 
+  -- the first turns of the first turns are first turns
   pub first_further : (xs ys zs : List (Turn T)) → AreFirst xs ys → AreFirst ys zs → AreFirst xs zs
-  first_further xs ys zs a b = record { rest = a.rest ++ b.rest; is = b.is ∙ (ap (λ ts. ts ++ b.rest) a.is ∙ append_assoc xs a.rest b.rest) }
+  first_further xs ys zs are_first then_first =
+      record {
+        rest = are_first.rest ++ then_first.rest;
+        is = then_first.is ∙ (ap (λ ts. ts ++ then_first.rest) are_first.is ∙ append_assoc xs are_first.rest then_first.rest);
+      }
 
   pub first_more : (xs ys zs : List (Turn T)) → AreFirst xs ys → AreFirst xs (ys ++ zs)
-  first_more xs ys zs a = first_further xs ys (ys ++ zs) a (record { rest = zs; is = refl })
+  first_more xs ys zs first = first_further xs ys (ys ++ zs) first (record { rest = zs; is = refl })
 
   -- of two that are first turns of the same, the one goes on to the other
   either_first : (xs ys xs' ys' : List (Turn T)) → xs ++ xs' ≡ ys ++ ys' → AreFirst xs ys ⊎ AreFirst ys xs
@@ -140,7 +145,7 @@ module _ {T : Type 0} where
         }
 
     pub continues_further : (x y z : View T) → AreFirst x.turns y.turns → Continues code kind capacity y z → Continues code kind capacity x z
-    continues_further x y z a b = record { first = first_further x.turns y.turns z.turns a b.first; knows = b.knows }
+    continues_further x y z are_first continues = record { first = first_further x.turns y.turns z.turns are_first continues.first; knows = continues.knows }
 
     -- a pass that has the turns and the events of another knows its run
     same_run : (old new : View T) → new.turns ≡ old.turns → new.seen ≡ old.seen

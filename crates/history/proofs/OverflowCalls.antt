@@ -73,21 +73,21 @@ module _ {T : Type 0} where
 -- a push that is not left out ends as a call
 acts : (c : Pushing) (e : PushEnd) (n : ℕ) (stage : PushStage) → HasPushWord stage
     → over_push_skips stage n ≡ false → push_takes c stage n ≡ Done e → HasActed e
-acts c e n pushes.HandsBack h skip ends = absurd h
-acts c e n pushes.LoadsWrite h skip ends = (let no : GoOn (at_push c (pushes.LoadsRead n)) ≡ Done e = rw skip at ends in absurd (cc))
-acts c e n (pushes.LoadsRead write) h skip ends = absurd (cc)
-acts c e n (pushes.StoresCell write at) h skip ends = absurd (cc)
-acts c e n (pushes.StoresWrite write at) h skip ends = go (distance write at == c.capacity) ends
+acts c e n pushes.HandsBack push_word skip ends = absurd push_word
+acts c e n pushes.LoadsWrite push_word skip ends = (let no : GoOn (at_push c (pushes.LoadsRead n)) ≡ Done e = rw skip at ends in absurd (cc))
+acts c e n (pushes.LoadsRead write) push_word skip ends = absurd (cc)
+acts c e n (pushes.StoresCell write at) push_word skip ends = absurd (cc)
+acts c e n (pushes.StoresWrite write at) push_word skip ends = go (distance write at == c.capacity) ends
   where
     go : (b : Bool) → cond b (GoOn (at_push c (pushes.MovesRead at))) (Done Added) ≡ Done e → HasActed e
     go true d = absurd (cc)
     go false d = (let same : Added ≡ e = cc in subst HasActed same tt)
-acts c e n (pushes.MovesRead at) h skip ends = go (n == at) ends
+acts c e n (pushes.MovesRead at) push_word skip ends = go (n == at) ends
   where
     go : (b : Bool) → cond b (GoOn (at_push c (pushes.LoadsCell at))) (Done Added) ≡ Done e → HasActed e
     go true d = absurd (cc)
     go false d = (let same : Added ≡ e = cc in subst HasActed same tt)
-acts c e n (pushes.LoadsCell at) h skip ends = (let same : Oldest ≡ e = cc in subst HasActed same tt)
+acts c e n (pushes.LoadsCell at) push_word skip ends = (let same : Oldest ≡ e = cc in subst HasActed same tt)
 
 module _ {T : Type 0} (code : Coding T) (v : ℕ) where
   abbrev pushing : Calling T Pushing OneWord PushEnd
@@ -106,14 +106,14 @@ module _ {T : Type 0} (code : Coding T) (v : ℕ) where
   -- a push asks for a word of the queue at each stage that has one
   asks : (capacity own : ℕ) (stage : PushStage) → own ≡ capacity → HasPushWord stage
       → (a : Ask) × (a.word < 4 + (capacity + 1)) × (push_asks own stage v ≡ wants.Ask a)
-  asks capacity own pushes.HandsBack same h = absurd h
-  asks capacity own pushes.LoadsWrite same h = (record { word = 0; op = Load }, omega arith, refl)
-  asks capacity own (pushes.LoadsRead write) same h = (record { word = 1; op = Load }, omega arith, refl)
-  asks capacity own (pushes.StoresCell write read) same h =
+  asks capacity own pushes.HandsBack same push_word = absurd push_word
+  asks capacity own pushes.LoadsWrite same push_word = (record { word = 0; op = Load }, omega arith, refl)
+  asks capacity own (pushes.LoadsRead write) same push_word = (record { word = 1; op = Load }, omega arith, refl)
+  asks capacity own (pushes.StoresCell write read) same push_word =
       (record { word = cell_word own write; op = Store v }, (let low : write % (own + 1) < own + 1 = omega arith in omega arith), refl)
-  asks capacity own (pushes.StoresWrite write read) same h = (record { word = 0; op = Store (after_position write) }, omega arith, refl)
-  asks capacity own (pushes.MovesRead read) same h = (record { word = 1; op = Exchange read (after_position read) }, omega arith, refl)
-  asks capacity own (pushes.LoadsCell read) same h =
+  asks capacity own (pushes.StoresWrite write read) same push_word = (record { word = 0; op = Store (after_position write) }, omega arith, refl)
+  asks capacity own (pushes.MovesRead read) same push_word = (record { word = 1; op = Exchange read (after_position read) }, omega arith, refl)
+  asks capacity own (pushes.LoadsCell read) same push_word =
       (record { word = cell_word own read; op = Load }, (let low : read % (own + 1) < own + 1 = omega arith in omega arith), refl)
 
   abbrev Hears : Pushing → OneWord → Ask → ℕ → PushStage → Type 0
@@ -146,22 +146,22 @@ module _ {T : Type 0} (code : Coding T) (v : ℕ) where
       → c.capacity ≡ capacity → from ≡ None → AllByRecursion IsWithin es
       → Met code kinds.Overflow capacity pushing.start (pushing.flight c m) p from es n t → There capacity p c es n t
   there capacity p from c m n es t same none are met =
-      let s = sound_of code capacity queues.Overflow t met.run in
+      let is_sound = sound_of code capacity queues.Overflow t met.run in
       let at = stands t.world p pushing.start (pushing.flight c m) met.there in
-      let now = stands_there (family t.world.coding queues.Overflow t.world.capacity) t s p at.x at.since (pushing.flight c m) at.found at.doing in
-      let k = s.state.core in
-      let words : t.world.words ≡ layout s.state.roles k = s.fit.words in
-      let span : Open at.x.start (overflow_wrote t.world.capacity k p v c.stage) ≡ Open pushing.start es =
+      let now = stands_there (family t.world.coding queues.Overflow t.world.capacity) t is_sound p at.x at.since (pushing.flight c m) at.found at.doing in
+      let core_now = is_sound.state.core in
+      let words : t.world.words ≡ layout is_sound.state.roles core_now = is_sound.fit.words in
+      let span : Open at.x.start (overflow_wrote t.world.capacity core_now p v c.stage) ≡ Open pushing.start es =
       sym now.span ∙ (met.span none ∙ spans_on pushing.start [] es are) in
       record {
-        core = k;
+        core = core_now;
         wrote =
-            same_open pushing.start at.x.start es (overflow_wrote t.world.capacity k p v c.stage) (sym span)
-            ∙ ap (λ z. overflow_wrote z k p v c.stage) met.run.sized;
+            same_open pushing.start at.x.start es (overflow_wrote t.world.capacity core_now p v c.stage) (sym span)
+            ∙ ap (λ z. overflow_wrote z core_now p v c.stage) met.run.sized;
         read = ap (λ ws. slice_index ws 1) words;
         cell =
             λ position. ap (λ ws. slice_index ws (cell_word capacity position)) words
-            ∙ word_at k.write k.read (free s.state.roles.producer) (free s.state.roles.consumer) k.cells
+            ∙ word_at core_now.write core_now.read (free is_sound.state.roles.producer) (free is_sound.state.roles.consumer) core_now.cells
             (cell_word capacity position) (position % (capacity + 1)) refl;
         found = ap (λ z. old_of t.world.words (ask_of (push_asks z c.stage v))) (sym same) ∙ met.found;
       }
@@ -226,7 +226,7 @@ module _ {T : Type 0} (code : Coding T) (v : ℕ) where
   pub over_push_keeps : KeepsOver code kinds.Overflow (λ capacity. 4 + (capacity + 1)) push_driven
   over_push_keeps = keeps_in (overflow_machines code) push_driven push_is_call
 
-  -- and so it begins, on a pass that has the producer's role
+  -- a push begins on a pass that rests and has the producer's role
   pub over_push_first : (x : View T) → x.going ≡ None → x.other ≡ [] → 0 < x.share.part → 0 < x.capacity
       → x.capacity < 2 ^ 32 → HasRole Producer x.made
       → At code kinds.Overflow pushing x x (first_push x.capacity) (record { 0 = 0 })

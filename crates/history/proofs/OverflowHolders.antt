@@ -56,9 +56,13 @@ module _ {T : Type 0} (c : ℕ) where
   FitsList before (MakesRoom item q pushed) = (rest : List (Item T)) × (waiting before ≡ item ∷ rest)
   FitsList before effect = Unit {0}
 
+  -- events that are right one after the other are right together
   right_both : (before xs ys : List (Event T)) → Right before xs → Right (before ++ xs) ys → Right before (xs ++ ys)
-  right_both before [] ys a b = subst (λ zs. Right zs ys) (append-nil before) b
-  right_both before (x ∷ xs) ys a b = (a.0, right_both (before ++ x ∷ []) xs ys a.1 (subst (λ zs. Right zs ys) (sym (append_assoc before (x ∷ []) xs)) b))
+  right_both before [] ys first_right second_right = subst (λ zs. Right zs ys) (append-nil before) second_right
+  right_both before (x ∷ xs) ys first_right second_right = (
+    first_right.0,
+    right_both (before ++ x ∷ []) xs ys first_right.1 (subst (λ zs. Right zs ys) (sym (append_assoc before (x ∷ []) xs)) second_right),
+  )
 
   -- an event of a call moves no role
   produces : (before : List (Event T)) (e : Event T) (p : ℕ) → ((o : Option ℕ) → producer_after o e ≡ o)
@@ -150,7 +154,7 @@ module _ {T : Type 0} (c : ℕ) where
     push_fits v capacity n (pushes.StoresWrite write read) size knows found = go _
       where
         room : length (waiting before) < c + 1
-        room = (let is = good.write in let low = knows.2 in let fits = knows.3 in let same_length = long in omega arith)
+        room = omega (arith, good.write, knows.2, knows.3, long)
 
         -- whether the push acts as it publishes or not, it publishes where there is room
         go : (b : Bool) → FitsList before (cond b (PublishesAndActs (Index v)) (Publishes (Index v)))
@@ -161,7 +165,7 @@ module _ {T : Type 0} (c : ℕ) where
         (λ d.
         let is : n ≡ read = grind (arith, nat_tests) in
         let here : read ≡ k.read = sym is ∙ (sym found ∙ is_read) in
-        let some : 0 < length k.waiting = (let is_write = good.write in let far = knows.2 in omega arith) in
+        let some : 0 < length k.waiting = (omega (arith, good.write, knows.2)) in
         subst (λ z. FitsList before (TakesOut (slice_index words (cell_word z read)))) (sym size) (front read here some))
         (λ d. tt)
     push_fits v capacity n (pushes.LoadsCell read) size knows found = tt
@@ -177,7 +181,7 @@ module _ {T : Type 0} (c : ℕ) where
     pop_fits room capacity n (pops.MovesRead read) size knows found =
         λ is.
         let here : read ≡ k.read = sym is ∙ (sym found ∙ is_read) in
-        let some : 0 < length k.waiting = (let is_write = good.write in let below = knows.2 in omega arith) in
+        let some : 0 < length k.waiting = (omega (arith, good.write, knows.2)) in
         subst (λ z. FitsList before (HandsOut (Index (slice_index words (cell_word z read))))) (sym size) (front read here some)
 
   module _ (en : Coding T) (t : Trace T) (s : frame.Sound (family en queues.Overflow c) t) where
@@ -235,38 +239,41 @@ module _ {T : Type 0} (c : ℕ) where
         subst (Right t.events) (sym fact.writes) (over_right p n x.start flight there.at handed)
 
 module _ {T : Type 0} (code : Coding T) (capacity : ℕ) where
-  -- so all events of every run are right
+  -- all events of every run are right
   rightly : (t : Trace T) → IsRun code kinds.Overflow capacity t → Each (Rightly t.world.capacity) t.events
   rightly t run =
-      let w = t.world in
-      let first : Trace T = opening w.coding w.kind w.capacity w.parties in
-      let admitted : capacity_error kinds.Overflow w.capacity ≡ None = subst (λ kind. capacity_error kind w.capacity ≡ None) run.of_kind run.reached.admitted in
-      let sound : frame.Sound (family w.coding queues.Overflow w.capacity) first =
-      subst (λ kind. frame.Sound (family w.coding queues.Overflow w.capacity) (opening w.coding kind w.capacity w.parties))
+      let world_now = t.world in
+      let first : Trace T = opening world_now.coding world_now.kind world_now.capacity world_now.parties in
+      let admitted : capacity_error kinds.Overflow world_now.capacity ≡ None =
+      subst (λ kind. capacity_error kind world_now.capacity ≡ None) run.of_kind run.reached.admitted in
+      let sound : frame.Sound (family world_now.coding queues.Overflow world_now.capacity) first =
+      subst (λ kind. frame.Sound (family world_now.coding queues.Overflow world_now.capacity)
+      (opening world_now.coding kind world_now.capacity world_now.parties))
       (sym run.of_kind)
-      (opening_sound w.coding run.reached.coded queues.Overflow w.capacity w.parties
-      (admitted_fits queues.Overflow w.capacity admitted))
+      (opening_sound world_now.coding run.reached.coded queues.Overflow world_now.capacity world_now.parties
+      (admitted_fits queues.Overflow world_now.capacity admitted))
       in
-      subst (λ z. Each (Rightly w.capacity) z.events) (sym run.fresh.is)
-      (each_event (family w.coding queues.Overflow w.capacity) IsFreshTurn
-      (fresh_laws w.coding run.reached.coded queues.Overflow w.capacity) (Rightly w.capacity)
+      subst (λ z. Each (Rightly world_now.capacity) z.events) (sym run.fresh.is)
+      (each_event (family world_now.coding queues.Overflow world_now.capacity) IsFreshTurn
+      (fresh_laws world_now.coding run.reached.coded queues.Overflow world_now.capacity) (Rightly world_now.capacity)
       (λ before p start. (tt, tt)) (λ before p start answer. (tt, tt)) (λ before owner. (tt, tt))
-      (λ t s. step_right w.capacity w.coding t s) run.fresh.turns first run.fresh.fresh sound
-      (Each-nil (Rightly w.capacity)))
+      (λ t s. step_right world_now.capacity world_now.coding t s) run.fresh.turns first run.fresh.fresh sound
+      (Each-nil (Rightly world_now.capacity)))
 
   pub history_by_over_holders : (events : List (Event T)) → IsHistory code kinds.Overflow capacity events → Each ByOverHolder events
-  history_by_over_holders events h = subst (Each ByOverHolder) (sym h.is) (λ before after e is. (rightly h.trace h.run before after e is).0)
+  history_by_over_holders events history =
+      subst (Each ByOverHolder) (sym history.is) (λ before after e is. (rightly history.trace history.run before after e is).0)
 
   -- a value is published where at most the capacity waits, and taken out, by a push or by a pop, where it waits first
   pub over_lists_kept : (events : List (Event T)) → IsHistory code kinds.Overflow capacity events → Each (KeepsList (capacity + 1)) events
-  over_lists_kept events h =
-      subst (Each (KeepsList (capacity + 1))) (sym h.is)
-      (λ before after e is. subst (λ n. KeepsList (n + 1) before e) h.run.sized (rightly h.trace h.run before after e is).1)
+  over_lists_kept events history =
+      subst (Each (KeepsList (capacity + 1))) (sym history.is)
+      (λ before after e is. subst (λ n. KeepsList (n + 1) before e) history.run.sized (rightly history.trace history.run before after e is).1)
 
   -- at any time what was taken out is a beginning of what was published, and at most one more than the capacity waits
   pub over_listed : (events : List (Event T)) → IsHistory code kinds.Overflow capacity events
       → (part rest : List (Event T)) → events ≡ part ++ rest → IsListed (capacity + 1) part
-  over_listed events h part rest is = listed_in (capacity + 1) events (over_lists_kept events h) part rest is
+  over_listed events history part rest is = listed_in (capacity + 1) events (over_lists_kept events history) part rest is
 
   producer_of_it : (before : List (Event T)) (e : Event T) → ByOverHolder before e → ByHolderOf Producer before e
   producer_of_it before (Published p item) holds = holds

@@ -52,12 +52,12 @@ module _ {T : Type 0} (code : Coding T) where
   -- a pop asks for a word of the queue at each stage that has one
   asks : (capacity own : ℕ) (stage : PopStage) → own ≡ capacity → HasPopWord stage
       → (a : Ask) × (a.word < 4 + (capacity + 1)) × (pop_asks own stage ≡ wants.Ask a)
-  asks capacity own pops.FindsNone same h = absurd h
-  asks capacity own pops.LoadsRead same h = (record { word = 1; op = Load }, omega arith, refl)
-  asks capacity own (pops.LoadsWrite read) same h = (record { word = 0; op = Load }, omega arith, refl)
-  asks capacity own (pops.LoadsCell read) same h =
+  asks capacity own pops.FindsNone same pop_word = absurd pop_word
+  asks capacity own pops.LoadsRead same pop_word = (record { word = 1; op = Load }, omega arith, refl)
+  asks capacity own (pops.LoadsWrite read) same pop_word = (record { word = 0; op = Load }, omega arith, refl)
+  asks capacity own (pops.LoadsCell read) same pop_word =
       (record { word = cell_word own read; op = Load }, (let low : read % (own + 1) < own + 1 = omega arith in omega arith), refl)
-  asks capacity own (pops.MovesRead read) same h = (record { word = 1; op = Exchange read (after_position read) }, omega arith, refl)
+  asks capacity own (pops.MovesRead read) same pop_word = (record { word = 1; op = Exchange read (after_position read) }, omega arith, refl)
 
   abbrev Hears : Popping → OneWord → Ask → ℕ → PopStage → Type 0
   Hears c m a n stage = (pop_takes c stage (answered a.op n) ≡ pop_takes c stage n) × (pop_keeps m stage (answered a.op n) ≡ pop_keeps m stage n)
@@ -115,26 +115,25 @@ module _ {T : Type 0} (code : Coding T) where
       knows : KnowsOverflowPop t.world.capacity s.state.core m c.stage
       knows = grind (arith, stands, stands_there, family, s)
 
-      -- where the pop moves the read position that it has read, the cell there still holds the
-      -- word that it has read
+      -- where the pop moves the read position that it has read, the cell there still holds the word that it has read
       front : (read : ℕ) → c.stage ≡ pops.MovesRead read → n ≡ read → slice_index t.world.words (cell_word c.capacity read) ≡ m.0
       front read stage e =
-          let k = s.state.core in
+          let core_now = s.state.core in
           let words = s.fit.words in
-          let mine : KnowsOverflowPop t.world.capacity k m (pops.MovesRead read) = subst (KnowsOverflowPop t.world.capacity k m) stage knows in
+          let mine : KnowsOverflowPop t.world.capacity core_now m (pops.MovesRead read) = subst (KnowsOverflowPop t.world.capacity core_now m) stage knows in
           let found : slice_index t.world.words 1 ≡ n = subst (λ z. old_of t.world.words (ask_of (pop_asks c.capacity z)) ≡ n) stage met.found in
-          let here : read ≡ k.read = sym e ∙ (sym found ∙ ap (λ ws. slice_index ws 1) words) in
+          let here : read ≡ core_now.read = sym e ∙ (sym found ∙ ap (λ ws. slice_index ws 1) words) in
           let first = mine.3 here in
           let good = s.holds.good in
-          let some : 0 < length k.waiting = (let long = ap length first.1 in omega arith) in
-          let old = oldest t.world.capacity k good some in
-          let value : get_or k.cells (k.read % (t.world.capacity + 1)) 0 ≡ m.0 =
-          (let both : get_or k.cells (k.read % (t.world.capacity + 1)) 0 ∷ old.0 ≡ m.0 ∷ first.0 = sym old.1 ∙ first.1 in cc) in
+          let some : 0 < length core_now.waiting = (omega (arith, ap length first.1)) in
+          let old = oldest t.world.capacity core_now good some in
+          let value : get_or core_now.cells (core_now.read % (t.world.capacity + 1)) 0 ≡ m.0 =
+          (let both : get_or core_now.cells (core_now.read % (t.world.capacity + 1)) 0 ∷ old.0 ≡ m.0 ∷ first.0 = sym old.1 ∙ first.1 in cc) in
           let size : c.capacity ≡ t.world.capacity = same ∙ sym met.run.sized in
           ap (λ ws. slice_index ws (cell_word c.capacity read)) words
-          ∙ (word_at k.write k.read (free s.state.roles.producer) (free s.state.roles.consumer) k.cells
+          ∙ (word_at core_now.write core_now.read (free s.state.roles.producer) (free s.state.roles.consumer) core_now.cells
           (cell_word c.capacity read) (read % (c.capacity + 1)) refl
-          ∙ (ap (λ z. get_or k.cells (read % (z + 1)) 0) size ∙ (ap (λ z. get_or k.cells (z % (t.world.capacity + 1)) 0) here ∙ value)))
+          ∙ (ap (λ z. get_or core_now.cells (read % (z + 1)) 0) size ∙ (ap (λ z. get_or core_now.cells (z % (t.world.capacity + 1)) 0) here ∙ value)))
 
       same_kept : t.world.kept ≡ registries.Queues s.state.roles
       same_kept = s.fit.kept
@@ -185,7 +184,7 @@ module _ {T : Type 0} (code : Coding T) where
   pub over_pop_keeps : KeepsEnds code kinds.Overflow (λ capacity. 4 + (capacity + 1)) pop_driven
   over_pop_keeps = keeps_all_in (overflow_machines code) pop_driven over_pop_is_call (λ c n. refl)
 
-  -- and so it begins, on a pass that has the consumer's role
+  -- a pop begins on a pass that rests and has the consumer's role
   pub over_pop_first : (x : View T) → x.going ≡ None → x.other ≡ [] → 0 < x.share.part → 0 < x.capacity
       → x.capacity < 2 ^ 32 → HasRole Consumer x.made
       → At code kinds.Overflow popping x x (first_pop x.capacity) (record { 0 = 0 })

@@ -52,7 +52,7 @@ module _ {T : Type 0} (code : Coding T) where
     len_keeps : (size : ℕ) → KeepsEnds code kinds.Overflow words_of (len_driven code which size)
     len_keeps size = keeps_all_in (overflow_machines code) (len_driven code which size) (counts size) (λ c n. refl)
 
-    -- for any capacity
+    -- the calls on lengths of the overflowing queue keep the rule, for any capacity
     pub over_lens_keep : KeepsRule (λ (z : View T). z.asked) (λ (z : View T). z.capacity)
         (λ (base : View T). At code kinds.Overflow (counts_waiting which base.capacity) base)
         (λ (base : View T). Ends code kinds.Overflow (counts_waiting which base.capacity) base)

@@ -32,7 +32,7 @@ use Rattle.history.proofs.Turns.{StepsOn, MachineLaws, SteadyMachines}
 -- ---- what the events of an effect are
 
 module _ {T : Type 0} where
-  -- for itself alone
+  -- the effect is one that the party has for itself alone
   abbrev pub IsOwn : Effect T → Type 0
   IsOwn (MakesRoom item q pushed) = ⊥
   IsOwn effect = Unit {0}
@@ -181,10 +181,10 @@ module _ {T : Type 0} (code : Coding T) (capacity : ℕ) where
         → IsLate kinds.Overflow (call_in t.world r) (events_by r (over_effects t.world p flight n))
     beside_late is_over p n r ne (flights.Queues (Overflow (overflows.Push run))) = own_late p r _ ne (push_own t.world p run n)
     beside_late is_over p n r ne (flights.Queues (Overflow (overflows.Pop run))) =
-        let s = sound_of code capacity queues.Overflow t is_over in
-        let kept = s.fit.kept in
+        let is_sound = sound_of code capacity queues.Overflow t is_over in
+        let kept = is_sound.fit.kept in
         pop_late p r n ne _ run.call.capacity (beside_of t.world.words t.world.kept t.world.latest p)
-        (λ q v e. beside_waits t t.world.coding t.world.capacity s t.world.kept p q v e kept) run.call.stage
+        (λ q v e. beside_waits t t.world.coding t.world.capacity is_sound t.world.kept p q v e kept) run.call.stage
     beside_late is_over p n r ne (flights.Queues (OnRole call)) = none_late kinds.Overflow (call_in t.world r)
     beside_late is_over p n r ne (flights.Queues (Indices call)) = none_late kinds.Overflow (call_in t.world r)
     beside_late is_over p n r ne (flights.Queues (Values call)) = none_late kinds.Overflow (call_in t.world r)
@@ -193,21 +193,21 @@ module _ {T : Type 0} (code : Coding T) (capacity : ℕ) where
 
   stateless : (t : Trace T) → IsOver t → IsStateless t.world.kept
   stateless t run =
-      (let s = sound_of code capacity queues.Overflow t run in subst IsStateless (sym s.fit.kept) tt)
+      (let is_sound = sound_of code capacity queues.Overflow t run in subst IsStateless (sym is_sound.fit.kept) tt)
 
   -- each step of a call under way writes and leads where the table says
   steps_on : (t : Trace T) → IsOver t → (p : ℕ) (start : Start T) (flight : Flight T)
       → call_in t.world p ≡ Some (start, flight)
       → StepsOn code kinds.Overflow capacity (4 + (capacity + 1)) over_effects t p flight
   steps_on t run p start flight at =
-      let s = sound_of code capacity queues.Overflow t run in
+      let is_sound = sound_of code capacity queues.Overflow t run in
       let here = stands t.world p start flight at in
-      let there = stands_there (family t.world.coding queues.Overflow t.world.capacity) t s p here.x here.since flight here.found here.doing in
-      let kept = s.fit.kept in
+      let there = stands_there (family t.world.coding queues.Overflow t.world.capacity) t is_sound p here.x here.since flight here.found here.doing in
+      let kept = is_sound.fit.kept in
       let fact = λ (x : Party T) (n : ℕ) (found : party_of p t.world.latest ≡ Some x).
       (let same : here.x ≡ x = (let both : Some here.x ≡ Some x = sym here.found ∙ found in cc) in
       subst (λ (st : Start T). Facts t.world p n st flight t.world.kept) (ap (λ (y : Party T). y.start) same)
-      (facts t.world t.world.coding t.world.capacity p n s.state.roles s.state.core here.x.start flight t.world.kept kept there.at))
+      (facts t.world t.world.coding t.world.capacity p n is_sound.state.roles is_sound.state.core here.x.start flight t.world.kept kept there.at))
       in
       record {
         may = (fact here.x 0 here.found).may;

@@ -28,7 +28,7 @@ PaysOn {T} kind capacity size t =
     (p : ℕ) (x : Party T) → party_of p t.world.latest ≡ Some x
     → IsWithin (guarantee_of kind capacity size x.start) (progress_of t.world.changes x)
 
--- and so on each of this kind and capacity
+-- on each machine of this kind and capacity the latest call of each party is within its guarantee
 abbrev pub Pays : {T : Type 0} → Coding T → Kind → ℕ → Type 0
 Pays {T} code kind capacity = (t : Trace T) → IsRun code kind capacity t → PaysOn kind capacity code.size t
 
@@ -41,7 +41,7 @@ paid fewer more each le = (let rest : more ≡ fewer + (more - fewer) = omega ar
     spread a b each = omega arith
 
 more_paid : (steps alone backs others retry : ℕ) → steps ≤ alone + backs * retry → backs ≤ others → steps ≤ alone + others * retry
-more_paid steps alone backs others retry most le = (let times = paid backs others retry le in omega arith)
+more_paid steps alone backs others retry most le = omega (arith, paid backs others retry le)
 
 -- F is the family of the kind, t a trace, of which s says that it is sound
 module _ {T : Type 0} (F : Family T) (kind : Kind) (promised : promise_of {T = T} kind ≡ F.promise) (t : Trace T) (s : frame.Sound F t)
@@ -53,17 +53,16 @@ module _ {T : Type 0} (F : Family T) (kind : Kind) (promised : promise_of {T = T
       go x.doing (subst (λ o. frame.Fits F s.state p o (span_of p t.events)) found (s.inv.calls p))
       (subst (λ o. Progresses F.promise F.capacity F.coding.size (span_of p t.events) (progress_after t.world.changes o)) found (progress p))
     where
-      -- of a call under way, or one that is over: it has taken no more steps than its promise
-      -- grants
+      -- of a call under way, or one that is over: it has taken no more steps than its promise grants
       go : (doing : Doing T) → frame.FitsDoing F s.state p x doing (span_of p t.events)
           → Progresses F.promise F.capacity F.coding.size (span_of p t.events) (Some (progress_of t.world.changes x))
           → IsBounded F.promise F.capacity F.coding.size x.start (progress_of t.world.changes x)
-      go (Going flight since) h is =
-          (subst (λ seen. Progresses F.promise F.capacity F.coding.size seen (Some (progress_of t.world.changes x))) h.span is).0
-      go (Over others) h is =
-          (subst (λ seen. Progresses F.promise F.capacity F.coding.size seen (Some (progress_of t.world.changes x))) h.span is).0
+      go (Going flight since) fits_doing is =
+          (subst (λ seen. Progresses F.promise F.capacity F.coding.size seen (Some (progress_of t.world.changes x))) fits_doing.span is).0
+      go (Over others) fits_doing is =
+          (subst (λ seen. Progresses F.promise F.capacity F.coding.size seen (Some (progress_of t.world.changes x))) fits_doing.span is).0
 
-  -- so the latest call of each party has paid for its turns back
+  -- the latest call of each party has paid for its turns back
   pub pays_on : PaysOn kind F.capacity F.coding.size t
   pays_on p x found =
       go (guarantee_of kind F.capacity F.coding.size x.start)
@@ -71,10 +70,10 @@ module _ {T : Type 0} (F : Family T) (kind : Kind) (promised : promise_of {T = T
       (guaranteed kind F.capacity F.coding.size x.start))
     where
       go : (g : Guarantee) → IsGuaranteed F.promise F.capacity F.coding.size x.start g → IsWithin g (progress_of t.world.changes x)
-      go (WaitFree most) h = (let b = bounded p x found in let is = b.steps in let le = h x.backs in omega arith)
-      go (ObstructionFree alone retry) h =
-          (let b = bounded p x found in let is = b.steps in let le = h x.backs in
-          more_paid x.steps alone x.backs (others_of t.world.changes x.doing) retry (omega arith) b.backs)
+      go (WaitFree most) is_guaranteed = (let within_bounds = bounded p x found in omega (arith, within_bounds.steps, is_guaranteed x.backs))
+      go (ObstructionFree alone retry) is_guaranteed =
+          (let within_bounds = bounded p x found in let is = within_bounds.steps in let le = is_guaranteed x.backs in
+          more_paid x.steps alone x.backs (others_of t.world.changes x.doing) retry (omega arith) within_bounds.backs)
 
 -- F is the family of the kind, t the trace of a run, of which s says that it is sound
 module _ {T : Type 0} (code : Coding T) (kind : Kind) (capacity : ℕ) (t : Trace T) (r : IsRun code kind capacity t) (F : Family T)
@@ -88,7 +87,7 @@ module _ {T : Type 0} (code : Coding T) (kind : Kind) (capacity : ℕ) (t : Trac
       (subst (λ (c : Coding T). Progresses (promise_of t.world.kind) t.world.capacity c.size (span_of p t.events) (progress_in t.world p)) s.coding
       (kept.progress p)))
 
-  -- and so do the bounds of its family
+  -- the bounds of its family say how far each call has come
   pub progress_within : frame.Bounds F → (p : ℕ) → Progresses F.promise F.capacity F.coding.size (span_of p t.events) (progress_in t.world p)
   progress_within bounds p =
       frame.progresses F bounds s.state p t.events t.world.changes (party_of p t.world.latest) (span_of p t.events) (s.inv.calls p) (s.inv.knows p)
@@ -174,4 +173,4 @@ module _ {T C M E : Type 0} (code : Coding T) (kind : Kind) (call : Calling T C 
 
   -- a look is one operation
   pub left_takes : (most : ℕ) → 1 ≤ most → LeftOut code kind call base e m w → TakesAtMost most base w
-  left_takes most least left = (let is = left.asked in omega arith)
+  left_takes most least left = omega (arith, left.asked)

@@ -47,8 +47,8 @@ told_when kinds.Overflow o Told x = λ e. x
 told_when k o Told x = x
 
 told_of : {T : Type 0} → (k : Kind) (o : Option (Start T × Flight T)) (Told Less : Type 0) → (Told → Less) → WhenIdle k o Told → WhenIdle k o Less
-told_of kinds.Overflow o Told Less f x = λ e. f (x e)
-told_of k o Told Less f x = f x
+told_of kinds.Overflow o Told Less less when_idle = λ e. less (when_idle e)
+told_of k o Told Less less when_idle = less when_idle
 
 told_never : {T : Type 0} → (k : Kind) (o : Option (Start T × Flight T)) (Told : Type 0) → (k ≡ kinds.Overflow) × (o ≢ None) → WhenIdle k o Told
 told_never k o Told h = subst (λ z. WhenIdle z o Told) (sym h.0) (λ e. absurd (h.1 e))
@@ -72,7 +72,7 @@ module _ {T : Type 0} (code : Coding T) (kind : Kind) (capacity : ℕ) where
             λ j x found. ⊎_elim
             (λ (e : (j ≡ id) × (w ≡ x)). subst (λ z. Fits m.owner m.trace j z) e.1 (subst (λ n. Fits m.owner m.trace n w) (sym e.0) fits))
             (λ (e : (j ≢ id) × (get_elem? s.views j ≡ some x)). m.seats j x e.1) (at_set s.views id j w x found);
-        inside = λ p low. (let long = length-set s.views id w in let h = m.inside p (omega arith) in omega arith);
+        inside = λ p low. (let long = length-set s.views id w in let stands_inside = m.inside p (omega arith) in omega arith);
         fresh = λ p past. (let long = length-set s.views id w in m.fresh p (omega arith));
         further = λ j past. (let long = length-set s.views id w in m.further j (omega arith));
         made_none = λ j past. (let long = length-set s.views id w in m.made_none j (omega arith));
@@ -91,11 +91,11 @@ module _ {T : Type 0} (code : Coding T) (kind : Kind) (capacity : ℕ) where
       × (Looks code kind capacity v w × (table.carried_after [] a ≡ [])) × (w.seen ≡ m.trace.events) × (w.asked ≡ v.asked + 1)
   looks_at slots id word v some_share calm s m long at small =
       let t = m.trace in
-      let f = m.seats id v at in
-      let none : f.late ≡ [] = calm f.late (subst (λ k. IsLate k v.going f.late) m.run.of_kind f.waits) in
+      let seat_fits = m.seats id v at in
+      let none : seat_fits.late ≡ [] = calm seat_fits.late (subst (λ k. IsLate k v.going seat_fits.late) m.run.of_kind seat_fits.waits) in
       let made : (g : Event T → ℕ) → sum_by g v.made ≡ sum_by (owned m.owner id g) t.events =
-      λ g. (let is = f.made g in let no : sum_by g f.late ≡ 0 = ap (sum_by g) none in omega arith) in
-      let w : View T =
+      λ g. (let no : sum_by g seat_fits.late ≡ 0 = ap (sum_by g) none in omega (arith, seat_fits.made g)) in
+      let view_now : View T =
       record {
         capacity = v.capacity;
         party = v.party;
@@ -112,7 +112,7 @@ module _ {T : Type 0} (code : Coding T) (kind : Kind) (capacity : ℕ) where
         taken = v.taken;
         others = others_by t.world v.party;
       } in
-      let gains : Gains s.views v w.asked w.aside (steps_of_run code kind capacity m.one.turns) =
+      let gains : Gains s.views v view_now.asked view_now.aside (steps_of_run code kind capacity m.one.turns) =
       record {
         old = steps_of_run code kind capacity m.one.turns;
         n = 0;
@@ -121,28 +121,28 @@ module _ {T : Type 0} (code : Coding T) (kind : Kind) (capacity : ℕ) where
         more = omega arith;
         own = omega arith;
       } in (
-        w,
+        view_now,
         table.keeps,
         tt,
-        reseat (slice_set s.words word (slice_index s.words word)) s m id v w (set_same s.words word) at
+        reseat (slice_set s.words word (slice_index s.words word)) s m id v view_now (set_same s.words word) at
             (record {
               seen = itself t.events;
               other = nothing t.events;
-              self = f.self;
-              going = f.going;
-              idle = f.idle;
-              stated = f.stated;
-              counted = f.counted;
-              party = f.party;
+              self = seat_fits.self;
+              going = seat_fits.going;
+              idle = seat_fits.idle;
+              stated = seat_fits.stated;
+              counted = seat_fits.counted;
+              party = seat_fits.party;
               late = [];
               waits = none_late t.world.kind v.going;
               of_party = by_nothing v.party;
               own = λ any p of_id. inl (append-nil (events_by p t.events));
-              made = λ g. (let is = made g in omega arith);
+              made = λ g. omega (arith, made g);
             })
-            (known_step s.views t.events id v w (within s.views id v at) at refl some_share refl m.known.someone m.known.spent m.known.shares)
-            (knew_all code kind capacity s.views t w m.one refl refl)
-            (gains_have s.views id v w (steps_of_run code kind capacity m.one.turns) at gains some_share),
+            (known_step s.views t.events id v view_now (within s.views id v at) at refl some_share refl m.known.someone m.known.spent m.known.shares)
+            (knew_all code kind capacity s.views t view_now m.one refl refl)
+            (gains_have s.views id v view_now (steps_of_run code kind capacity m.one.turns) at gains some_share),
         (
           record {
             capacity = refl;
@@ -153,8 +153,8 @@ module _ {T : Type 0} (code : Coding T) (kind : Kind) (capacity : ℕ) where
             other = refl;
             made = refl;
             aside = omega arith;
-            mine = f.seen;
-            theirs = f.other;
+            mine = seat_fits.seen;
+            theirs = seat_fits.other;
             whole =
                 λ all. ⊎_elim (λ (e : v.seen ≡ t.events). inl (sym e)) (λ (e : v.other ≡ t.events). inr (sym e))
                 (known_whole s.views t.events id v at all m.known);
@@ -163,11 +163,11 @@ module _ {T : Type 0} (code : Coding T) (kind : Kind) (capacity : ℕ) where
                 (λ j u ne there. m.seats j u there) m.inside (λ q ne past. m.made_none q past) m.known.someone g
                 ∙ sym (made g);
             history = record { trace = t; run = m.run; is = refl };
-            ran = continues_all code kind capacity s.views t id v w m.one at m.run refl refl refl
-                (gains_has s.views v w (steps_of_run code kind capacity m.one.turns) gains refl);
+            ran = continues_all code kind capacity s.views t id v view_now m.one at m.run refl refl refl
+                (gains_has s.views v view_now (steps_of_run code kind capacity m.one.turns) gains refl);
             theirs_ran = (m.one.knew id v at).theirs;
             parties = record { owner = m.owner; seat = id; sums = made };
-            apart = λ alone any p of_id. rest_apart v t f.late f.seen p alone none (f.own any p of_id);
+            apart = λ alone any p of_id. rest_apart v t seat_fits.late seat_fits.seen p alone none (seat_fits.own any p of_id);
           },
           refl,
         ),
@@ -180,17 +180,18 @@ module _ {T : Type 0} (code : Coding T) (kind : Kind) (capacity : ℕ) where
       → ((late : List (Event T)) → IsLate kind v.going late → late ≡ [])
       → Allows Holds slots id (v, []) word (λ n. n) (λ found me. LooksOnce code kind capacity v me.0 × (me.1 ≡ []))
   looks_once slots id word v some_share calm s m long at small =
-      (let x = looks_at slots id word v some_share calm s m long at small in (x.0, x.1, x.2, x.3, ((x.4.0, x.6), x.4.1)))
+      (let looked = looks_at slots id word v some_share calm s m long at small in
+      (looked.0, looked.1, looked.2, looked.3, ((looked.4.0, looked.6), looked.4.1)))
 
-  -- as what a seat owes for it
+  -- a look is what a seat owes for one operation
   pub owes_look : (words slots id word : ℕ) (v : View T) → word < words → 0 < v.share.part
       → ((late : List (Event T)) → IsLate kind v.going late → late ≡ [])
       → OwesAsk (λ (z : View T). z.asked) Holds words slots id (λ u n w. LooksOnce code kind capacity u w) word Load (v, [])
   owes_look words slots id word v below some_share calm = (
     below,
     λ s m long at small. (
-        let x = looks_at slots id word v some_share calm s m long at small in
-        (x.0, x.1, x.2, x.3, ((x.4.0, x.6), x.6, x.4.1))),
+        let looked = looks_at slots id word v some_share calm s m long at small in
+        (looked.0, looked.1, looked.2, looked.3, ((looked.4.0, looked.6), looked.6, looked.4.1))),
   )
 
   -- where something may be late the seat stays as it is, and nothing is told of the look
@@ -207,8 +208,14 @@ module _ {T : Type 0} (code : Coding T) (kind : Kind) (capacity : ℕ) where
           × Holds (table.stepped s word (slice_index s.words word) id [] w a) × (table.carried_after [] a ≡ [])
           × WhenIdle kind v.going (Looks code kind capacity v w × (w.seen ≡ m.trace.events))
       told calm =
-          (let x = looks_at slots id word v some_share calm s m long at small in
-          (x.0, x.1, x.2, x.3, x.4.1, told_when kind v.going (Looks code kind capacity v x.0 × (x.0.seen ≡ m.trace.events)) (x.4.0, x.5)))
+          (let looked = looks_at slots id word v some_share calm s m long at small in (
+            looked.0,
+            looked.1,
+            looked.2,
+            looked.3,
+            looked.4.1,
+            told_when kind v.going (Looks code kind capacity v looked.0 × (looked.0.seen ≡ m.trace.events)) (looked.4.0, looked.5),
+          ))
 
       -- where something may be late for the seat, it stays as it is, and nothing is told
       untold : (kind ≡ kinds.Overflow) × (v.going ≢ None)
@@ -230,36 +237,37 @@ module _ {T : Type 0} (code : Coding T) (kind : Kind) (capacity : ℕ) where
   pub looks : (slots id word : ℕ) (v : View T) → 0 < v.share.part
       → Allows Holds slots id (v, []) word (λ n. n) (λ found me. WhenIdle kind v.going (Looks code kind capacity v me.0) × (me.1 ≡ []))
   looks slots id word v some_share s m long at small =
-      (let x = looks_when slots id word v some_share s m long at small in (
-        x.0,
-        x.1,
-        x.2,
-        x.3,
+      (let looked = looks_when slots id word v some_share s m long at small in (
+        looked.0,
+        looked.1,
+        looked.2,
+        looked.3,
         (
-          told_of kind v.going (Looks code kind capacity v x.0 × (x.0.seen ≡ m.trace.events)) (Looks code kind capacity v x.0) (λ h. h.0) x.5,
-          x.4,
+          told_of kind v.going (Looks code kind capacity v looked.0 × (looked.0.seen ≡ m.trace.events))
+              (Looks code kind capacity v looked.0) (λ h. h.0) looked.5,
+          looked.4,
         ),
       ))
 
-  -- and it is told the number that it loads
+  -- a pass may look by a load of any word, and is told the number that it loads
   pub looks_word : (slots id word : ℕ) (v : View T) → 0 < v.share.part
       → Allows Holds slots id (v, []) word (λ n. n)
       (λ found me. WhenIdle kind v.going (LooksAt code kind capacity word v found me.0) × (me.1 ≡ []))
   looks_word slots id word v some_share s m long at small =
-      let x = looks_when slots id word v some_share s m long at small in (
-        x.0,
-        x.1,
-        x.2,
-        x.3,
+      let looked = looks_when slots id word v some_share s m long at small in (
+        looked.0,
+        looked.1,
+        looked.2,
+        looked.3,
         (
-          told_of kind v.going (Looks code kind capacity v x.0 × (x.0.seen ≡ m.trace.events))
-              (LooksAt code kind capacity word v (slice_index s.words word) x.0) (λ h. record {
+          told_of kind v.going (Looks code kind capacity v looked.0 × (looked.0.seen ≡ m.trace.events))
+              (LooksAt code kind capacity word v (slice_index s.words word) looked.0) (λ h. record {
                 looks = h.0;
                 trace = m.trace;
                 run = m.run;
                 seen = h.1;
                 word_is = λ below. ap (λ ws. slice_index ws word) m.words ∙ get_left m.trace.world.words (0 ∷ []) word below;
-              }) x.5,
-          x.4,
+              }) looked.5,
+          looked.4,
         ),
       )

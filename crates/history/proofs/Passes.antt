@@ -41,7 +41,7 @@ at_end (z ∷ zs) x y (suc j) e = ⊎_elim (λ h. inl h) (λ h. inr (ap suc h.0,
 
 length_end : {A : Type 0} → (xs : List A) (x : A) → length (xs ++ x ∷ []) ≡ length xs + 1
 length_end [] x = refl
-length_end (z ∷ zs) x = let h = length_end zs x in omega arith
+length_end (z ∷ zs) x = omega (arith, length_end zs x)
 
 no_more : (n : ℕ) → n + 0 ≡ n
 no_more n = omega arith
@@ -52,12 +52,14 @@ have_end : {T : Type 0} → (views : List (View T)) (w : View T) (steps : ℕ) �
 have_end {T} views w steps asked aside h =
     record {
       sum = (
-          let sum = h.sum in
-          let a = sum_by-append (λ (v : View T). v.asked) views (w ∷ []) in
-          let b = sum_by-append (λ (v : View T). v.aside) views (w ∷ []) in
-          let c = sum_by-cons (λ (v : View T). v.asked) w [] in
-          let d = sum_by-cons (λ (v : View T). v.aside) w [] in
-          omega arith);
+          omega (
+            arith,
+            sum_by-append (λ (v : View T). v.asked) views (w ∷ []),
+            sum_by-append (λ (v : View T). v.aside) views (w ∷ []),
+            sum_by-cons (λ (v : View T). v.asked) w [],
+            sum_by-cons (λ (v : View T). v.aside) w [],
+            h.sum,
+          ));
       each = λ j x found. ⊎_elim (λ e. h.each j x e) (λ e. subst (λ (z : View T). z.aside ≤ z.asked) e.1 (omega arith)) (at_end views w x j found);
       spent = λ j x found. ⊎_elim (λ e. h.spent j x e) (λ e. subst (λ (z : View T). z.share.part ≡ 0 → z.asked ≡ z.aside) e.1 (λ none. asked ∙ sym aside))
           (at_end views w x j found);
@@ -86,14 +88,14 @@ module _ {T : Type 0} (code : Coding T) (kind : Kind) (capacity : ℕ) where
             (at_end (set s.views id (left_view v)) (right_view v) x j found);
         inside =
             λ p low. (let l = long in
-            ⊎_elim (λ (past : length s.views ≤ p). (let f = m.fresh p past in omega arith))
-            (λ (low' : p < length s.views). (let h = m.inside p low' in omega arith)) (nat_cases (length s.views) p));
+            ⊎_elim (λ (past : length s.views ≤ p). omega (arith, m.fresh p past))
+            (λ (low' : p < length s.views). omega (arith, m.inside p low')) (nat_cases (length s.views) p));
         fresh = λ p past. (let l = long in m.fresh p (omega arith));
         further = λ j past. (let l = long in m.further j (omega arith));
         made_none = λ j past. (let l = long in m.made_none j (omega arith));
         asked = have_end (set s.views id (left_view v)) (right_view v) steps refl refl
             (subst (λ n. HaveAsked (set s.views id (left_view v)) n) (no_more steps)
-            (have_more s.views id v (left_view v) steps 0 at m.asked (omega arith) (λ none. (let same = m.asked.spent id v at none in omega arith))));
+            (have_more s.views id v (left_view v) steps 0 at m.asked (omega arith) (λ none. omega (arith, m.asked.spent id v at none))));
         known = known_split s.views m.trace.events id v (within s.views id v at) at m.known;
         one = one;
       }
@@ -156,21 +158,21 @@ module _ {T : Type 0} (code : Coding T) (kind : Kind) (capacity : ℕ) where
       -- the seat that was split fits the machine with half of its share
       left : Fits m.owner m.trace id (left_view v)
       left =
-          (let f = m.seats id v at in
+          (let seat_fits = m.seats id v at in
           record {
-            seen = f.seen;
-            other = f.other;
-            self = f.self;
-            going = f.going;
-            idle = f.idle;
-            stated = f.stated;
-            counted = f.counted;
-            party = f.party;
-            late = f.late;
-            waits = f.waits;
-            of_party = f.of_party;
-            own = f.own;
-            made = f.made;
+            seen = seat_fits.seen;
+            other = seat_fits.other;
+            self = seat_fits.self;
+            going = seat_fits.going;
+            idle = seat_fits.idle;
+            stated = seat_fits.stated;
+            counted = seat_fits.counted;
+            party = seat_fits.party;
+            late = seat_fits.late;
+            waits = seat_fits.waits;
+            of_party = seat_fits.of_party;
+            own = seat_fits.own;
+            made = seat_fits.made;
           })
 
       -- each seat that was there before fits the machine
@@ -197,8 +199,8 @@ module _ {T : Type 0} (code : Coding T) (kind : Kind) (capacity : ℕ) where
             (at_set (set s.views id (joined_view v w)) other j spent_view x found);
         inside =
             λ p low. (let l = long in
-            ⊎_elim (λ (e : m.owner p ≡ other). (let to = moves p e in let h = within s.views id v at in omega arith))
-            (λ (ne : m.owner p ≢ other). (let to = stays p ne in let h = m.inside p (omega arith) in omega arith))
+            ⊎_elim (λ (e : m.owner p ≡ other). omega (arith, moves p e, within s.views id v at))
+            (λ (ne : m.owner p ≢ other). (let to = stays p ne in let stands_inside = m.inside p (omega arith) in omega arith))
             (cases_eq (m.owner p) other));
         fresh = λ p past. (
             let l = long in
@@ -276,12 +278,8 @@ module _ {T : Type 0} (code : Coding T) (kind : Kind) (capacity : ℕ) where
                       ∙ (ap (λ es. events_by p w.seen ++ events_by p es) (sym its_none) ∙ only w its alone' p h (its.own other_share p h)),
                 )) (of_id p now);
             made = λ f. (
-                let a = mine.made f in
-                let b = its.made f in
                 let none : sum_by f its.late ≡ 0 = ap (sum_by f) its_none in
-                let one = sum_by-append f v.made w.made in
-                let two = owned_both m.owner id other f (λ e. apart (sym e)) m.trace.events in
-                omega arith);
+                omega (arith, mine.made f, its.made f, sum_by-append f v.made w.made, owned_both m.owner id other f (λ e. apart (sym e)) m.trace.events));
           }
         where
           party_is : (o : Option ℕ) (p : ℕ) → o ≡ Some p → IfSome o (λ q. m.owner q ≡ id) → m.owner p ≡ id
@@ -310,21 +308,21 @@ module _ {T : Type 0} (code : Coding T) (kind : Kind) (capacity : ℕ) where
         where
           -- a seat that neither takes over nor is taken over fits the machine as before
           third : (j : ℕ) (x : View T) → j ≢ id → j ≢ other → Fits m.owner m.trace j x → Fits (handed_on id other m.owner) m.trace j x
-          third j x ne apart_too f =
+          third j x ne apart_too fits =
               record {
-                seen = f.seen;
-                other = f.other;
-                self = λ any. stays j (λ e. apart_too (sym (f.self any) ∙ e)) ∙ f.self any;
-                going = λ p now. f.going p (of_third p j ne now).0;
-                idle = λ p now. f.idle p (of_third p j ne now).0;
-                stated = λ p now. f.stated p (of_third p j ne now).0;
-                counted = λ p now. f.counted p (of_third p j ne now).0;
-                party = go x.party f.party;
-                late = f.late;
-                waits = f.waits;
-                of_party = f.of_party;
-                own = λ any p now. f.own any p (of_third p j ne now).0;
-                made = λ g. f.made g ∙ owned_third m.owner id other j g ne apart_too m.trace.events;
+                seen = fits.seen;
+                other = fits.other;
+                self = λ any. stays j (λ e. apart_too (sym (fits.self any) ∙ e)) ∙ fits.self any;
+                going = λ p now. fits.going p (of_third p j ne now).0;
+                idle = λ p now. fits.idle p (of_third p j ne now).0;
+                stated = λ p now. fits.stated p (of_third p j ne now).0;
+                counted = λ p now. fits.counted p (of_third p j ne now).0;
+                party = go x.party fits.party;
+                late = fits.late;
+                waits = fits.waits;
+                of_party = fits.of_party;
+                own = λ any p now. fits.own any p (of_third p j ne now).0;
+                made = λ g. fits.made g ∙ owned_third m.owner id other j g ne apart_too m.trace.events;
               }
             where
               go : (o : Option ℕ) → IfSome o (λ q. m.owner q ≡ j) → IfSome o (λ q. handed_on id other m.owner q ≡ j)
@@ -342,9 +340,9 @@ module _ {T : Type 0} (code : Coding T) (kind : Kind) (capacity : ℕ) where
   pub opens : (words : List ℕ) → IsCoding code → capacity_error kind capacity ≡ None
       → words ≡ (opening_of kind).words code.size capacity ++ 0 ∷ [] → Holds (opening words [] (first_view capacity))
   opens words coded admitted same =
-      let t : Trace T = worlds.opening code kind capacity 0 in
+      let trace_now : Trace T = worlds.opening code kind capacity 0 in
       record {
-        trace = t;
+        trace = trace_now;
         run = record {
           reached = reached_as_opening code kind capacity 0 coded admitted;
           coded = refl;

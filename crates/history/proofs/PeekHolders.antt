@@ -57,22 +57,22 @@ module _ {T : Type 0} (code : Coding T) (kd : QueueKind) (capacity p : ℕ) (ans
     stands : (x : Party T) (flight : Flight T) (since n : ℕ) → party_of p w.latest ≡ Some x → x.doing ≡ Going flight since
         → (step_in w p x flight n).wrote ++ ending_of p x.start (answer_in (step_in w p x flight n).after) ≡ l.wrote ++ last ∷ [] → Holds
     stands x flight since n found doing writes =
-        let s = sound_of code capacity kd l.old l.run in
+        let is_sound = sound_of code capacity kd l.old l.run in
         let beside = beside_of w.words w.kept w.latest p in
-        let there = stands_there (family w.coding kd w.capacity) l.old s p x since flight found doing in
+        let there = stands_there (family w.coding kd w.capacity) l.old is_sound p x since flight found doing in
         let it = last_is p p (Queues Peek) x.start answer (answer_in (step_in w p x flight n).after) l.wrote (step_in w p x flight n).wrote
         (writes_no_end T w.coding w.words beside p x.start flight n w.kept) writes in
-        let at = subst (λ st. (family w.coding kd w.capacity).At s.state p st flight) it.0 there.at in
-        let quiet = peek_at w.coding w.coding w.capacity p n w.words beside kd s.state.roles s.state.core flight at in
+        let at = subst (λ st. (family w.coding kd w.capacity).At is_sound.state p st flight) it.0 there.at in
+        let quiet = peek_at w.coding w.coding w.capacity p n w.words beside kd is_sound.state.roles is_sound.state.core flight at in
         let same : (step_in w p x flight n).wrote ≡ [] =
         ap (λ st. (step_of w.coding w.words beside p st flight n w.kept).wrote) it.0
-        ∙ (ap (λ k. (step_of w.coding w.words beside p (Queues Peek) flight n k).wrote) s.fit.kept ∙ quiet.1) in
-        at_end (it.1 ∙ same) (s.holds.consumers ∙ quiet.0)
+        ∙ (ap (λ k. (step_of w.coding w.words beside p (Queues Peek) flight n k).wrote) is_sound.fit.kept ∙ quiet.1) in
+        at_end (it.1 ∙ same) (is_sound.holds.consumers ∙ quiet.0)
 
     does : (x : Party T) (n : ℕ) → party_of p w.latest ≡ Some x → (doing : Doing T) → x.doing ≡ doing
         → events_of_answer w p x n doing ≡ l.wrote ++ last ∷ [] → Holds
-    does x n found (Over others) e writes = absurd (none_last l.wrote last writes)
-    does x n found (Going flight since) e writes = stands x flight since n found e writes
+    does x n found (Over others) same_doing writes = absurd (none_last l.wrote last writes)
+    does x n found (Going flight since) same_doing writes = stands x flight since n found same_doing writes
 
     goes : (o : Option (Party T)) → party_of p w.latest ≡ o → events_of_next w p o ≡ l.wrote ++ last ∷ [] → Holds
     goes None found writes = absurd (none_last l.wrote last writes)

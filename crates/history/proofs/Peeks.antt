@@ -50,9 +50,9 @@ module _ {T : Type 0} (code : Coding T) where
   index_stays : (capacity : ℕ) (c d : indices.Peeking) (n : ℕ) (stage : PeekStage) → c.capacity ≡ capacity
       → indices.PeekStage capacity stage → peek_takes 1 c stage n ≡ GoOn d
       → (d.capacity ≡ capacity) × indices.PeekStage capacity d.stage
-  index_stays capacity c d n peeks.LoadsRead size h e = let same : at_peek c (peeks.LoadsWrite n) ≡ d = cc in
+  index_stays capacity c d n peeks.LoadsRead size peek_stage e = let same : at_peek c (peeks.LoadsWrite n) ≡ d = cc in
       subst (λ z. (z.capacity ≡ capacity) × indices.PeekStage capacity z.stage) same (size, tt)
-  index_stays capacity c d n (peeks.LoadsWrite read) size h e =
+  index_stays capacity c d n (peeks.LoadsWrite read) size peek_stage e =
       by_bool (c.capacity == 0 || n == read)
       (λ t. let no : ◌≡◌ {A = After indices.Peeking Bool} (Done false) (GoOn d) = rw t at e in absurd (cc))
       (λ t.
@@ -61,23 +61,23 @@ module _ {T : Type 0} (code : Coding T) where
       let some : 0 < capacity = grind (arith, nat_tests) in
       subst (λ z. (z.capacity ≡ capacity) × indices.PeekStage capacity z.stage) same
       (size, (read, some, ap (λ k. cell_word k 1 read) size, refl)))
-  index_stays capacity c d n (peeks.LoadsCell cell at) size h e =
-      let t : nat_lt (at + 1) 1 ≡ false = (let none = h.3 in grind (arith, nat_tests)) in
-      let no : ◌≡◌ {A = After indices.Peeking Bool} (Done true) (GoOn d) = rw t at e in
+  index_stays capacity c d n (peeks.LoadsCell cell at) size peek_stage e =
+      let not_below : nat_lt (at + 1) 1 ≡ false = (let none = peek_stage.3 in grind (arith, nat_tests)) in
+      let no : ◌≡◌ {A = After indices.Peeking Bool} (Done true) (GoOn d) = rw not_below at e in
       absurd (cc)
 
   -- a peek asks for a word of the queue at each stage
   index_finds_word : (capacity : ℕ) (stage : PeekStage) → capacity < 2 ^ 32 → indices.PeekStage capacity stage
       → (a : Ask) × (a.word < 4 + capacity) × (peek_asks stage ≡ wants.Ask a)
-  index_finds_word capacity peeks.LoadsRead fits h = (record { word = 1; op = Load }, omega arith, refl)
-  index_finds_word capacity (peeks.LoadsWrite read) fits h = (record { word = 0; op = Load }, omega arith, refl)
-  index_finds_word capacity (peeks.LoadsCell cell at) fits h =
-      let t : (capacity == 0) ≡ false = (let some = h.1 in grind (arith, nat_tests)) in
-      let place : cell_word capacity 1 h.0 ≡ 4 + 1 * (h.0 % capacity) = rw t refl in
-      let is = h.2 in
-      let none = h.3 in
-      let some = h.1 in
-      (record { word = word_at cell at; op = Load }, (let low : h.0 % capacity < capacity = omega arith in omega arith), refl)
+  index_finds_word capacity peeks.LoadsRead fits peek_stage = (record { word = 1; op = Load }, omega arith, refl)
+  index_finds_word capacity (peeks.LoadsWrite read) fits peek_stage = (record { word = 0; op = Load }, omega arith, refl)
+  index_finds_word capacity (peeks.LoadsCell cell at) fits peek_stage =
+      let tests_apart : (capacity == 0) ≡ false = (let some = peek_stage.1 in grind (arith, nat_tests)) in
+      let place : cell_word capacity 1 peek_stage.0 ≡ 4 + 1 * (peek_stage.0 % capacity) = rw tests_apart refl in
+      let is = peek_stage.2 in
+      let none = peek_stage.3 in
+      let some = peek_stage.1 in
+      (record { word = word_at cell at; op = Load }, (let low : peek_stage.0 % capacity < capacity = omega arith in omega arith), refl)
 
   index_hears : (c : indices.Peeking) (m : OneWord) (a : Ask) (n : ℕ) (stage : PeekStage) → peek_asks stage ≡ wants.Ask a
       → (peek_takes 1 c stage (answered a.op n) ≡ peek_takes 1 c stage n)
@@ -106,7 +106,7 @@ module _ {T : Type 0} (code : Coding T) where
   pub peek_keep_all : KeepsEnds code kinds.IndexQueue (λ capacity. 4 + capacity) peek_driven
   peek_keep_all = keeps_to_end (index_queue_machines code) peek_driven peek_is_call (λ c n. refl)
 
-  -- and so it begins, on a pass that has the consumer's role
+  -- a peek begins on a pass that rests and has the consumer's role
   pub peek_first : (x : View T) → x.going ≡ None → x.other ≡ [] → 0 < x.share.part → x.capacity < 2 ^ 32
       → HasRole Consumer x.made → At code kinds.IndexQueue peeks_index x x (first_peek x.capacity) (record { 0 = 0 })
   peek_first x idle alone any small has =
@@ -155,15 +155,15 @@ module _ {T R : Type 0} (code : Coding T) (law : IsCoding code) (words_in : R �
       → PeekPlace code.size capacity stage
       → after_of code (flight_at c.capacity stage (room_in m)) n
       ≡ goes looking (peek_takes code.size c stage n) (peek_keeps with_word m stage n)
-  peek_same_after capacity c m n peeks.LoadsRead h = refl
-  peek_same_after capacity c m n (peeks.LoadsWrite read) h =
+  peek_same_after capacity c m n peeks.LoadsRead peek_place = refl
+  peek_same_after capacity c m n (peeks.LoadsWrite read) peek_place =
       by_bool (c.capacity == 0 || n == read)
       (λ t. rw t refl)
       (λ t. rw t refl)
-  peek_same_after capacity c m n (peeks.LoadsCell cell at) h =
+  peek_same_after capacity c m n (peeks.LoadsCell cell at) peek_place =
       by_bool (nat_lt (at + 1) code.size)
-      (λ t. rw t (ap (λ r. GoOn (flight_at c.capacity (peeks.LoadsCell cell (at + 1)) r)) (put_there m at n h.1.2)))
-      (λ t. rw t (ap (λ x. Done (Popped x)) (ap (read_in code) (put_there m at n h.1.2) ∙ room_read code (words_in (with_word m at n)))))
+      (λ t. rw t (ap (λ r. GoOn (flight_at c.capacity (peeks.LoadsCell cell (at + 1)) r)) (put_there m at n peek_place.1.2)))
+      (λ t. rw t (ap (λ x. Done (Popped x)) (ap (read_in code) (put_there m at n peek_place.1.2) ∙ room_read code (words_in (with_word m at n)))))
 
   module _ (capacity : ℕ) where
     abbrev PeeksNext : Peeking T R → Type 0
@@ -172,8 +172,8 @@ module _ {T R : Type 0} (code : Coding T) (law : IsCoding code) (words_in : R �
     -- a peek that goes on stands where the rule has it stand
     peek_stays : (c d : Peeking T R) (n : ℕ) (stage : PeekStage) → c.capacity ≡ capacity
         → PeekPlace code.size capacity stage → peek_takes code.size c stage n ≡ GoOn d → PeeksNext d
-    peek_stays c d n peeks.LoadsRead size h e = let same : at_peek c (peeks.LoadsWrite n) ≡ d = cc in subst PeeksNext same (size, tt)
-    peek_stays c d n (peeks.LoadsWrite read) size h e =
+    peek_stays c d n peeks.LoadsRead size peek_place e = let same : at_peek c (peeks.LoadsWrite n) ≡ d = cc in subst PeeksNext same (size, tt)
+    peek_stays c d n (peeks.LoadsWrite read) size peek_place e =
         by_bool (c.capacity == 0 || n == read)
         (λ t. let no : ◌≡◌ {A = After (Peeking T R) Bool} (Done false) (GoOn d) = rw t at e in absurd (cc))
         (λ t.
@@ -181,22 +181,22 @@ module _ {T R : Type 0} (code : Coding T) (law : IsCoding code) (words_in : R �
         let same : at_peek c (peeks.LoadsCell (cell_word c.capacity code.size read) 0) ≡ d = cc in
         let some : 0 < capacity = grind (arith, nat_tests) in
         subst PeeksNext same (size, (read, (some, ap (λ k. cell_word k code.size read) size, law.some))))
-    peek_stays c d n (peeks.LoadsCell cell at) size h e =
+    peek_stays c d n (peeks.LoadsCell cell at) size peek_place e =
         by_bool (nat_lt (at + 1) code.size)
         (λ t.
         let is : ◌≡◌ {A = After (Peeking T R) Bool} (GoOn (at_peek c (peeks.LoadsCell cell (at + 1)))) (GoOn d) = rw t at e in
         let same : at_peek c (peeks.LoadsCell cell (at + 1)) ≡ d = cc in
         let low : at + 1 < code.size = grind (arith, nat_tests) in
-        subst PeeksNext same (size, (h.0, (h.1.0, h.1.1, low))))
+        subst PeeksNext same (size, (peek_place.0, (peek_place.1.0, peek_place.1.1, low))))
         (λ t. let no : ◌≡◌ {A = After (Peeking T R) Bool} (Done true) (GoOn d) = rw t at e in absurd (cc))
 
   -- a peek asks for a word of the queue at each stage
   peek_finds_word : (capacity : ℕ) (stage : PeekStage) → PeekPlace code.size capacity stage
       → (a : Ask) × (a.word < 4 + code.size * capacity) × (peek_asks stage ≡ wants.Ask a)
-  peek_finds_word capacity peeks.LoadsRead h = (record { word = 1; op = Load }, omega arith, refl)
-  peek_finds_word capacity (peeks.LoadsWrite read) h = (record { word = 0; op = Load }, omega arith, refl)
-  peek_finds_word capacity (peeks.LoadsCell cell at) h =
-      (record { word = word_at cell at; op = Load }, cell_low code.size capacity h.0 cell at h.1, refl)
+  peek_finds_word capacity peeks.LoadsRead peek_place = (record { word = 1; op = Load }, omega arith, refl)
+  peek_finds_word capacity (peeks.LoadsWrite read) peek_place = (record { word = 0; op = Load }, omega arith, refl)
+  peek_finds_word capacity (peeks.LoadsCell cell at) peek_place =
+      (record { word = word_at cell at; op = Load }, cell_low code.size capacity peek_place.0 cell at peek_place.1, refl)
 
   peek_hears : (c : Peeking T R) (m : R) (a : Ask) (n : ℕ) (stage : PeekStage) → peek_asks stage ≡ wants.Ask a
       → (peek_takes code.size c stage (answered a.op n) ≡ peek_takes code.size c stage n)
@@ -225,7 +225,7 @@ module _ {T R : Type 0} (code : Coding T) (law : IsCoding code) (words_in : R �
   pub value_peek_keeps : KeepsEnds code kinds.Queue (λ capacity. 4 + code.size * capacity) value_peek_driven
   value_peek_keeps = keeps_to_end (queue_machines code) value_peek_driven value_peek_is_call (λ c n. refl)
 
-  -- in a room of zeros in which a value fits
+  -- a peek begins in a room of zeros in which a value fits
   pub value_peek_first : (x : View T) (m : R) → room_in m ≡ fresh_cell → x.going ≡ None → x.other ≡ []
       → 0 < x.share.part → x.capacity < 2 ^ 32 → HasRole Consumer x.made
       → At code kinds.Queue looking x x (first_peek x.capacity) m

@@ -52,7 +52,7 @@ module _ {T : Type 0} (code : Coding T) (v : ℕ) where
       → effects_of {T = T} p (PushIndex v) (push_effect (Index v) stage) None ≡ []
   quiet = grind arith
 
-  -- where it stands next
+  -- a push that goes on stands at its next stage, with the same capacity
   stays : (capacity : ℕ) (c d : Push ℕ) (n : ℕ) (stage : pushes.PushStage) → c.capacity ≡ capacity
       → PushStage capacity stage → push_takes 1 c stage n ≡ GoOn d
       → (d.capacity ≡ capacity) × PushStage capacity d.stage × ((k : ℕ) → push_skips d.stage k ≡ false)
@@ -61,16 +61,16 @@ module _ {T : Type 0} (code : Coding T) (v : ℕ) where
   -- a push asks for a word of the queue at each stage
   asks : (capacity : ℕ) (stage : pushes.PushStage) → capacity < 2 ^ 32 → PushStage capacity stage
       → (a : Ask) × (a.word < 4 + capacity) × (push_asks words_of_index stage v ≡ wants.Ask a)
-  asks capacity pushes.TheVariants.LoadsWrite fits h = (record { word = 0; op = Load }, omega arith, refl)
-  asks capacity (pushes.TheVariants.LoadsRead write) fits h = (record { word = 1; op = Load }, omega arith, refl)
-  asks capacity (pushes.TheVariants.StoresCell write cell at) fits h =
-      let t : (capacity == 0) ≡ false = (let some = h.0 in grind (arith, nat_tests)) in
-      let place : cell_word capacity 1 write ≡ 4 + 1 * (write % capacity) = rw t refl in
-      let is = h.1 in
-      let none = h.2 in
-      let some = h.0 in
+  asks capacity pushes.TheVariants.LoadsWrite fits push_stage = (record { word = 0; op = Load }, omega arith, refl)
+  asks capacity (pushes.TheVariants.LoadsRead write) fits push_stage = (record { word = 1; op = Load }, omega arith, refl)
+  asks capacity (pushes.TheVariants.StoresCell write cell at) fits push_stage =
+      let tests_apart : (capacity == 0) ≡ false = (let some = push_stage.0 in grind (arith, nat_tests)) in
+      let place : cell_word capacity 1 write ≡ 4 + 1 * (write % capacity) = rw tests_apart refl in
+      let is = push_stage.1 in
+      let none = push_stage.2 in
+      let some = push_stage.0 in
       (record { word = word_at cell at; op = Store _ }, (let low : write % capacity < capacity = omega arith in omega arith), refl)
-  asks capacity (pushes.TheVariants.StoresWrite write) fits h = (record { word = 0; op = Store (after_position write) }, omega arith, refl)
+  asks capacity (pushes.TheVariants.StoresWrite write) fits push_stage = (record { word = 0; op = Store (after_position write) }, omega arith, refl)
 
   hears : (c : Push ℕ) (a : Ask) (n : ℕ) (stage : pushes.PushStage) → push_asks words_of_index stage v ≡ wants.Ask a
       → push_takes 1 c stage (answered a.op n) ≡ push_takes 1 c stage n
@@ -131,16 +131,16 @@ module _ {T : Type 0} (code : Coding T) where
   -- a pop asks for a word of the queue at each stage
   pop_finds_word : (capacity : ℕ) (stage : pops.PopStage) → capacity < 2 ^ 32 → PopStage capacity stage
       → (a : Ask) × (a.word < 4 + capacity) × (pop_asks stage ≡ wants.Ask a)
-  pop_finds_word capacity pops.TheVariants.LoadsRead fits h = (record { word = 1; op = Load }, omega arith, refl)
-  pop_finds_word capacity (pops.TheVariants.LoadsWrite read) fits h = (record { word = 0; op = Load }, omega arith, refl)
-  pop_finds_word capacity (pops.TheVariants.LoadsCell read cell at) fits h =
-      let t : (capacity == 0) ≡ false = (let some = h.0 in grind (arith, nat_tests)) in
-      let place : cell_word capacity 1 read ≡ 4 + 1 * (read % capacity) = rw t refl in
-      let is = h.1 in
-      let none = h.2 in
-      let some = h.0 in
+  pop_finds_word capacity pops.TheVariants.LoadsRead fits pop_stage = (record { word = 1; op = Load }, omega arith, refl)
+  pop_finds_word capacity (pops.TheVariants.LoadsWrite read) fits pop_stage = (record { word = 0; op = Load }, omega arith, refl)
+  pop_finds_word capacity (pops.TheVariants.LoadsCell read cell at) fits pop_stage =
+      let tests_apart : (capacity == 0) ≡ false = (let some = pop_stage.0 in grind (arith, nat_tests)) in
+      let place : cell_word capacity 1 read ≡ 4 + 1 * (read % capacity) = rw tests_apart refl in
+      let is = pop_stage.1 in
+      let none = pop_stage.2 in
+      let some = pop_stage.0 in
       (record { word = word_at cell at; op = Load }, (let low : read % capacity < capacity = omega arith in omega arith), refl)
-  pop_finds_word capacity (pops.TheVariants.StoresRead read) fits h = (record { word = 1; op = Store (after_position read) }, omega arith, refl)
+  pop_finds_word capacity (pops.TheVariants.StoresRead read) fits pop_stage = (record { word = 1; op = Store (after_position read) }, omega arith, refl)
 
   pop_hears : (c : Taking) (m : OneWord) (a : Ask) (n : ℕ) (stage : pops.PopStage) → pop_asks stage ≡ wants.Ask a
       → (pop_takes 1 c stage (answered a.op n) ≡ pop_takes 1 c stage n)

@@ -8,17 +8,18 @@ use Rattle.history.proofs.Reached.{queue_run}
 
 module _ {T : Type 0} (code : Coding T) (capacity : ℕ) where
   as_its_list : (kd : QueueKind) (t : Trace T) → IsLinearized (machine_kind kd) t → IsLinearizable (as_list kd t.world.capacity) t.events
-  as_its_list IndexQueue t h = h
-  as_its_list Overflow t h = h
-  as_its_list Queue t h = h
+  as_its_list IndexQueue t linearized = linearized
+  as_its_list Overflow t linearized = linearized
+  as_its_list Queue t linearized = linearized
 
   -- every history of a queue is linearizable as its list
   pub queue_linearizable : (kd : QueueKind) (events : List (Event T))
       → IsHistory code (machine_kind kd) capacity events → IsLinearizable (as_list kd capacity) events
-  queue_linearizable kd events h =
-      let t = h.trace in
-      let r = h.run in
-      let on = queue_run code capacity kd t r in
+  queue_linearizable kd events history =
+      let t = history.trace in
+      let r = history.run in
+      let run_here = queue_run code capacity kd t r in
       let all : IsLinearized (machine_kind kd) t = subst (λ k. IsLinearized k t) r.of_kind
-      (run_linearizable t (kept_on kd t r.of_kind on.reached.coded on.reached.admitted on.fresh)) in
-      subst (λ es. IsLinearizable (as_list kd capacity) es) (sym h.is) (subst (λ n. IsLinearizable (as_list kd n) t.events) r.sized (as_its_list kd t all))
+      (run_linearizable t (kept_on kd t r.of_kind run_here.reached.coded run_here.reached.admitted run_here.fresh)) in
+      subst (λ es. IsLinearizable (as_list kd capacity) es) (sym history.is)
+      (subst (λ n. IsLinearizable (as_list kd n) t.events) r.sized (as_its_list kd t all))

@@ -109,7 +109,7 @@ module _ {T : Type 0} (code : Coding T) (role : Role) where
       free Producer roles p is = holds_it roles.producer p is
       free Consumer roles p is = holds_it roles.consumer p is
 
-  -- whether it is held
+  -- the call that tells whether the role is held, as the driver runs it
   abbrev pub look_driven : Driven T LookRole (Unit {0}) Bool
   look_driven = record { want = look_want; after = look_after; kept = λ c m n. m; call = looks_role role }
 
@@ -179,7 +179,7 @@ module _ {T : Type 0} (code : Coding T) (which : LengthOf) (size : ℕ) where
       none_lacks measures.IsEmpty roles p = refl
       none_lacks measures.IsFull roles p = refl
 
--- for any capacity
+-- the calls on lengths keep the rule, for any capacity
 pub lens_keep : {T : Type 0} (code : Coding T) (which : LengthOf)
     → KeepsRule (λ (z : View T). z.asked) (λ (z : View T). z.capacity)
     (λ (base : View T). At code kinds.IndexQueue (counts_waiting which base.capacity) base)

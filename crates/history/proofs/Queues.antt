@@ -83,13 +83,13 @@ module _ {T : Type 0} (code : Coding T) (capacity : ℕ) (kd : QueueKind) where
   -- its words
   pub sized_so : (t : Trace T) → IsOf t → length t.world.words ≡ 4 + words_of_cell code.size kd * cells_of kd capacity
   sized_so t run =
-      let s = sound_of t run in
-      let cells : length s.state.core.cells ≡ words_of_cell code.size kd * cells_of kd capacity =
-      s.holds.good.cells
+      let is_sound = sound_of t run in
+      let cells : length is_sound.state.core.cells ≡ words_of_cell code.size kd * cells_of kd capacity =
+      is_sound.holds.good.cells
       ∙ (ap (λ c. (encoded t.world.coding kd).size * cells_of kd c) run.sized
       ∙ (ap (λ (z : Coding T). (encoded z kd).size * cells_of kd capacity) run.coded ∙ cell_sizes kd code)) in
-      let four : length (layout s.state.roles s.state.core) ≡ 4 + length s.state.core.cells = omega arith in
-      ap length s.fit.words ∙ (four ∙ ap (λ n. 4 + n) cells)
+      let four : length (layout is_sound.state.roles is_sound.state.core) ≡ 4 + length is_sound.state.core.cells = omega arith in
+      ap length is_sound.fit.words ∙ (four ∙ ap (λ n. 4 + n) cells)
 
 -- ---- what a bounded queue owes, of indices or of values
 
@@ -125,14 +125,14 @@ module _ {T : Type 0} (code : Coding T) (capacity : ℕ) (r : Ring) where
       → call_in t.world p ≡ Some (start, flight)
       → CallGoesOn code (machine_kind (kind_of r)) capacity ring_words (queue_effects code) t p flight
   goes_on t run p start flight at =
-      let s = sound_of code capacity (kind_of r) t run in
+      let is_sound = sound_of code capacity (kind_of r) t run in
       let here = stands t.world p start flight at in
-      let there = stands_there (family t.world.coding (kind_of r) t.world.capacity) t s p here.x here.since flight here.found here.doing in
+      let there = stands_there (family t.world.coding (kind_of r) t.world.capacity) t is_sound p here.x here.since flight here.found here.doing in
       let waits = beside_of t.world.words t.world.kept t.world.latest p in
       let fact = λ (x : Party T) (n : ℕ) (found : party_of p t.world.latest ≡ Some x).
       (let same : here.x ≡ x = (let both : Some here.x ≡ Some x = sym here.found ∙ found in cc) in
       subst (λ (st : Start T). Facts t.world.coding t.world.words waits p n st flight t.world.kept) (ap (λ (y : Party T). y.start) same)
-      (facts t.world.coding t.world.words waits t.world.capacity p n s.state here.x.start flight t.world.kept s.fit.kept there.at))
+      (facts t.world.coding t.world.words waits t.world.capacity p n is_sound.state here.x.start flight t.world.kept is_sound.fit.kept there.at))
       in
       record {
         may = (fact here.x 0 here.found).may;
@@ -147,12 +147,12 @@ module _ {T : Type 0} (code : Coding T) (capacity : ℕ) (r : Ring) where
     size = size;
     goes_on = goes_on;
     alone = alone r;
-    stateless = λ t run. (let s = sound_of code capacity (kind_of r) t run in subst IsStateless (sym s.fit.kept) tt);
+    stateless = λ t run. (let is_sound = sound_of code capacity (kind_of r) t run in subst IsStateless (sym is_sound.fit.kept) tt);
   }
     where
       alone : (q : Ring) (going : Option (Start T × Flight T)) (late : List (Event T)) → IsLate (machine_kind (kind_of q)) going late → late ≡ []
-      alone of_indices going late h = h
-      alone of_values going late h = h
+      alone of_indices going late is_late = is_late
+      alone of_values going late is_late = is_late
 
 module _ {T : Type 0} (code : Coding T) (capacity : ℕ) where
   pub index_owes : KindLaws code kinds.IndexQueue capacity (4 + capacity) (queue_effects code)
@@ -169,8 +169,9 @@ module _ {T : Type 0} (code : Coding T) (kd : QueueKind) (base : View T) where
   IsOn t = IsRun code (machine_kind kd) base.capacity t
 
   pub queue_goes_on : (t : Trace T) → IsOn t → IsQueue kd t
-  queue_goes_on t r = (let on = queue_run code base.capacity kd t r in
-      (subst (λ P. IsKeptBy P t) (promised_by kd t r.of_kind) (kept_on kd t r.of_kind on.reached.coded on.reached.admitted on.fresh)).promised)
+  queue_goes_on t is_on = (let run_here = queue_run code base.capacity kd t is_on in
+      (subst (λ P. IsKeptBy P t) (promised_by kd t is_on.of_kind)
+      (kept_on kd t is_on.of_kind run_here.reached.coded run_here.reached.admitted run_here.fresh)).promised)
 
   promise_is : (q : QueueKind) → promise_of {T = T} (machine_kind q) ≡ promise q
   promise_is IndexQueue = refl
@@ -180,15 +181,15 @@ module _ {T : Type 0} (code : Coding T) (kd : QueueKind) (base : View T) where
   -- how many steps its calls take
   pub queue_pays : Pays code (machine_kind kd) base.capacity
   queue_pays t r =
-      (let on = queue_run code base.capacity kd t r in
-      let s = sound_of code base.capacity kd t r in
+      (let run_here = queue_run code base.capacity kd t r in
+      let is_sound = sound_of code base.capacity kd t r in
       let F = family t.world.coding kd t.world.capacity in
-      pays_run code (machine_kind kd) base.capacity t r F (promise_is kd) s
-      (progress_kept code (machine_kind kd) base.capacity t r F (promise_is kd) s
-      (kept_on kd t r.of_kind on.reached.coded on.reached.admitted on.fresh)))
+      pays_run code (machine_kind kd) base.capacity t r F (promise_is kd) is_sound
+      (progress_kept code (machine_kind kd) base.capacity t r F (promise_is kd) is_sound
+      (kept_on kd t r.of_kind run_here.reached.coded run_here.reached.admitted run_here.fresh)))
 
   kept_there : (t : Trace T) → IsOn t → (roles : Roles) × (t.world.kept ≡ registries.Queues roles)
-  kept_there t r = let s = sound_of code base.capacity kd t r in (s.state.roles, s.fit.kept)
+  kept_there t is_on = let is_sound = sound_of code base.capacity kd t is_on in (is_sound.state.roles, is_sound.fit.kept)
 
   abbrev AllOf : Trace T → (ℕ → ℕ) → ℕ → Type 0
   AllOf t owner j = (f : Event T → ℕ) → sum_by f base.made ≡ sum_by (owned owner j f) t.events
@@ -251,10 +252,10 @@ module _ {T : Type 0} (code : Coding T) (kd : QueueKind) (base : View T) where
     role_starts role by_any free has t owner j run self party sums =
         let queue = queue_goes_on t run in
         let kept = kept_there t run in
-        let by = role_by owner j role t.events base.made queue.roles sums has in
+        let by_this_party = role_by owner j role t.events base.made queue.roles sums has in
         let keeps : KeepsHolders (registries.Queues kept.0) t.events = subst (λ k. KeepsHolders k t.events) kept.1 queue.holders in
-        as_party call start c m named first_is t owner j by.0 run by.1 (by_any base.party by.0) kept.0 kept.1
-        (free kept.0 by.0 (held_there role kept.0 t.events keeps ∙ by.2))
+        as_party call start c m named first_is t owner j by_this_party.0 run by_this_party.1 (by_any base.party by_this_party.0) kept.0 kept.1
+        (free kept.0 by_this_party.0 (held_there role kept.0 t.events keeps ∙ by_this_party.2))
 
 abbrev pub index_queue_machines : {T : Type 0} → Coding T → LoneMachines T
 index_queue_machines code =

@@ -15,13 +15,11 @@ module _ {T A : Type 0} (hit : Event T → List A) where
   same_place [] (c ∷ b2) a1 a2 e1 e2 x1 x2 h1 h2 same ranks =
       let first : e1 ≡ c = cc in
       let one : length (hit c) ≡ 1 = ap length (sym (ap hit first) ∙ h1) in
-      let long = length-append (hit c) (hits b2) in
-      absurd (omega arith)
+      absurd (omega (arith, length-append (hit c) (hits b2)))
   same_place (c ∷ b1) [] a1 a2 e1 e2 x1 x2 h1 h2 same ranks =
       let first : e2 ≡ c = cc in
       let one : length (hit c) ≡ 1 = ap length (sym (ap hit first) ∙ h2) in
-      let long = length-append (hit c) (hits b1) in
-      absurd (omega arith)
+      absurd (omega (arith, length-append (hit c) (hits b1)))
   same_place (c ∷ b1) (d ∷ b2) a1 a2 e1 e2 x1 x2 h1 h2 same ranks =
       let first : c ≡ d = cc in
       let rest : b1 ++ e1 ∷ a1 ≡ b2 ++ e2 ∷ a2 = cc in
@@ -39,10 +37,7 @@ module _ {T A : Type 0} (hit : Event T → List A) where
   pub before_low : (events before after : List (Event T)) (e : Event T) → events ≡ before ++ e ∷ after
       → length (hits before) + length (hit e) ≤ length (hits events)
   before_low events before after e is =
-      let all = ap length (hits_split events before after e is) in
-      let long = length-append (hits before) (hit e ++ hits after) in
-      let more = length-append (hit e) (hits after) in
-      omega arith
+      omega (arith, ap length (hits_split events before after e is), length-append (hits before) (hit e ++ hits after), length-append (hit e) (hits after))
 
   -- a rank is below how much all events tell
   pub rank_low : (events before after : List (Event T)) (e : Event T) (x : A) → hit e ≡ x ∷ []

@@ -21,7 +21,7 @@ MayDecide kind = ⊥
 module _ {T : Type 0} where
   -- ---- one turn more
 
-  -- of its rows are those of a begin in a history
+  -- a begin that no row of the machine refuses is refused by none in a history
   pub rows_free : (kind : Kind) (capacity : ℕ) (kept : Registry T) (p : ℕ) (start : Start T) → first_row (begin_rows kind capacity kept p start) ≡ None
       → first_row (rows_as kind capacity kept p start) ≡ None
   rows_free = grind arith
@@ -32,16 +32,16 @@ module _ {T : Type 0} where
   next_as kinds.Container w p e = e
   next_as kind w p e = e
 
-  -- where threads answer its questions no answer is refused
+  -- no answer is refused where threads answer the questions
   pub decide_as : (kind : Kind) → MayDecide kind → (w : World T) (p : ℕ) (said : Bool) (flight : Flight T) → flight_in w p ≡ Some flight
       → is_question (want_of w.coding flight) ≡ true → refusal_as kind w (Decide p said) ≡ None
   decide_as = grind arith
 
   pub reached_as_more : (kind : Kind) (t : Trace T) (turn : Turn T) → refusal_as kind t.world turn ≡ None → IsReachedAs kind t
       → IsReachedAs kind (after_turn t turn)
-  reached_as_more kinds.Robust t turn e r = reached_open_more t turn e r
-  reached_as_more kinds.Container t turn e r = reached_open_more t turn e r
-  reached_as_more kind t turn e r = reached_on_more t turn e r
+  reached_as_more kinds.Robust t turn e reached_as = reached_open_more t turn e reached_as
+  reached_as_more kinds.Container t turn e reached_as = reached_open_more t turn e reached_as
+  reached_as_more kind t turn e reached_as = reached_on_more t turn e reached_as
 
   pub fresh_as_more : (kind : Kind) (t : Trace T) (turn : Turn T) → refusal_as kind t.world turn ≡ None → IsFreshTurn t turn → IsFreshAs kind t
       → IsFreshAs kind (after_turn t turn)
@@ -66,6 +66,6 @@ module _ {T : Type 0} where
     pub reached : IsReachedOn t
     pub fresh : IsFreshRun t
 
--- so it is of a queue of any kind
+-- a run of a queue of any kind is a run as its machine's own laws have it
 pub queue_run : {T : Type 0} (code : Coding T) (capacity : ℕ) (kd : QueueKind) (t : Trace T) → IsRun code (machine_kind kd) capacity t → IsRunOn t
 queue_run = grind arith

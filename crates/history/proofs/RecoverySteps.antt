@@ -82,7 +82,7 @@ module _ {T R : Type 0} (code : Coding T) (some : 0 < code.size) (words_in : R �
   abbrev of_one : ℕ → Came T → List (Event T)
   of_one index came = wrote_of p given.owner index came
 
-  -- with this value in its room
+  -- a recovery stands so after a step, with this value in its room
   abbrev pub RecoverGoes : T → Visits → List (Event T) → After (Recovering T R) ReleaseState → Type 0
   RecoverGoes now visits es (GoOn d) =
       (recovers_values code words_in given).stands capacity d
@@ -92,7 +92,7 @@ module _ {T R : Type 0} (code : Coding T) (some : 0 < code.size) (words_in : R �
   -- a step that writes nothing
   quiet : (now : T) (visits : Visits) (es : List (Event T)) (r : After (Recovering T R) ReleaseState) → RecoverGoes now visits es r
       → RecoverGoes now visits (es ++ []) r
-  quiet now visits es r h = grind (arith, append-nil)
+  quiet now visits es r recover_goes = grind (arith, append-nil)
 
   bare : (es : List (Event T)) (visits : Visits) → es ≡ written visits ++ [] → es ≡ written visits
   bare es visits w = w ∙ append-nil (written visits)
@@ -120,10 +120,10 @@ module _ {T R : Type 0} (code : Coding T) (some : 0 < code.size) (words_in : R �
 
   -- a yes is told with the next step
   told_even : (index count : ℕ) → is_even count ≡ true → told_yet {T = T} p given.owner (recovers.EmptiesCell index count) ≡ []
-  told_even index count e = rw e refl
+  told_even index count even = rw even refl
 
   told_odd : (index count : ℕ) → is_even count ≡ false → told_yet {T = T} p given.owner (recovers.EmptiesCell index count) ≡ Told p index given.owner ∷ []
-  told_odd index count e = rw e refl
+  told_odd index count odd = rw odd refl
 
   told_then : (index count : ℕ) (came : Came T) → IsToFree count came
       → of_one index came ++ told_yet p given.owner (recovers.EmptiesCell index count) ≡ of_one index (told came)

@@ -53,8 +53,8 @@ module _ {T : Type 0} (p owner : ℕ) where
       (inside_both (Asked p index owner ∷ []) (Told p index owner ∷ []) (λ start ws. refl) (λ start ws. refl))
 
   inside_when : (did : Bool) (e : Event T) → IsInside (e ∷ []) → IsInside (when did e)
-  inside_when true e h = h
-  inside_when false e h = inside_none
+  inside_when true e inside = inside
+  inside_when false e inside = inside_none
 
   -- what is written of a visit lies within the call
   inside_of : (index : ℕ) (came : Came T) → IsInside (wrote_of p owner index came)
@@ -72,7 +72,7 @@ module _ {T : Type 0} (p owner : ℕ) where
   inside_visits (visit ∷ before) =
       inside_both (wrote_visits p owner before) (wrote_of p owner visit.0 visit.1) (inside_visits before) (inside_of visit.0 visit.1)
 
-  -- so does what is written of a visit that is under way
+  -- what is written of a visit that is under way lies within the call
   pub inside_yet : (stage : RecoverStage) → IsInside (told_yet p owner stage)
   inside_yet recovers.LoadsCounter = inside_none
   inside_yet (recovers.LoadsCell index) = inside_none

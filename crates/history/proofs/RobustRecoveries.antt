@@ -88,29 +88,28 @@ module _ {T : Type 0} (capacity : ℕ) (c : Recovering) (same : c.capacity ≡ c
 
   raised : (index : ℕ) → index < capacity → (m : ReleaseMode) → mode ≡ m → (owner : ℕ) (es : List (Event T)) (visits : List Visit)
       → HasCome mode index HasFreed owner visits → es ≡ wrote_by p visits → (r : After Raise ReleaseState) → RecoverGoes es visits (recover_raised c index m r)
-  raised index low m may owner es visits h is r = go m may r
+  raised index low m may owner es visits come is r = go m may r
     where
       past : AreVisits mode (index + 1) visits
-      past = came_past mode index owner HasFreed visits tt h
+      past = came_past mode index owner HasFreed visits tt come
 
       still : es ≡ wrote_by p visits ++ []
       still = between es (wrote_by p visits) is
 
-      -- after a raise the recovery goes on behind the index, raises on, or ends, and has written
-      -- what it did
+      -- after a raise the recovery goes on behind the index, raises on, or ends, and has written what it did
       go : (m : ReleaseMode) → mode ≡ m → (r : After Raise ReleaseState) → RecoverGoes es visits (recover_raised c index m r)
-      go LockIfLastIndex may (GoOn raise) = ((same, low), (owner, h), still)
-      go Default may (GoOn raise) = ((same, low), (owner, h), still)
+      go LockIfLastIndex may (GoOn raise) = ((same, low), (owner, come), still)
+      go Default may (GoOn raise) = ((same, low), (owner, come), still)
       go LockIfLastIndex may (Done states.Locked) = (wider mode (index + 1) capacity visits (omega arith) past, is)
       go Default may (Done states.Locked) = (wider mode (index + 1) capacity visits (omega arith) past, is)
-      go LockIfLastIndex may (Done states.Unlocked) = ((same, (may, low, tt)), (owner, h), still)
+      go LockIfLastIndex may (Done states.Unlocked) = ((same, (may, low, tt)), (owner, come), still)
       go Default may (Done states.Unlocked) = next_to index low es visits past is
 
   counted : (index : ℕ) → index < capacity → mode ≡ LockIfLastIndex → (owner : ℕ) (es : List (Event T)) (visits : List Visit)
       → HasCome mode index HasFreed owner visits → es ≡ wrote_by p visits → (r : After Lock ReleaseState) → LockOn capacity r
       → RecoverGoes es visits (recover_locked c index r)
-  counted index low may owner es visits h is (GoOn lock) on = grind (arith, between)
-  counted index low may owner es visits h is (Done state) on = next_to index low es visits (came_past mode index owner HasFreed visits tt h) is
+  counted index low may owner es visits come is (GoOn lock) on = grind (arith, between)
+  counted index low may owner es visits come is (Done state) on = next_to index low es visits (came_past mode index owner HasFreed visits tt come) is
 
   -- what a recovery has written after a step, where it goes on or ends
   recovers_so : (stage : RecoverStage) (k : ℕ) (es : List (Event T)) (visits : List Visit) → RecoverIn capacity mode stage
@@ -122,8 +121,7 @@ module _ {T : Type 0} (capacity : ℕ) (c : Recovering) (same : c.capacity ≡ c
       wrote : es ≡ wrote_by p visits
       wrote = all_of es (wrote_by p visits) is
 
-      -- at a cell it goes on to the next one where the cell has no owner, and else to the question
-      -- about him
+      -- at a cell it goes on to the next one where the cell has no owner, and else to the question about him
       go : (b : Bool) → (k == empty) ≡ b → RecoverGoes (es ++ recover_effects p (recovers.LoadsCell index) k) visits
           (recover_takes c (recovers.LoadsCell index) mode k)
       go = grind (arith, next_to, wider, quiet, wrote)
@@ -153,8 +151,7 @@ module _ {T : Type 0} (capacity : ℕ) (c : Recovering) (same : c.capacity ≡ c
       left : es ≡ wrote_by p (came_to WasTold visits)
       left = is ∙ wrote_on p mode index owner HasAsked WasTold visits (wrote_by p visits) (told ∷ []) refl at refl
 
-      -- where it empties a cell, it has freed the index, or found another owner, and has written
-      -- which
+      -- where it empties a cell, it has freed the index, or found another owner, and has written which
       go : (b : Bool) → (k == owner) ≡ b → RecoverGoes (es ++ recover_effects p (recovers.EmptiesCell index owner) k)
           (visits_taken (recovers.EmptiesCell index owner) visits k) (recover_takes c (recovers.EmptiesCell index owner) mode k)
       go true e = rw e (
@@ -220,7 +217,7 @@ module _ {T : Type 0} (code : Coding T) (mode : ReleaseMode) where
   stands_so capacity c d n h e =
       (let some = some_visits capacity c.stage in (goes_so capacity 0 c n (wrote_by 0 some.0 ++ wrote_now 0 c.stage) some.0 (GoOn d) h some.1 refl e).0)
 
-  -- which recovery a flight is
+  -- this is the recovery that a flight is
   abbrev recovery_of : Recovering → Flight T → Recovering
   recovery_of c (flights.Robust (calls.Recover run)) = run.call
   recovery_of c flight = c
@@ -300,11 +297,14 @@ module _ {T : Type 0} (code : Coding T) (mode : ReleaseMode) where
   -- a view has one list of visits of a recovery under way in it
   under_same : (base other v : View T) (c : Recovering) (m k : List Visit) → base.going ≡ None → other.going ≡ None
       → IsUnderWay code kinds.Robust (recovers_owned mode) base v c m → IsUnderWay code kinds.Robust (recovers_owned mode) other v c k → m ≡ k
-  under_same base other v c m k idle too a b =
-      let both : ◌≡◌ {A = Option ℕ} (Some a.party) (Some b.party) = sym a.mine ∙ b.mine in
-      let by : a.party ≡ b.party = cc in
-      same_visits a.party b.party base.capacity other.capacity mode (Robust (Recover mode)) c.stage v.made base.made other.made m k by
-      (a.tells idle).0 (b.tells too).0 (sym a.capacity ∙ b.capacity) (made_there base v c m idle a) (made_there other v c k too b)
+  under_same base other v c m k idle too first_under_way second_under_way =
+      let both : ◌≡◌ {A = Option ℕ} (Some first_under_way.party) (Some second_under_way.party) = sym first_under_way.mine ∙ second_under_way.mine in
+      let by : first_under_way.party ≡ second_under_way.party = cc in
+      same_visits first_under_way.party second_under_way.party base.capacity other.capacity mode
+      (Robust (Recover mode)) c.stage v.made base.made other.made m k by
+      (first_under_way.tells idle).0 (second_under_way.tells too).0
+      (sym first_under_way.capacity ∙ second_under_way.capacity) (made_there base v c m idle first_under_way)
+      (made_there other v c k too second_under_way)
 
   none_first : (base v : View T) (c : Recovering) (m : List Visit) → IsFirst code kinds.Robust (recovers_owned mode) base v c m → m ≡ []
   none_first base v c m first =
@@ -363,16 +363,21 @@ module _ {T : Type 0} (code : Coding T) (mode : ReleaseMode) where
     where
       -- what a step tells of one list of visits it tells of each
       all : (n : ℕ) (w : View T) → ToldSo c m v n w → Tells c v n w
-      all n w h = (
-        h.0,
+      all n w told_so = (
+        told_so.0,
         λ other visits too there. (
             let same = same_there base other v c m visits idle too at there in
             subst (λ vs. NextKnown (λ (z : View T). z.capacity) At Ended other (after c n) (visits_after c vs n) w) same
-            (h.1 other (subst (At other v c) (sym same) there))),
+            (told_so.1 other (subst (At other v c) (sym same) there))),
       )
 
+      -- whatever the recovery wants next, what it is told as `ToldSo` says it is told as `Tells` says
       go : (w : Want (Unit {0})) → Owes (λ (z : View T). z.asked) (IsMachine code kinds.Robust key) words slots id (ToldSo c m) w (v, [])
           → Owes (λ (z : View T). z.asked) (IsMachine code kinds.Robust key) words slots id (Tells c) w (v, [])
-      go (wants.Ask a) h = (h.0, λ s r long there small. (let x = h.1 s r long there small in (x.0, x.1, x.2, x.3, (all _ x.0 x.4.0, x.4.1, x.4.2))))
-      go (wants.Question q) h = all 0 v h
-      go wants.Nothing h = all 0 v h
+      go (wants.Ask a) owes = (
+        owes.0,
+        λ s r long there small. (let told_there = owes.1 s r long there small in
+            (told_there.0, told_there.1, told_there.2, told_there.3, (all _ told_there.0 told_there.4.0, told_there.4.1, told_there.4.2))),
+      )
+      go (wants.Question q) owes = all 0 v owes
+      go wants.Nothing owes = all 0 v owes

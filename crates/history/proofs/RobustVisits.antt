@@ -43,16 +43,16 @@ module _ (mode : ReleaseMode) where
   -- one visit more, of the next index
   pub one_more : (index owner : ℕ) (came : Came) (visits : List Visit) → MayCome mode came → AreVisits mode index visits
       → AreVisits mode (index + 1) (visits ++ visit index owner came ∷ [])
-  one_more index owner came visits may h = (
-    all_pairs_push (λ (x y : Visit). x.index < y.index) visits (visit index owner came) h.0
-        (All-weaker (λ (v : Visit). (v.index < index) × MayCome mode v.came) (λ (v : Visit). v.index < index) (λ v at. at.0) visits h.1),
+  one_more index owner came visits may are_visits = (
+    all_pairs_push (λ (x y : Visit). x.index < y.index) visits (visit index owner came) are_visits.0
+        (All-weaker (λ (v : Visit). (v.index < index) × MayCome mode v.came) (λ (v : Visit). v.index < index) (λ v at. at.0) visits are_visits.1),
     All-push (λ (v : Visit). (v.index < index + 1) × MayCome mode v.came) visits (visit index owner came)
-        (wider index (index + 1) visits (omega arith) h).1 (omega arith, may),
+        (wider index (index + 1) visits (omega arith) are_visits).1 (omega arith, may),
   )
 
   pub came_past : (index owner : ℕ) (came : Came) (visits : List Visit) → MayCome mode came → HasCome mode index came owner visits
       → AreVisits mode (index + 1) visits
-  came_past index owner came visits may h = subst (AreVisits mode (index + 1)) (sym h.is) (one_more index owner came h.before may h.passed)
+  came_past index owner came visits may come = subst (AreVisits mode (index + 1)) (sym come.is) (one_more index owner came come.before may come.passed)
 
   -- it comes further with the last one
   abbrev pub comes_on : (index owner : ℕ) (came next : Came) (visits : List Visit) → HasCome mode index came owner visits
@@ -73,11 +73,11 @@ module _ {T : Type 0} (p : ℕ) where
   pub wrote_on : (mode : ReleaseMode) (index owner : ℕ) (came next : Came) (visits : List Visit) (es more : List (Event T))
       → wrote_to p index owner came ++ more ≡ wrote_to p index owner next → HasCome mode index came owner visits
       → es ≡ wrote visits → es ++ more ≡ wrote (came_to next visits)
-  wrote_on mode index owner came next visits es more longer h is =
-      ap (λ zs. zs ++ more) (is ∙ (ap wrote h.is ∙ wrote_last h.before (visit index owner came)))
-      ∙ (append_assoc (wrote h.before) (wrote_to p index owner came) more
-      ∙ (ap (λ zs. wrote h.before ++ zs) longer
-      ∙ (sym (wrote_last h.before (visit index owner next)) ∙ ap wrote (sym (comes_on mode index owner came next visits h).is))))
+  wrote_on mode index owner came next visits es more longer come is =
+      ap (λ zs. zs ++ more) (is ∙ (ap wrote come.is ∙ wrote_last come.before (visit index owner came)))
+      ∙ (append_assoc (wrote come.before) (wrote_to p index owner came) more
+      ∙ (ap (λ zs. wrote come.before ++ zs) longer
+      ∙ (sym (wrote_last come.before (visit index owner next)) ∙ ap wrote (sym (comes_on mode index owner came next visits come).is))))
 
 -- ---- it tells what they are
 

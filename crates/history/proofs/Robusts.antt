@@ -45,23 +45,23 @@ module _ {T : Type 0} (code : Coding T) (capacity : ℕ) where
   IsRobust t = IsRun code kinds.Robust capacity t
 
   robust_sound : (t : Trace T) → IsRobust t → frame.Sound (family_by Word t.world.coding t.world.capacity) t
-  robust_sound t r = reached_open_sound t r.of_kind r.reached
+  robust_sound t robust = reached_open_sound t robust.of_kind robust.reached
 
   all_live : (t : Trace T) → IsRobust t → AllLive t.events
-  all_live t r = reached_open_lives t r.of_kind r.reached
+  all_live t robust = reached_open_lives t robust.of_kind robust.reached
 
   -- what the model promises of each open run
   pub is_open_set : (t : Trace T) → IsRobust t → IsOpenSet t
-  is_open_set t r = reached_open_kept t r.of_kind r.reached
+  is_open_set t robust = reached_open_kept t robust.of_kind robust.reached
 
   pub robust_size : (t : Trace T) → IsRobust t → length t.world.words ≡ cells_and_counter capacity
-  robust_size t r = reached_open_wide t r.of_kind r.reached ∙ ap (λ n. n + 1) r.sized
+  robust_size t robust = reached_open_wide t robust.of_kind robust.reached ∙ ap (λ n. n + 1) robust.sized
 
   no_rows : (t : Trace T) → IsRobust t → (c : ℕ) (all : List SetAct) (start : Start T) (flight : Flight T) → FlightAt c all start flight
       → first_row (going_rows t.world.coding t.world.kept (Some flight) None) ≡ None
-  no_rows t r c all (Robust start) (flights.Robust flight) at = step_is_free t.world.coding t.world.capacity t (robust_sound t r)
-      (all_live t r) flight
-  no_rows t r c all start flight at = absurd at
+  no_rows t robust c all (Robust start) (flights.Robust flight) at = step_is_free t.world.coding t.world.capacity t (robust_sound t robust)
+      (all_live t robust) flight
+  no_rows t robust c all start flight at = absurd at
 
   writes_there : (z : Coding T) (words : List ℕ) (beside : Option (ℕ × ℕ)) (c p old : ℕ) (all : List SetAct) (kept : Registry T) (s : RobustSet T)
       (start : Start T) (flight : Flight T) → kept ≡ registries.Owners s.dead → FlightAt c all start flight
@@ -76,24 +76,28 @@ module _ {T : Type 0} (code : Coding T) (capacity : ℕ) where
   -- each step of a call under way leads where the set's table says
   goes_on : (t : Trace T) → IsRobust t → (p : ℕ) (start : Start T) (flight : Flight T) → call_in t.world p ≡ Some (start, flight)
       → CallGoesOn code kinds.Robust capacity (cells_and_counter capacity) robust_effects t p flight
-  goes_on t r p start flight at =
-      let w = t.world in
-      let s = robust_sound t r in
-      let here = stands w p start flight at in
-      let there = stands_there (family_by Word w.coding w.capacity) t s p here.x here.since flight here.found here.doing in
-      let done : List SetAct = set_acts_of p s.state.events in
-      let mine : FlightAt w.capacity done here.x.start flight = there.at in
+  goes_on t robust p start flight at =
+      let world_now = t.world in
+      let is_sound = robust_sound t robust in
+      let here = stands world_now p start flight at in
+      let there = stands_there (family_by Word world_now.coding world_now.capacity) t is_sound p here.x here.since flight here.found here.doing in
+      let done : List SetAct = set_acts_of p is_sound.state.events in
+      let mine : FlightAt world_now.capacity done here.x.start flight = there.at in
       record {
-        may = no_rows t r w.capacity done here.x.start flight mine;
+        may = no_rows t robust world_now.capacity done here.x.start flight mine;
         own = λ n. effects_own p flight n;
         writes = λ x n found. (
             let same : here.x ≡ x = (let both : Some here.x ≡ Some x = sym here.found ∙ found in cc) in
-            subst (λ (z : Party T). (step_in w p z flight n).wrote ≡ robust_effects p flight n) same
-            (writes_there w.coding w.words (beside_of w.words w.kept w.latest p) w.capacity p n done w.kept s.state here.x.start flight s.fit.kept mine));
+            subst (λ (z : Party T). (step_in world_now p z flight n).wrote ≡ robust_effects p flight n) same
+            (writes_there world_now.coding world_now.words
+            (beside_of world_now.words world_now.kept world_now.latest p) world_now.capacity p n done world_now.kept
+            is_sound.state here.x.start flight is_sound.fit.kept mine));
         goes = λ x n found. (
             let same : here.x ≡ x = (let both : Some here.x ≡ Some x = sym here.found ∙ found in cc) in
-            subst (λ (z : Party T). (step_in w p z flight n).after ≡ after_of w.coding flight n) same
-            (goes_there w.coding w.words (beside_of w.words w.kept w.latest p) w.capacity p n done w.kept s.state here.x.start flight s.fit.kept mine));
+            subst (λ (z : Party T). (step_in world_now p z flight n).after ≡ after_of world_now.coding flight n) same
+            (goes_there world_now.coding world_now.words
+            (beside_of world_now.words world_now.kept world_now.latest p) world_now.capacity p n done world_now.kept
+            is_sound.state here.x.start flight is_sound.fit.kept mine));
       }
 
   -- the robust index set owes what its kind has to
@@ -102,7 +106,7 @@ module _ {T : Type 0} (code : Coding T) (capacity : ℕ) where
     size = robust_size;
     goes_on = goes_on;
     alone = λ going late h. h;
-    stateless = λ t r. (let s = robust_sound t r in subst IsStateless (sym s.fit.kept) tt);
+    stateless = λ t r. (let is_sound = robust_sound t r in subst IsStateless (sym is_sound.fit.kept) tt);
   }
 
   robust_bounds : (z : Coding T) (c : ℕ) → frame.Bounds (family_by Word z c)
@@ -111,10 +115,10 @@ module _ {T : Type 0} (code : Coding T) (capacity : ℕ) where
   -- how many steps its calls take
   pub robust_pays : Pays code kinds.Robust capacity
   robust_pays t r =
-      (let s = robust_sound t r in
+      (let is_sound = robust_sound t r in
       let F = family_by Word t.world.coding t.world.capacity in
-      pays_run code kinds.Robust capacity t r F refl s
-      (progress_within code kinds.Robust capacity t r F refl s (robust_bounds t.world.coding t.world.capacity)))
+      pays_run code kinds.Robust capacity t r F refl is_sound
+      (progress_within code kinds.Robust capacity t r F refl is_sound (robust_bounds t.world.coding t.world.capacity)))
 
 -- ---- which party may begin a call
 
@@ -124,12 +128,12 @@ module _ {T : Type 0} (code : Coding T) (base : View T) where
 
   -- nobody is kept as dead
   kept_there : (t : Trace T) → IsOn t → (dead : List ℕ) × (t.world.kept ≡ registries.Owners dead) × ((owner : ℕ) → has_died owner dead ≡ false)
-  kept_there t r =
-      let s = robust_sound code base.capacity t r in (
-        s.state.dead,
-        s.fit.kept,
-        λ owner. has_not_died t.world.coding t.world.capacity t s
-            (all_live code base.capacity t r) owner,
+  kept_there t is_on =
+      let is_sound = robust_sound code base.capacity t is_on in (
+        is_sound.state.dead,
+        is_sound.fit.kept,
+        λ owner. has_not_died t.world.coding t.world.capacity t is_sound
+            (all_live code base.capacity t is_on) owner,
       )
 
   -- each call that the set has may, as the party that the pass was last

@@ -12,8 +12,8 @@ use Rattle.history.specs.Roles.{takes, gives, role_after, HasRole}
 use Rattle.history.proofs.Ledger.{Moves, held_by_one, at_most}
 
 nobody : (o : Option ℕ) → is_none o ≡ true → o ≡ None
-nobody None e = refl
-nobody (Some p) e = absurd (cc)
+nobody None none = refl
+nobody (Some p) none = absurd (cc)
 
 pub granted : {T : Type 0} (o : Option ℕ) → ◌≡◌ {A = Answer T} (Truth true) (Truth (is_none o)) → o ≡ None
 granted o e = nobody o (let b : true ≡ is_none o = cc in sym b)
@@ -36,4 +36,6 @@ module _ {T : Type 0} (owner : ℕ → ℕ) (j : ℕ) where
 -- a pass gave back what it had acquired, or has it once
 pub role_once : {T : Type 0} (role : Role) (v : View T) → Each GrantsRight v.seen → IsOfParties v
     → (sum_by (gives role) v.made ≤ sum_by (takes role) v.made) × (sum_by (takes role) v.made ≤ sum_by (gives role) v.made + 1)
-role_once role v each h = at_most (takes role) (gives role) (role_after role) h.owner h.seat v.seen v.made (all_move h.owner h.seat role v.seen each) h.sums
+role_once role v each of_parties =
+    at_most (takes role) (gives role) (role_after role) of_parties.owner of_parties.seat v.seen v.made
+    (all_move of_parties.owner of_parties.seat role v.seen each) of_parties.sums

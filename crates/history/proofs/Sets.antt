@@ -51,13 +51,14 @@ module _ {T : Type 0} (K : SetOutline T) (laws : (code : Coding T) (c : ℕ) →
   IsSet t = IsRun code K.kind capacity t
 
   sound : (t : Trace T) → IsSet t → frame.Sound (family K t.world.coding t.world.capacity) t
-  sound t r = sound_on K laws t r.of_kind (on t r.reached)
+  sound t set = sound_on K laws t set.of_kind (on t set.reached)
 
   pub bare : (t : Trace T) → IsSet t → t.world.kept ≡ (opening_of K.kind).kept capacity
-  bare t r = (sound t r).fit.kept ∙ sym ((laws code capacity).bare)
+  bare t set = (sound t set).fit.kept ∙ sym ((laws code capacity).bare)
 
   size : (t : Trace T) → IsSet t → length t.world.words ≡ words
-  size t r = let s = sound t r in ap length s.fit.words ∙ sized t.world.capacity s.state.words t.events t.world.turns r.sized s.holds.0
+  size t set = let is_sound = sound t set in
+      ap length is_sound.fit.words ∙ sized t.world.capacity is_sound.state.words t.events t.world.turns set.sized is_sound.holds.0
 
   no_rows : (t : Trace T) (At : BitsStart → BitsFlight → Type 0) (start : Start T) (flight : Flight T)
       → FlightAt At start flight → first_row (going_rows t.world.coding t.world.kept (Some flight) None) ≡ None
@@ -82,11 +83,11 @@ module _ {T : Type 0} (K : SetOutline T) (laws : (code : Coding T) (c : ℕ) →
   -- each step of a call under way leads where the set's table says
   goes_on : (t : Trace T) → IsSet t → (p : ℕ) (start : Start T) (flight : Flight T)
       → call_in t.world p ≡ Some (start, flight) → CallGoesOn code K.kind capacity words set_effects t p flight
-  goes_on t r p start flight at =
-      let s = sound t r in
+  goes_on t set p start flight at =
+      let is_sound = sound t set in
       let here = stands t.world p start flight at in
-      let there = stands_there (family K t.world.coding t.world.capacity) t s p here.x here.since flight here.found here.doing in
-      let wrote : List (Event T) = wrote_in (span_of p s.state.events) in
+      let there = stands_there (family K t.world.coding t.world.capacity) t is_sound p here.x here.since flight here.found here.doing in
+      let wrote : List (Event T) = wrote_in (span_of p is_sound.state.events) in
       let mine : FlightAt (K.At t.world.capacity wrote) here.x.start flight = there.at in
       record {
         may = no_rows t (K.At t.world.capacity wrote) here.x.start flight mine;
@@ -94,12 +95,12 @@ module _ {T : Type 0} (K : SetOutline T) (laws : (code : Coding T) (c : ℕ) →
         writes = λ x n found. (
             let same : here.x ≡ x = (let both : Some here.x ≡ Some x = sym here.found ∙ found in cc) in
             subst (λ (z : Party T). (step_in t.world p z flight n).wrote ≡ set_effects p flight n) same
-            (writes_there t p n (K.At t.world.capacity wrote) t.world.kept here.x.start flight (s.fit.kept) mine));
+            (writes_there t p n (K.At t.world.capacity wrote) t.world.kept here.x.start flight (is_sound.fit.kept) mine));
         goes = λ x n found. (
             let same : here.x ≡ x = (let both : Some here.x ≡ Some x = sym here.found ∙ found in cc) in
             let orders = sets.orders K laws t.world.coding t.world.capacity in
             subst (λ (z : Party T). (step_in t.world p z flight n).after ≡ after_of t.world.coding flight n) same
-            (orders.after t p here.x flight here.since n (sound t r) here.found here.doing
+            (orders.after t p here.x flight here.since n (sound t set) here.found here.doing
             ∙ as_told t.world.coding p n (K.At t.world.capacity wrote) t.world.kept here.x.start flight mine));
       }
 
@@ -118,16 +119,16 @@ module _ {T : Type 0} (K : SetOutline T) (laws : (code : Coding T) (c : ℕ) →
 
       paid : (p : ℕ) (events : List (Event T)) (words : List ℕ) (since changes backs : ℕ) (flight : Flight T)
           → KnowsFlight (K.Knows p events words since changes backs) flight → backs ≤ changes - since
-      paid p events words since changes backs (flights.Bits flight) h = (laws z c).paid p events words since changes backs flight h
-      paid p events words since changes backs flight h = absurd h
+      paid p events words since changes backs (flights.Bits flight) knows_flight = (laws z c).paid p events words since changes backs flight knows_flight
+      paid p events words since changes backs flight knows_flight = absurd knows_flight
 
   -- how many steps its calls take
   pub set_pays : Pays code K.kind capacity
   set_pays t r =
-      (let s = sound t r in
+      (let is_sound = sound t r in
       let F = family K t.world.coding t.world.capacity in
-      pays_run code K.kind capacity t r F (laws code capacity).promise s
-      (progress_within code K.kind capacity t r F (laws code capacity).promise s (set_bounds t.world.coding t.world.capacity)))
+      pays_run code K.kind capacity t r F (laws code capacity).promise is_sound
+      (progress_within code K.kind capacity t r F (laws code capacity).promise is_sound (set_bounds t.world.coding t.world.capacity)))
 
   -- a call that may begin on a new set may begin at any time, as the party that the pass was last
   pub set_starts : {C M E : Type 0} → (call : Calling T C M E) (base : View T) (c : C) (m : M)
@@ -168,8 +169,7 @@ module _ {T : Type 0} (code : Coding T) (capacity : ℕ) where
 -- base is what the pass knows, c where the call begins, m its room
 module _ {T C M E : Type 0} (code : Coding T) (call : Calling T C M E) (base : View T) (c : C) (m : M)
     (by : (o : Option ℕ) (p : ℕ) → IfSome o (λ q. q ≡ p) → call.by o p) where
-  -- the call may begin as a party of the pass on any machine of this kind that fits what the pass
-  -- made
+  -- the call may begin as a party of the pass on any machine of this kind that fits what the pass made
   abbrev StartsOn : Rattle.model.specs.declared.turn.Kind.Kind → Type 0
   StartsOn kind =
       (t : Trace T) (owner : ℕ → ℕ) (j : ℕ) → IsRun code kind base.capacity t → owner j ≡ j

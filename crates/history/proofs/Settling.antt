@@ -78,9 +78,8 @@ module _ {T : Type 0} (hearing : Hearing T) where
         (λ e. (let both : ◌≡◌ {A = Option ℕ} (Some h.party) (Some q) = sym h.mine ∙ e in let same : h.party ≡ q = cc in ne (sym same))))
         (λ x there f. (
         let same : sum_by f x.made ≡ sum_by f v.made = ap (λ (z : View T). sum_by f z.made) (some-injective x v (sym there ∙ at)) in
-        let all = here.made f in
-        let no : sum_by f here.late ≡ 0 = ap (sum_by f) none in
-        omega arith))
+        let none_written : sum_by f here.late ≡ 0 = ap (sum_by f) none in
+        omega (arith, here.made f)))
 
     there : call_in r.trace.world h.party ≡ Some (h.start, h.flight)
     there = here.going h.party mine h.mine ∙ h.going
@@ -290,7 +289,7 @@ module _ {T : Type 0} (hearing : Hearing T) where
           word.2 (keeps (settled rests) (settled rests) c m key words slots id ok wide known (first_then rests))
 
       below : ask.word < words
-      below = (let low = word.1 in omega arith)
+      below = omega (arith, word.1)
 
       -- the first step of the next call keeps the rule
       first_keeps : OwesAsk (λ (z : View T). z.asked) (IsMachine code kind key) words slots id (ToldRested c m) ask.word ask.op (v, [])
@@ -352,7 +351,7 @@ module _ {T : Type 0} (hearing : Hearing T) where
         (λ base v c m key words slots id ok wide known at. keeps base v c m key words slots id wide known at)
         Begins asks stays first apart base₀ v c m key words slots id tt wide known at₀
 
-  -- of one whose begin hangs on the capacity
+  -- a call whose begin hangs on the capacity keeps the rule after one that rests
   module _ {C M E : Type 0} (want : C → Want (Unit {0})) (after : C → ℕ → After C E) (kept : C → M → ℕ → M)
       (Stage : View T → View T → C → M → Type 0) (Over : View T → E → M → View T → Type 0)
       (keeps : KeepsRule (λ (z : View T). z.asked) (λ (z : View T). z.capacity) Stage Over (λ key. size_of key + 1)
@@ -368,8 +367,7 @@ module _ {T : Type 0} (hearing : Hearing T) where
         keeps_waiting want after kept Stage Over keeps (λ v. Begins v.capacity) (λ v. asks v.capacity)
         (λ v w c m settled begins. subst (λ n. Begins n c m) (sym settled.capacity) begins) first apart
 
-  -- of a call whose steps keep the rule where they may, and whose begin hangs on the capacity
-  -- alone
+  -- of a call whose steps keep the rule where they may, and whose begin hangs on the capacity alone
   module _ {C M E : Type 0} (want : C → Want (Unit {0})) (after : C → ℕ → After C E) (kept : C → M → ℕ → M)
       (Stage : View T → View T → C → M → Type 0) (Over : View T → E → M → View T → Type 0)
       (may : C → Type 0) (keeps : KeepsWhere code kind size_of may Stage Over want after kept)

@@ -47,10 +47,16 @@ module _ {T C M E : Type 0} (code : Coding T) (kind : Kind) (size_of : ℕ → �
           w (v, [])
           → Owes (λ (z : View T). z.asked) (IsMachine code kind key) words slots id
           (Told (λ (z : View T). z.capacity) AtSized EndsSized after kept c m) w (v, [])
-      go (wants.Ask a) h = (
-        h.0,
+      go (wants.Ask a) owes = (
+        owes.0,
         λ s r long at small.
-            (let x = h.1 s r long at small in (x.0, x.1, x.2, x.3, (told_sized base c m v _ x.0 same x.4.0, x.4.1, x.4.2))),
+            (let told_there = owes.1 s r long at small in (
+              told_there.0,
+              told_there.1,
+              told_there.2,
+              told_there.3,
+              (told_sized base c m v _ told_there.0 same told_there.4.0, told_there.4.1, told_there.4.2),
+            )),
       )
       go (wants.Question q) h = told_sized base c m v 0 v same h
       go wants.Nothing h = told_sized base c m v 0 v same h

@@ -61,7 +61,7 @@ module _ {T : Type 0} (code : Coding T) (law : IsCoding code) (which : LookOf) (
   Over = StateLooked code which cells seen
 
   has_words : 0 < code.size
-  has_words = (let some = law.some in omega arith)
+  has_words = omega (arith, law.some)
 
   pub plain : (base v : View T) (c : Looking T) (m : Showing T) → Stage base v c m → At code kinds.Container call base v c m
   plain base v c m (size, inl h) = inl h.0
@@ -166,8 +166,7 @@ module _ {T : Type 0} (code : Coding T) (law : IsCoding code) (which : LookOf) (
     steps_so : (base : View T) → At code kinds.Container call base v c m → StepsOnly base view_now
     steps_so = asked_then machines call step refl
 
-    -- after its step the look stands at its next stage, or has ended, with the state that it
-    -- leaves
+    -- after its step the look stands at its next stage, or has ended, with the state that it leaves
     known_then : (base : View T) → Stage base v c m → (a : After (Looking T) Bool) → after c n ≡ a
         → NextKnown (λ (z : View T). z.capacity) Stage Over base a now view_now
     known_then base stage (GoOn d) e =

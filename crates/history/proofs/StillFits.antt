@@ -34,7 +34,7 @@ module _ {T : Type 0} where
     of_party_on : (o : Option ℕ) → v.party ≡ o → by_party o (f.late ++ by_party o es) ≡ f.late ++ by_party o es
     of_party_on = grind (arith, by_party, append-nil, by_more, by_twice)
 
-    -- of one of its parties it is late by just what the turn wrote for it
+    -- the seat is late by just what the turn wrote for one of its parties
     late_is : (o : Option ℕ) → v.party ≡ o → (q : ℕ) → owner q ≡ j → events_by q (by_party o es) ≡ events_by q es
     late_is = grind (arith, quiet_else, by_twice, by_apart, cases_eq)
 
@@ -62,10 +62,6 @@ module _ {T : Type 0} where
           of_party = of_party_on v.party refl;
           own = λ any q of_j. own_on v.party refl q of_j (f.own any q of_j);
           made = λ g. (
-              let was = f.made g in
-              let one = sum_by-append g f.late (by_party v.party es) in
-              let two = sum_by-append (owned owner j g) u.events es in
-              let now = sums_on v.party refl g in
               let all : sum_by (owned owner j g) w.events ≡ sum_by (owned owner j g) (u.events ++ es) = ap (sum_by (owned owner j g)) more in
-              omega arith);
+              omega (arith, f.made g, sum_by-append g f.late (by_party v.party es), sum_by-append (owned owner j g) u.events es, sums_on v.party refl g));
         }

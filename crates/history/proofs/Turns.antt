@@ -110,8 +110,7 @@ module _ {T : Type 0} where
         → (f : Event T → ℕ) → sum_by f u.events ≡ sum_by f (v.made ++ gained)
     made_between = grind (arith, owned_whole, sum_by-append)
 
-    -- a turn that is not refused, and finds neither the last position nor the last version, leads
-    -- from a run to a run
+    -- a turn that is not refused, and finds neither the last position nor the last version, leads from a run to a run
     pub run_more : (t : Trace T) (turn : Turn T) → refusal_as kind t.world turn ≡ None → IsFreshTurn t turn → IsRun code kind capacity t
         → IsRun code kind capacity (after_turn t turn)
     run_more = grind (arith, turn_making, reached_as_more, fresh_as_more)
@@ -185,26 +184,25 @@ module _ {T : Type 0} (turning : Turning T) where
         self = b.self;
         idle = λ q of_id ne. apart q ne ∙ b.idle q of_id ne;
         made_own = λ v at f. (
-            let was = b.made_own v at f in
-            let one = sum_by-append f gained (events_by p es) in
-            let two = sum_by-append (owned owner id f) u.events es in
-            let all = owned_one owner id p f es b.mine (λ q of_id ne. none_of es beside q ne (b.idle q of_id ne)) in
-            omega arith);
+            omega (
+              arith,
+              b.made_own v at f,
+              sum_by-append f gained (events_by p es),
+              sum_by-append (owned owner id f) u.events es,
+              owned_one owner id p f es b.mine (λ q of_id ne. none_of es beside q ne (b.idle q of_id ne)),
+            ));
         inside = b.inside;
         fresh = b.fresh;
         further = λ j ne past. apart j ne ∙ b.further j ne past;
         made_none = λ j ne past. by_same j u.events es (none_of es beside j ne (b.further j ne past)) ∙ b.made_none j ne past;
         shares = b.shares;
         someone = (
-            let was = b.someone in
-            let two = sum_by-append (λ e. of_none (whose e)) u.events es in
-            omega arith);
+            omega (arith, b.someone, sum_by-append (λ e. of_none (whose e)) u.events es));
         spent = b.spent;
         one = one_more code kind capacity s.views u turn free fresh_turn b.one;
       }
     where
-      -- an event that may be late for another party's call is none of a party with no call under
-      -- way
+      -- an event that may be late for another party's call is none of a party with no call under way
       none_of : (es : List (Event T)) → ((q : ℕ) → q ≢ p → IsLate kind (call_in u.world q) (events_by q es))
           → (q : ℕ) → q ≢ p → call_in u.world q ≡ None → events_by q es ≡ []
       none_of = grind (arith, late_none)
@@ -229,8 +227,7 @@ module _ {T : Type 0} (beginning : Beginning T) where
   pub begins_free : refusal_as kind u.world (Begin p start) ≡ None
   begins_free = grind arith
 
-  -- after the begin the machine stands at the table's words, and the seat has gained the events of
-  -- the begin
+  -- after the begin the machine stands at the table's words, and the seat has gained the events of the begin
   begins : Between code kind capacity owner s id p (gained ++ events_by p (Begun p start ∷ [])) (after_turn u (Begin p start))
   begins = turned turning s.words (Begin p start) begins_free tt
       (b.words ∙ ap (λ ws. ws ++ 0 ∷ []) (sym (writes_one_word u.world (Begin p start)))) refl
@@ -239,16 +236,15 @@ module _ {T : Type 0} (beginning : Beginning T) where
       (λ q ne. look_begin u.world p q start ne)
       (λ q ne. steps_begin_other u.world p q start ne (first_of u.world.kind u.world.capacity start u.world.kept))
 
-  -- with no step yet
+  -- the call that began has taken no step yet
   pub begun_steps : steps_in (after_turn u (Begin p start)).world p ≡ 0
   begun_steps = steps_begin_own u.world p start flight (first_of u.world.kind u.world.capacity start u.world.kept) first_here
 
-  -- and no change by another
+  -- the call that began has seen no change by another yet
   pub begun_others : others_in (after_turn u (Begin p start)).world p ≡ 0
   begun_others = others_begin_own u.world p start flight (first_of u.world.kind u.world.capacity start u.world.kept) first_here
 
-  -- after the begin the machine stands at the table's words, and the seat has gained just its
-  -- begin
+  -- after the begin the machine stands at the table's words, and the seat has gained just its begin
   pub begun : Between code kind capacity owner s id p (gained ++ Begun p start ∷ []) (after_turn u (Begin p start))
   begun =
       let b' : Between code kind capacity owner s id p (gained ++ events_by p (Begun p start ∷ [])) (after_turn u (Begin p start)) = begins in
@@ -320,7 +316,7 @@ module _ {T : Type 0} (going : Going T) where
       go None below = refl
       go (Some a) below =
           sym (ap (λ ws. slice_index ws a.word) b.words
-          ∙ get_left u.world.words (0 ∷ []) a.word (let all = laws.size u b.run in omega arith))
+          ∙ get_left u.world.words (0 ∷ []) a.word (omega (arith, laws.size u b.run)))
 
   abbrev found : ℕ
   found = at_ask s.words ask
@@ -342,7 +338,7 @@ module _ {T : Type 0} (going : Going T) where
   pub told : events_of u.world (Next p) ≡ tells
   told = grind (arith, its_step, old_of, ask_of, want_of, ending_of, answer_in, goes_of, found_old)
 
-  -- and what is kept then
+  -- what is kept after the step is what the table keeps
   pub kept_then : (after_turn u (Next p)).world.kept ≡ (step_in u.world p (stands u.world p start flight at).x flight found).kept
   kept_then =
       next_kept u.world p start flight (stands u.world p start flight at)
@@ -357,9 +353,7 @@ module _ {T : Type 0} (going : Going T) where
       let all : sum_by (λ e. of_none (whose e)) (events_of u.world (Next p)) ≡ sum_by (λ e. of_none (whose e)) tells =
       ap (sum_by (λ e. of_none (whose e))) told in
       let one = sum_by-append (λ e. of_none (whose e)) (effects u.world p flight found) (ending_of p start (answer_in (goes_then found))) in
-      let wrote = mine.someone found in
-      let ends = all_someone p (ending_of p start (answer_in (goes_then found))) ends_own in
-      omega arith
+      omega (arith, mine.someone found, all_someone p (ending_of p start (answer_in (goes_then found))) ends_own)
 
   beside : (q : ℕ) → q ≢ p → IsLate kind (call_in u.world q) (events_by q (events_of u.world (Next p)))
   beside = grind (arith, call_in, events_by, told, by_same, ending_of, answer_in, by_other, ends_own, mine)
@@ -397,7 +391,7 @@ module _ {T : Type 0} (going : Going T) where
   pub gone_others : others_in (after_turn u (Next p)).world p ≡ others_in u.world p
   gone_others = others_next_own u.world p start flight (stands u.world p start flight at)
 
-  -- by one step, where it asks for a word
+  -- the call has taken one step more where it asks for a word
   pub gone_steps : steps_in (after_turn u (Next p)).world p ≡ steps_in u.world p + step_count ask
   gone_steps =
       steps_next_own u.world p start flight (stands u.world p start flight at)

@@ -153,10 +153,10 @@ module _ {T : Type 0} (code : Coding T) (law : IsCoding code) (value : T) where
   -- a store at each of its stages asks for a word of the value
   store_finds_word : (stage : StoreStage) → StoreStands code.size stage
       → (a : Ask) × (a.word < 2 + code.size * 2) × (store_asks code.words_of stage value ≡ wants.Ask a)
-  store_finds_word stores.LoadsVersion h = (record { word = 0; op = ops.Load }, omega arith, refl)
-  store_finds_word (stores.StoresCell cell at) h = (
+  store_finds_word stores.LoadsVersion store_stands = (record { word = 0; op = ops.Load }, omega arith, refl)
+  store_finds_word (stores.StoresCell cell at) store_stands = (
     record { word = word_at cell at; op = ops.Store (slice_index (code.words_of value) at) },
-    cell_low code h.0.0 cell at h.0.1 h.1,
+    cell_low code store_stands.0.0 cell at store_stands.0.1 store_stands.1,
     refl,
   )
   store_finds_word stores.AddsVersion h = (record { word = 0; op = ops.Add 1 }, omega arith, refl)
@@ -221,12 +221,12 @@ module _ {T R : Type 0} (code : Coding T) (law : IsCoding code) (words_in : R �
   load_same_after : (c : Loading T R) (m : R) (n : ℕ) (stage : LoadStage) → LoadStands code.size stage
       → after_of code (flight_at stage (room_of code.size (words_in m))) n
       ≡ goes loading (load_takes code.size c stage n) (load_keeps with_word m stage n)
-  load_same_after c m n loads.LoadsVersion h = refl
-  load_same_after c m n (loads.LoadsCell version cell at) h =
+  load_same_after c m n loads.LoadsVersion load_stands = refl
+  load_same_after c m n (loads.LoadsCell version cell at) load_stands =
       by_bool (nat_lt (at + 1) code.size)
-      (λ t. rw t (ap (λ r. GoOn (flight_at (loads.LoadsCell version cell (at + 1)) r)) (put_there m at n h.1)))
-      (λ t. rw t (ap (λ r. GoOn (flight_at (loads.ChecksVersion version) r)) (put_there m at n h.1)))
-  load_same_after c m n (loads.ChecksVersion version) h =
+      (λ t. rw t (ap (λ r. GoOn (flight_at (loads.LoadsCell version cell (at + 1)) r)) (put_there m at n load_stands.1)))
+      (λ t. rw t (ap (λ r. GoOn (flight_at (loads.ChecksVersion version) r)) (put_there m at n load_stands.1)))
+  load_same_after c m n (loads.ChecksVersion version) load_stands =
       by_bool (n == version)
       (λ t. rw t (ap (λ x. Done (answers.Loaded x)) (room_read code (words_in m))))
       (λ t. rw t refl)
@@ -261,10 +261,10 @@ module _ {T R : Type 0} (code : Coding T) (law : IsCoding code) (words_in : R �
   load_stays = grind arith
 
   load_finds_word : (stage : LoadStage) → LoadStands code.size stage → (a : Ask) × (a.word < 2 + code.size * 2) × (load_asks stage ≡ wants.Ask a)
-  load_finds_word loads.LoadsVersion h = (record { word = 0; op = ops.Load }, omega arith, refl)
-  load_finds_word (loads.LoadsCell version cell at) h =
-      (record { word = word_at cell at; op = ops.Load }, cell_low code (before_version version) cell at h.0 h.1, refl)
-  load_finds_word (loads.ChecksVersion version) h = (record { word = 0; op = ops.Exchange version version }, omega arith, refl)
+  load_finds_word loads.LoadsVersion load_stands = (record { word = 0; op = ops.Load }, omega arith, refl)
+  load_finds_word (loads.LoadsCell version cell at) load_stands =
+      (record { word = word_at cell at; op = ops.Load }, cell_low code (before_version version) cell at load_stands.0 load_stands.1, refl)
+  load_finds_word (loads.ChecksVersion version) load_stands = (record { word = 0; op = ops.Exchange version version }, omega arith, refl)
 
   load_hears : (c : Loading T R) (m : R) (a : Ask) (n : ℕ) (stage : LoadStage) → load_asks stage ≡ wants.Ask a
       → (load_takes code.size c stage (answered a.op n) ≡ load_takes code.size c stage n)
@@ -280,7 +280,7 @@ module _ {T R : Type 0} (code : Coding T) (law : IsCoding code) (words_in : R �
   pub load_keeps_rule : KeepsEnds code kinds.Atomic (size_of code) load_driven
   load_keeps_rule = keeps_to_end (value_machines code) load_driven load_is_call (λ c n. refl)
 
-  -- in a room of zeros in which a value fits
+  -- a load begins in a room of zeros in which a value fits
   pub load_first : (x : View T) (m : R) → room_of code.size (words_in m) ≡ fresh → x.going ≡ None → x.other ≡ []
       → 0 < x.share.part → At code kinds.Atomic loading x x first_load m
   load_first x m zeros idle alone any =

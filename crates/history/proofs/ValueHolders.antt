@@ -30,20 +30,20 @@ module _ {T : Type 0} where
 module _ {T : Type 0} (code : Coding T) (capacity : ℕ) where
   -- in each run only the holder of the producer's role stores
   by_producers : (t : Trace T) → IsRun code kinds.Atomic capacity t → Each ByProducer t.events
-  by_producers t r =
-      let w = t.world in
-      let first : Trace T = opening w.coding w.kind w.capacity w.parties in
-      let sound : frame.Sound (family w.coding w.capacity) first =
-      subst (λ kind. frame.Sound (family w.coding w.capacity) (opening w.coding kind w.capacity w.parties))
-      (sym r.of_kind) (opening_sound w.coding w.capacity w.parties r.reached.coded) in
-      subst (λ z. Each ByProducer z.events) (sym r.fresh.is)
-      (each_event (family w.coding w.capacity) IsFreshTurn (fresh_laws w.coding w.capacity) ByProducer
+  by_producers t run =
+      let world_now = t.world in
+      let first : Trace T = opening world_now.coding world_now.kind world_now.capacity world_now.parties in
+      let sound : frame.Sound (family world_now.coding world_now.capacity) first =
+      subst (λ kind. frame.Sound (family world_now.coding world_now.capacity) (opening world_now.coding kind world_now.capacity world_now.parties))
+      (sym run.of_kind) (opening_sound world_now.coding world_now.capacity world_now.parties run.reached.coded) in
+      subst (λ z. Each ByProducer z.events) (sym run.fresh.is)
+      (each_event (family world_now.coding world_now.capacity) IsFreshTurn (fresh_laws world_now.coding world_now.capacity) ByProducer
       (λ before p start. tt) (λ before p start answer. tt) (λ before owner. tt)
-      (λ t s p n x flight since found doing handed. step_right w.coding w.capacity t s p n x flight since found doing)
-      r.fresh.turns first r.fresh.fresh sound (Each-nil ByProducer))
+      (λ t s p n x flight since found doing handed. step_right world_now.coding world_now.capacity t s p n x flight since found doing)
+      run.fresh.turns first run.fresh.fresh sound (Each-nil ByProducer))
 
   pub history_by_producers : (events : List (Event T)) → IsHistory code kinds.Atomic capacity events → Each ByProducer events
-  history_by_producers events h = subst (Each ByProducer) (sym h.is) (by_producers h.trace h.run)
+  history_by_producers events history = subst (Each ByProducer) (sym history.is) (by_producers history.trace history.run)
 
 -- ---- a role that one party at a time holds
 

@@ -20,10 +20,12 @@ module _ {T : Type 0} (code : Coding T) (capacity : ℕ) (events : List (Event T
   -- a history of the single value is linearizable as one value
   pub value_linearizable : IsLinearizable (as_value code) events
   value_linearizable =
-      let t = h.trace in
-      let r = h.run in
-      let all : IsLinearized kinds.Atomic t = subst (λ k. IsLinearized k t) r.of_kind (run_linearizable t (kept_on t r.of_kind r.reached.coded r.fresh)) in
-      subst (λ es. IsLinearizable (as_value code) es) (sym h.is) (subst (λ z. IsLinearizable (as_value z) t.events) r.coded all)
+      let trace_now = h.trace in
+      let run_now = h.run in
+      let all : IsLinearized kinds.Atomic trace_now =
+      subst (λ k. IsLinearized k trace_now) run_now.of_kind
+      (run_linearizable trace_now (kept_on trace_now run_now.of_kind run_now.reached.coded run_now.fresh)) in
+      subst (λ es. IsLinearizable (as_value code) es) (sym h.is) (subst (λ z. IsLinearizable (as_value z) trace_now.events) run_now.coded all)
 
   -- each answer is that of the value that stood at its moment
   pub answers_right : Each (AnswersRight code) events
@@ -60,9 +62,9 @@ module _ {T : Type 0} (code : Coding T) (capacity : ℕ) (events : List (Event T
   -- a history of a queue of values is linearizable as the bounded list
   pub values_linearizable : IsLinearizable (as_list Queue capacity) events
   values_linearizable =
-      let t = h.trace in
-      let r = h.run in
-      let all : IsLinearized kinds.Queue t =
-      subst (λ k. IsLinearized k t) r.of_kind
-      (run_linearizable t (queue_kept_on Queue t r.of_kind r.reached.coded r.reached.admitted r.fresh)) in
-      subst (λ es. IsLinearizable (as_list Queue capacity) es) (sym h.is) (subst (λ n. IsLinearizable (as_list Queue n) t.events) r.sized all)
+      let trace_now = h.trace in
+      let run_now = h.run in
+      let all : IsLinearized kinds.Queue trace_now =
+      subst (λ k. IsLinearized k trace_now) run_now.of_kind
+      (run_linearizable trace_now (queue_kept_on Queue trace_now run_now.of_kind run_now.reached.coded run_now.reached.admitted run_now.fresh)) in
+      subst (λ es. IsLinearizable (as_list Queue capacity) es) (sym h.is) (subst (λ n. IsLinearizable (as_list Queue n) trace_now.events) run_now.sized all)

@@ -43,10 +43,10 @@ abbrev pub mix : ℕ → List ℕ → List ℕ → List ℕ
 mix at ws xs = take at ws ++ drop at xs
 
 pub mix_step : (at : ℕ) (ws xs : List ℕ) → at < length ws → at < length xs → set (mix at ws xs) at (get_or ws at 0) ≡ mix (suc at) ws xs
-mix_step at [] xs a b = absurd (omega arith)
-mix_step at (w ∷ ws) [] a b = absurd (omega arith)
-mix_step zero (w ∷ ws) (x ∷ xs) a b = refl
-mix_step (suc at) (w ∷ ws) (x ∷ xs) a b = ap (λ zs. w ∷ zs) (mix_step at ws xs (omega arith) (omega arith))
+mix_step at [] xs first_at_below second_at_below = absurd (omega arith)
+mix_step at (w ∷ ws) [] first_at_below second_at_below = absurd (omega arith)
+mix_step zero (w ∷ ws) (x ∷ xs) first_at_below second_at_below = refl
+mix_step (suc at) (w ∷ ws) (x ∷ xs) first_at_below second_at_below = ap (λ zs. w ∷ zs) (mix_step at ws xs (omega arith) (omega arith))
 
 pub mix_length : (at : ℕ) (ws xs : List ℕ) → at ≤ length ws → at ≤ length xs → length (mix at ws xs) ≡ length xs
 mix_length zero ws xs a b = refl
@@ -127,8 +127,7 @@ module _ {T : Type 0} (code : Coding T) (law : IsCoding code) (value : T) where
   abbrev name : Start T
   name = Atomic (Store value)
 
-  -- v is the version, x and y are the words of the two cells, where the next store goes into that
-  -- of x
+  -- v is the version, x and y are the words of the two cells, where the next store goes into that of x
   module _ (v : ℕ) (small : v < 2 ^ 64 - 1) (x y : List ℕ) (x_long : length x ≡ code.size) (y_long : length y ≡ code.size) where
     abbrev cells : ℕ → List ℕ
     cells at = two (v % 2) (mix at ws x) y
@@ -163,54 +162,53 @@ module _ {T : Type 0} (code : Coding T) (law : IsCoding code) (value : T) where
     -- the store of a word that is not the last leads on to the next word
     next : (ts : List (Turn T)) (es : List (Event T)) (at : ℕ) → at + 1 < code.size → Here (now at) ts es (Some (name, storing at))
         → Here (now (suc at)) (ts ++ Next 0 ∷ []) es (Some (name, storing (at + 1)))
-    next ts es at more h =
-        let t : nat_lt (at + 1) code.size ≡ true = grind (arith, nat_tests) in
-        alone.goes_on machine (now at) ts es name (storing at) h
+    next ts es at more here =
+        let tests_below : nat_lt (at + 1) code.size ≡ true = grind (arith, nat_tests) in
+        alone.goes_on machine (now at) ts es name (storing at) here
         (record { word = word_at cell at; op = ops.Store (get_or ws at 0) }) (word_low at (omega arith)) refl tt
-        (now (suc at)) (storing (at + 1)) (put at (omega arith)) (rw t refl) (rw t refl)
+        (now (suc at)) (storing (at + 1)) (put at (omega arith)) (rw tests_below refl) (rw tests_below refl)
 
     -- the store of the last word leads on to the version
     last : (ts : List (Turn T)) (es : List (Event T)) (at : ℕ) → at + 1 ≡ code.size → Here (now at) ts es (Some (name, storing at))
         → Here (now (suc at)) (ts ++ Next 0 ∷ []) es (Some (name, flight_at stores.AddsVersion))
-    last ts es at all h =
-        let t : nat_lt (at + 1) code.size ≡ false = grind (arith, nat_tests) in
-        alone.goes_on machine (now at) ts es name (storing at) h
+    last ts es at all here =
+        let not_below : nat_lt (at + 1) code.size ≡ false = grind (arith, nat_tests) in
+        alone.goes_on machine (now at) ts es name (storing at) here
         (record { word = word_at cell at; op = ops.Store (get_or ws at 0) }) (word_low at (omega arith)) refl tt
-        (now (suc at)) (flight_at stores.AddsVersion) (put at (omega arith)) (rw t refl) (rw t refl)
+        (now (suc at)) (flight_at stores.AddsVersion) (put at (omega arith)) (rw not_below refl) (rw not_below refl)
 
-    -- the store goes through the words of its cell, one turn for each, and then stands at the
-    -- version
+    -- the store goes through the words of its cell, one turn for each, and then stands at the version
     fills : (ts : List (Turn T)) (es : List (Event T)) (rest at : ℕ) → at + suc rest ≡ code.size
         → Here (now at) ts es (Some (name, storing at))
         → Here (now code.size) (ts ++ replicate (suc rest) (Next 0)) es (Some (name, flight_at stores.AddsVersion))
-    fills ts es zero at sum h = let same : suc at ≡ code.size = omega arith in
-        subst (λ n. Here (now n) (ts ++ Next 0 ∷ []) es (Some (name, flight_at stores.AddsVersion))) same (last ts es at (omega arith) h)
-    fills ts es (suc rest) at sum h =
+    fills ts es zero at sum here = let same : suc at ≡ code.size = omega arith in
+        subst (λ n. Here (now n) (ts ++ Next 0 ∷ []) es (Some (name, flight_at stores.AddsVersion))) same (last ts es at (omega arith) here)
+    fills ts es (suc rest) at sum here =
         let same : at + 1 ≡ suc at = omega arith in
         subst (λ zs. Here (now code.size) zs es (Some (name, flight_at stores.AddsVersion)))
         (append_assoc ts (Next 0 ∷ []) (replicate (suc rest) (Next 0)))
         (fills (ts ++ Next 0 ∷ []) es rest (suc at) (omega arith)
-        (subst (λ n. Here (now (suc at)) (ts ++ Next 0 ∷ []) es (Some (name, storing n))) same (next ts es at (omega arith) h)))
+        (subst (λ n. Here (now (suc at)) (ts ++ Next 0 ∷ []) es (Some (name, storing n))) same (next ts es at (omega arith) here)))
 
     -- the value is stored once more
     stores_it : (ts : List (Turn T)) (es : List (Event T)) → HasProducer es → Here (words_at v 0 (two (v % 2) x y)) ts es None
         → Here (words_at (v + 1) 0 (two (v % 2) ws y)) (ts ++ store_turns value code.size) (es ++ stored_once value) None
-    stores_it ts es has h =
+    stores_it ts es has here =
         let not_last : (v == 2 ^ 64 - 1) ≡ false = grind (arith, nat_tests) in
         let xs = es ++ Begun 0 name ∷ [] in
         let ts1 = ts ++ Begin 0 name ∷ [] in
         let ts2 = ts1 ++ Next 0 ∷ [] in
         let filling : List (Turn T) = replicate (suc (code.size - 1)) (Next 0) in
         let ended : List (Event T) = Acted 0 name (Truth true) ∷ Finished 0 name (Truth true) ∷ [] in
-        let a = alone.begins machine (stores_value code value) first_store tt (now 0) ts es h
+        let begun_so = alone.begins machine (stores_value code value) first_store tt (now 0) ts es here
         (producer_starts code (maker ts es) (stores_value code value) (Store value) first_store tt refl (λ kept. refl)
-        (λ o p. tt) (λ holder p is. holds_it holder p is) has h.u same_seat 0 h.between.run refl refl
-        (sums (now 0) ts es h)) in
+        (λ o p. tt) (λ holder p is. holds_it holder p is) has here.u same_seat 0 here.between.run refl refl
+        (sums (now 0) ts es here)) in
         let b =
         alone.goes_on machine (now 0) ts1 xs name
-        (flight_at stores.LoadsVersion) a (record { word = 0; op = ops.Load }) (omega arith) refl small
+        (flight_at stores.LoadsVersion) begun_so (record { word = 0; op = ops.Load }) (omega arith) refl small
         (now 0) (storing 0) refl (rw not_last refl) (rw not_last refl) in
-        let c = fills ts2 xs (code.size - 1) 0 (let some = law.some in omega arith) b in
+        let c = fills ts2 xs (code.size - 1) 0 (omega (arith, law.some)) b in
         let one : (v + 1) % 2 ^ 64 ≡ v + 1 = omega arith in
         let d =
         alone.ends machine (now code.size) (ts2 ++ filling) xs name
@@ -232,10 +230,12 @@ module _ {T : Type 0} (code : Coding T) (law : IsCoding code) (value : T) where
   has_it : (n : ℕ) → HasProducer (stored_times value n)
   has_it zero = refl
   has_it (suc n) =
-      let t = sum_by-append takes_producer (stored_times value n) (stored_once value) in
-      let g = sum_by-append gives_producer (stored_times value n) (stored_once value) in
-      let h = has_it n in
-      omega arith
+      omega (
+        arith,
+        sum_by-append takes_producer (stored_times value n) (stored_once value),
+        sum_by-append gives_producer (stored_times value n) (stored_once value),
+        has_it n,
+      )
 
   abbrev zeros : List ℕ
   zeros = replicate code.size 0
@@ -249,17 +249,17 @@ module _ {T : Type 0} (code : Coding T) (law : IsCoding code) (value : T) where
       let all : code.size + code.size ≡ code.size * 2 = omega arith in
       let cells : replicate (code.size * 2) 0 ≡ zeros ++ zeros = sym (replicate_both code.size code.size 0 ∙ ap (λ n. replicate n 0) all) in
       let start = Atomic AcquireProducer in
-      let h : Here (words_at 1 1 (zeros ++ zeros)) [] [] None =
+      let stands_here : Here (words_at 1 1 (zeros ++ zeros)) [] [] None =
       subst (λ zs. Here (words_at 1 1 zs) [] [] None) cells
       (alone.opens_here machine law refl) in
-      let a =
+      let begun_so =
       alone.begins machine acquires_producer
-      (record { word = producer_word }) tt (words_at 1 1 (zeros ++ zeros)) [] [] h
+      (record { word = producer_word }) tt (words_at 1 1 (zeros ++ zeros)) [] [] stands_here
       (plain_starts code (maker [] []) acquires_producer AcquireProducer (record { word = producer_word }) tt refl
-      (λ kept. refl) (λ o p is. is) (λ holder p. refl) h.u same_seat 0 h.between.run refl refl
-      (sums (words_at 1 1 (zeros ++ zeros)) [] [] h)) in
+      (λ kept. refl) (λ o p is. is) (λ holder p. refl) stands_here.u same_seat 0 stands_here.between.run refl refl
+      (sums (words_at 1 1 (zeros ++ zeros)) [] [] stands_here)) in
       alone.ends machine (words_at 1 1 (zeros ++ zeros))
-      (Begin 0 start ∷ []) (Begun 0 start ∷ []) start (acquires_producer.flight (record { word = producer_word }) tt) a
+      (Begin 0 start ∷ []) (Begun 0 start ∷ []) start (acquires_producer.flight (record { word = producer_word }) tt) begun_so
       (record { word = producer_word; op = ops.Exchange 1 0 }) (omega arith) refl tt (words_at 1 0 (zeros ++ zeros))
       (Truth true) [] refl refl refl tt
 
@@ -293,13 +293,13 @@ module _ {T : Type 0} (code : Coding T) (law : IsCoding code) (value : T) where
       let es = stored_times value n in
       let ts = stored_turns value code.size n in
       let h = stored n low in
-      let a = alone.begins machine releases_producer (record { word = producer_word }) tt ws' ts es h
+      let begun_so = alone.begins machine releases_producer (record { word = producer_word }) tt ws' ts es h
       (producer_starts code (maker ts es) releases_producer ReleaseProducer (record { word = producer_word }) tt refl
       (λ kept. refl) (λ o p. tt) (λ holder p is. holds_it holder p is) (has_it n) h.u same_seat 0 h.between.run refl
       refl (sums ws' ts es h)) in
       let b =
       alone.ends machine ws' (ts ++ Begin 0 start ∷ []) (es ++ Begun 0 start ∷ []) start
-      (releases_producer.flight (record { word = producer_word }) tt) a
+      (releases_producer.flight (record { word = producer_word }) tt) begun_so
       (record { word = producer_word; op = ops.Store 1 }) (omega arith) refl tt
       (words_at (n + 1) 1 (opened_cells code value n)) answers.Done [] refl refl refl tt in
       subst (λ zs. Here (words_at (n + 1) 1 (opened_cells code value n)) zs (opened value n) None) (append_assoc ts (Begin 0 start ∷ []) (Next 0 ∷ []))
@@ -314,14 +314,17 @@ module _ {T : Type 0} (code : Coding T) (law : IsCoding code) (value : T) where
       → words ≡ (first_stores version + 1) ∷ 1 ∷ (opened_cells code value (first_stores version) ++ 0 ∷ [])
       → IsMachine code kinds.Atomic 1 (opening words [] (opened_view value code.size version))
   value_opens version low words same =
-      let n = first_stores version in
+      let stores_first = first_stores version in
       subst (λ zs. IsMachine code kinds.Atomic 1 (opening zs [] (opened_view value code.size version))) (sym same)
       (alone.opens_so machine
-      (words_at (n + 1) 1 (opened_cells code value n)) (opened_turns value code.size n) (opened value n) (given n (few version low)))
+      (words_at (stores_first + 1) 1 (opened_cells code value stores_first))
+      (opened_turns value code.size stores_first) (opened value stores_first)
+      (given stores_first (few version low)))
 
-  -- and its first pass knows the run that led there
+  -- the first pass of the table knows the run that led there
   pub value_knows : (version : ℕ) → version < 2 ^ 64 → Knows code kinds.Atomic 1 (opened_view value code.size version)
   value_knows version low =
-      let n = first_stores version in
+      let stores_first = first_stores version in
       alone.knows_so machine
-      (words_at (n + 1) 1 (opened_cells code value n)) (opened_turns value code.size n) (opened value n) (given n (few version low))
+      (words_at (stores_first + 1) 1 (opened_cells code value stores_first))
+      (opened_turns value code.size stores_first) (opened value stores_first) (given stores_first (few version low))

@@ -60,7 +60,7 @@ module _ {T : Type 0} (code : Coding T) (law : IsCoding code) (v : T) where
       → effects_of {T = T} p (Push v) (push_effect (Value v) stage) None ≡ []
   quiet = grind arith
 
-  -- where it stands next
+  -- a push, or a pop, that goes on stands at its next place
   module _ (capacity : ℕ) where
     abbrev PushesNext : Pushing T → Type 0
     PushesNext d = (d.capacity ≡ capacity) × PushPlace code.size capacity d.stage × ((k : ℕ) → push_skips d.stage k ≡ false)
@@ -72,11 +72,11 @@ module _ {T : Type 0} (code : Coding T) (law : IsCoding code) (v : T) where
   -- a push at each of its stages asks for a word of the queue
   push_finds_word : (capacity : ℕ) (stage : PushStage) → PushPlace code.size capacity stage
       → (a : Ask) × (a.word < 4 + code.size * capacity) × (push_asks code.words_of stage v ≡ wants.Ask a)
-  push_finds_word capacity pushes.LoadsWrite h = (record { word = 0; op = Load }, omega arith, refl)
-  push_finds_word capacity (pushes.LoadsRead write) h = (record { word = 1; op = Load }, omega arith, refl)
-  push_finds_word capacity (pushes.StoresCell write cell at) h =
-      (record { word = word_at cell at; op = Store (slice_index (code.words_of v) at) }, cell_low code.size capacity write cell at h, refl)
-  push_finds_word capacity (pushes.StoresWrite write) h = (record { word = 0; op = Store (after_position write) }, omega arith, refl)
+  push_finds_word capacity pushes.LoadsWrite push_place = (record { word = 0; op = Load }, omega arith, refl)
+  push_finds_word capacity (pushes.LoadsRead write) push_place = (record { word = 1; op = Load }, omega arith, refl)
+  push_finds_word capacity (pushes.StoresCell write cell at) push_place =
+      (record { word = word_at cell at; op = Store (slice_index (code.words_of v) at) }, cell_low code.size capacity write cell at push_place, refl)
+  push_finds_word capacity (pushes.StoresWrite write) push_place = (record { word = 0; op = Store (after_position write) }, omega arith, refl)
 
   push_hears : (c : Pushing T) (a : Ask) (n : ℕ) (stage : PushStage)
       → push_asks code.words_of stage v ≡ wants.Ask a
@@ -145,16 +145,16 @@ module _ {T R : Type 0} (code : Coding T) (law : IsCoding code) (words_in : R �
       → PopPlace code.size capacity stage
       → after_of code (flight_at c.capacity stage (room_in m)) n
       ≡ goes popping (pop_takes code.size c stage n) (pop_keeps with_word m stage n)
-  pop_same_after capacity c m n pops.LoadsRead h = refl
-  pop_same_after capacity c m n (pops.LoadsWrite read) h =
+  pop_same_after capacity c m n pops.LoadsRead pop_place = refl
+  pop_same_after capacity c m n (pops.LoadsWrite read) pop_place =
       by_bool (c.capacity == 0 || n == read)
       (λ t. rw t refl)
       (λ t. rw t refl)
-  pop_same_after capacity c m n (pops.LoadsCell read cell at) h =
+  pop_same_after capacity c m n (pops.LoadsCell read cell at) pop_place =
       by_bool (nat_lt (at + 1) code.size)
-      (λ t. rw t (ap (λ r. GoOn (flight_at c.capacity (pops.LoadsCell read cell (at + 1)) r)) (put_there m at n h.2)))
-      (λ t. rw t (ap (λ r. GoOn (flight_at c.capacity (pops.StoresRead read) r)) (put_there m at n h.2)))
-  pop_same_after capacity c m n (pops.StoresRead read) h = grind (arith, room_read)
+      (λ t. rw t (ap (λ r. GoOn (flight_at c.capacity (pops.LoadsCell read cell (at + 1)) r)) (put_there m at n pop_place.2)))
+      (λ t. rw t (ap (λ r. GoOn (flight_at c.capacity (pops.StoresRead read) r)) (put_there m at n pop_place.2)))
+  pop_same_after capacity c m n (pops.StoresRead read) pop_place = grind (arith, room_read)
 
   pop_quiet : (p n : ℕ) (c d : Popping T R) (m : R) (stage : PopStage) → pop_takes code.size c stage n ≡ GoOn d
       → queue_effects code p (flight_at c.capacity stage (room_in m)) n ≡ []
@@ -194,11 +194,11 @@ module _ {T R : Type 0} (code : Coding T) (law : IsCoding code) (words_in : R �
   -- a pop at each of its stages asks for a word of the queue
   pop_finds_word : (capacity : ℕ) (stage : PopStage) → PopPlace code.size capacity stage
       → (a : Ask) × (a.word < 4 + code.size * capacity) × (pop_asks stage ≡ wants.Ask a)
-  pop_finds_word capacity pops.LoadsRead h = (record { word = 1; op = Load }, omega arith, refl)
-  pop_finds_word capacity (pops.LoadsWrite read) h = (record { word = 0; op = Load }, omega arith, refl)
-  pop_finds_word capacity (pops.LoadsCell read cell at) h =
-      (record { word = word_at cell at; op = Load }, cell_low code.size capacity read cell at h, refl)
-  pop_finds_word capacity (pops.StoresRead read) h = (record { word = 1; op = Store (after_position read) }, omega arith, refl)
+  pop_finds_word capacity pops.LoadsRead pop_place = (record { word = 1; op = Load }, omega arith, refl)
+  pop_finds_word capacity (pops.LoadsWrite read) pop_place = (record { word = 0; op = Load }, omega arith, refl)
+  pop_finds_word capacity (pops.LoadsCell read cell at) pop_place =
+      (record { word = word_at cell at; op = Load }, cell_low code.size capacity read cell at pop_place, refl)
+  pop_finds_word capacity (pops.StoresRead read) pop_place = (record { word = 1; op = Store (after_position read) }, omega arith, refl)
 
   pop_hears : (c : Popping T R) (m : R) (a : Ask) (n : ℕ) (stage : PopStage) → pop_asks stage ≡ wants.Ask a
       → (pop_takes code.size c stage (answered a.op n) ≡ pop_takes code.size c stage n)
@@ -229,7 +229,7 @@ module _ {T R : Type 0} (code : Coding T) (law : IsCoding code) (words_in : R �
   pub value_pop_keeps : KeepsEnds code kinds.Queue (λ capacity. 4 + code.size * capacity) pop_driven
   value_pop_keeps = keeps_to_end (queue_machines code) pop_driven pop_is_call (λ c n. refl)
 
-  -- in a room of zeros in which a value fits
+  -- a pop begins in a room of zeros in which a value fits
   pub value_pop_first : (x : View T) (m : R) → room_in m ≡ fresh_cell → x.going ≡ None → x.other ≡ []
       → 0 < x.share.part → x.capacity < 2 ^ 32 → HasRole Consumer x.made
       → At code kinds.Queue popping x x (first_pop x.capacity) m

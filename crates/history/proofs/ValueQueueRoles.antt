@@ -58,7 +58,7 @@ module _ {T : Type 0} (code : Coding T) (law : IsCoding code) where
         keeps_to_end (queue_machines code) (len_driven code which size)
         (wider code (queue_effects code) (λ capacity. 4 + capacity) words_of (len_driven code which size) low (len_is_call code which size)) (λ c n. refl)
 
-    -- for any capacity
+    -- the calls on lengths keep the rule, for any capacity
     pub value_lens_keep : KeepsRule (λ (z : View T). z.asked) (λ (z : View T). z.capacity)
         (λ (base : View T). At code kinds.Queue (counts_waiting which base.capacity) base)
         (λ (base : View T). Ends code kinds.Queue (counts_waiting which base.capacity) base)

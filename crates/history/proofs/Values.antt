@@ -67,33 +67,32 @@ module _ {T : Type 0} (code : Coding T) (capacity : ℕ) where
   IsOn t = IsRun code kinds.Atomic capacity t
 
   pub value_sound : (t : Trace T) → IsOn t → frame.Sound (family t.world.coding t.world.capacity) t
-  value_sound t r = sound_on t r.of_kind r.reached.coded r.fresh
+  value_sound t is_on = sound_on t is_on.of_kind is_on.reached.coded is_on.fresh
 
   size : (t : Trace T) → IsOn t → length t.world.words ≡ 2 + code.size * 2
-  size t r =
-      let s = value_sound t r in
-      let cells : length s.state.core.cells ≡ code.size * 2 = s.holds.good.cells ∙ ap (λ (z : Coding T). z.size * 2) r.coded in
-      ap length s.fit.words ∙ omega arith
+  size t is_on =
+      let is_sound = value_sound t is_on in
+      let cells : length is_sound.state.core.cells ≡ code.size * 2 = is_sound.holds.good.cells ∙ ap (λ (z : Coding T). z.size * 2) is_on.coded in
+      ap length is_sound.fit.words ∙ omega arith
 
-  -- a step of a call under way may be taken, writes events of its own party alone, and goes on as
-  -- the call does
+  -- a step of a call under way may be taken, writes events of its own party alone, and goes on as the call does
   goes_on : (t : Trace T) → IsOn t → (p : ℕ) (start : Start T) (flight : Flight T)
       → call_in t.world p ≡ Some (start, flight)
       → CallGoesOn code kinds.Atomic capacity (2 + code.size * 2) (value_effects code) t p flight
-  goes_on t r p start flight at =
-      let s = value_sound t r in
+  goes_on t is_on p start flight at =
+      let is_sound = value_sound t is_on in
       let here = stands t.world p start flight at in
-      let there = stands_there (family t.world.coding t.world.capacity) t s p here.x here.since flight here.found here.doing in
+      let there = stands_there (family t.world.coding t.world.capacity) t is_sound p here.x here.since flight here.found here.doing in
       let waits = beside_of t.world.words t.world.kept t.world.latest p in
       let fact = λ (x : Party T) (n : ℕ) (found : party_of p t.world.latest ≡ Some x).
       (let same : here.x ≡ x = (let both : Some here.x ≡ Some x = sym here.found ∙ found in cc) in
       subst (λ (st : Start T). Facts t.world.coding t.world.words waits p n st flight t.world.kept) (ap (λ (y : Party T). y.start) same)
-      (facts t.world.coding t.world.words waits t.world.capacity p n s.state here.x.start flight t.world.kept s.fit.kept there.at))
+      (facts t.world.coding t.world.words waits t.world.capacity p n is_sound.state here.x.start flight t.world.kept is_sound.fit.kept there.at))
       in
       record {
         may = (fact here.x 0 here.found).may;
         own = λ n. effects_own code p flight n;
-        writes = λ x n found. (fact x n found).writes ∙ ap (λ (z : Coding T). value_effects z p flight n) r.coded;
+        writes = λ x n found. (fact x n found).writes ∙ ap (λ (z : Coding T). value_effects z p flight n) is_on.coded;
         goes = λ x n found. (fact x n found).goes;
       }
 
@@ -103,20 +102,20 @@ module _ {T : Type 0} (code : Coding T) (capacity : ℕ) where
     size = size;
     goes_on = goes_on;
     alone = λ going late h. h;
-    stateless = λ t r. (let s = value_sound t r in subst IsStateless (sym s.fit.kept) tt);
+    stateless = λ t r. (let is_sound = value_sound t r in subst IsStateless (sym is_sound.fit.kept) tt);
   }
 
   -- what the model promises of each run
   pub value_goes_on : (t : Trace T) → IsOn t → IsValue t
-  value_goes_on t r = (subst (λ P. IsKeptBy P t) (ap (promise_of {T = T}) r.of_kind) (kept_on t r.of_kind r.reached.coded r.fresh)).promised
+  value_goes_on t is_on = (subst (λ P. IsKeptBy P t) (ap (promise_of {T = T}) is_on.of_kind) (kept_on t is_on.of_kind is_on.reached.coded is_on.fresh)).promised
 
-  -- and how many steps its calls take
+  -- the steps of each call are within what the model promises
   pub value_pays : Pays code kinds.Atomic capacity
   value_pays t r =
-      (let s = value_sound t r in
+      (let is_sound = value_sound t r in
       let F = family t.world.coding t.world.capacity in
-      pays_run code kinds.Atomic capacity t r F refl s
-      (progress_kept code kinds.Atomic capacity t r F refl s (kept_on t r.of_kind r.reached.coded r.fresh)))
+      pays_run code kinds.Atomic capacity t r F refl is_sound
+      (progress_kept code kinds.Atomic capacity t r F refl is_sound (kept_on t r.of_kind r.reached.coded r.fresh)))
 
 -- ---- which party holds the role that a pass holds: one of its own
 
@@ -138,7 +137,9 @@ module _ {T : Type 0} (owner : ℕ → ℕ) (j : ℕ) where
 -- a pass gave back what it had acquired, or has it once
 pub producer_once : {T : Type 0} (v : View T) → Each GrantsRight v.seen → IsOfParties v
     → (sum_by gives_producer v.made ≤ sum_by takes_producer v.made) × (sum_by takes_producer v.made ≤ sum_by gives_producer v.made + 1)
-producer_once v each h = at_most takes_producer gives_producer holder_after h.owner h.seat v.seen v.made (all_move h.owner h.seat v.seen each) h.sums
+producer_once v each of_parties =
+    at_most takes_producer gives_producer holder_after of_parties.owner of_parties.seat v.seen v.made
+    (all_move of_parties.owner of_parties.seat v.seen each) of_parties.sums
 
 -- ---- which party may begin a call
 
@@ -152,7 +153,7 @@ module _ {T C M E : Type 0} (code : Coding T) (base : View T) (call : Calling T 
   AllOf t owner j = (f : Event T → ℕ) → sum_by f base.made ≡ sum_by (owned owner j f) t.events
 
   kept_there : (t : Trace T) → IsAt t → (holder : Option ℕ) × (t.world.kept ≡ registries.Atomic holder)
-  kept_there t r = let s = value_sound code base.capacity t r in (s.state.holder, s.fit.kept)
+  kept_there t r = let is_sound = value_sound code base.capacity t r in (is_sound.state.holder, is_sound.fit.kept)
 
   -- a party that lacks no role for it may begin
   as_party : (t : Trace T) (owner : ℕ → ℕ) (j p : ℕ) → IsAt t → owner p ≡ j → call.by base.party p
@@ -177,8 +178,7 @@ module _ {T C M E : Type 0} (code : Coding T) (base : View T) (call : Calling T 
       kept : (holder : Option ℕ) × (t.world.kept ≡ registries.Atomic holder)
       kept = kept_there t run
 
-      -- whether the pass was a party last or not, the call begins, as that party or as the one of
-      -- the pass's own number
+      -- whether the pass was a party last or not, the call begins, as that party or as the one of the pass's own number
       go : (o : Option ℕ) → base.party ≡ o → IfSome o (λ p. owner p ≡ j) → Starts code kinds.Atomic call base c m t owner j
       go None e h =
           as_party t owner j j run self
@@ -197,9 +197,10 @@ module _ {T C M E : Type 0} (code : Coding T) (base : View T) (call : Calling T 
   producer_starts by_any free has t owner j run self party sums =
       let value = value_goes_on code base.capacity t run in
       let kept = kept_there t run in
-      let by = producer_by owner j t.events base.made value.roles sums has in
+      let by_this_party = producer_by owner j t.events base.made value.roles sums has in
       let keeps : KeepsHolder (registries.Atomic kept.0) t.events = subst (λ k. KeepsHolder k t.events) kept.1 value.holder in
-      as_party t owner j by.0 run by.1 (by_any base.party by.0) kept.0 kept.1 (free kept.0 by.0 (keeps ∙ by.2))
+      as_party t owner j by_this_party.0 run by_this_party.1 (by_any base.party by_this_party.0) kept.0 kept.1
+      (free kept.0 by_this_party.0 (keeps ∙ by_this_party.2))
 
 abbrev pub value_machines : {T : Type 0} → Coding T → LoneMachines T
 value_machines code =

@@ -11,7 +11,7 @@ module _ {T C M E : Type 0} (code : Coding T) (kind : Kind) (call : Calling T C 
       → span_of under.party v.seen ≡ fold own_after (Open call.start []) under.wrote
   written_since = grind (arith, opened, span_since, fold, append-nil)
 
-  -- so two tellings of it that begin with it are one
+  -- two tellings of a call that begin with it are one
   pub same_written : (base other v : View T) (c d : C) (m k : M) → base.going ≡ None → other.going ≡ None
       → (a : IsUnderWay code kind call base v c m) (b : IsUnderWay code kind call other v d k)
       → fold own_after (Open call.start []) a.wrote ≡ Open call.start a.wrote → fold own_after (Open call.start []) b.wrote ≡ Open call.start b.wrote

@@ -29,23 +29,16 @@ module _ {T : Type 0} (code : Coding T) (capacity : ℕ) (events : List (Event T
 
   -- a place was set as often as it was cleared, and once more where it stands now
   as_often : (bit : ℕ) → sets bit events ≡ clears bit events + one_if (stands h.trace.world.words bit)
-  as_often bit =
-      let all = machine.conserved bit in
-      let s = ap (sets bit) h.is in
-      let c = ap (clears bit) h.is in
-      omega arith
+  as_often bit = omega (arith, machine.conserved bit, ap (sets bit) h.is, ap (clears bit) h.is)
 
   pub conserved : (bit : ℕ) → sets bit events ≡ clears bit events + standing bit events
-  conserved bit = let all = as_often bit in omega arith
+  conserved bit = omega (arith, as_often bit)
 
   pub once : (bit : ℕ) → standing bit events ≤ 1
-  once bit =
-      let all = as_often bit in
-      let few = at_most_one (stands h.trace.world.words bit) in
-      omega arith
+  once bit = omega (arith, as_often bit, at_most_one (stands h.trace.world.words bit))
 
   pub within : (bit : ℕ) → capacity ≤ bit → sets bit events ≡ 0
-  within bit past = ap (sets bit) h.is ∙ machine.within bit (let same = h.run.sized in omega arith)
+  within bit past = ap (sets bit) h.is ∙ machine.within bit (omega (arith, h.run.sized))
 
   pub answers : Each (BitsAnswerRight capacity) events
   answers =

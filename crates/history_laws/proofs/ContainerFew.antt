@@ -141,20 +141,20 @@ module _ {T : Type 0} (code : Coding T) (c : ℕ) where
   -- a trace that is sound in a run that keeps to all its terms stays sound with another number of
   -- turns, if this bounds what it has to bound
   reset : (t : Trace T) → KeptSound t → (m : ℕ) → Bounds t m → KeptSound (with_turns m t)
-  reset t s m b =
-      let words : t.world.words ≡ s.state.words = s.fit.words in
-      let g = s.holds.good in
-      let e = s.holds.elements in
+  reset t kept_sound m b =
+      let words : t.world.words ≡ kept_sound.state.words = kept_sound.fit.words in
+      let g = kept_sound.holds.good in
+      let e = kept_sound.holds.elements in
       record {
-        coding = s.coding;
-        kind = s.kind;
-        capacity = s.capacity;
-        state = s.state;
-        fit = s.fit;
+        coding = kept_sound.coding;
+        kind = kept_sound.kind;
+        capacity = kept_sound.capacity;
+        state = kept_sound.state;
+        fit = kept_sound.fit;
         holds =
             record {
-              same = s.holds.same;
-              same_latest = s.holds.same_latest;
+              same = kept_sound.holds.same;
+              same_latest = kept_sound.holds.same_latest;
               begun = λ p x found. b.some;
               good =
                   record {
@@ -190,17 +190,16 @@ module _ {T : Type 0} (code : Coding T) (c : ℕ) where
                     fresh = e.fresh;
                   };
             };
-        inv = s.inv;
+        inv = kept_sound.inv;
       }
 
   -- ---- what holds of every open run
 
-  -- so many turns would do
+  -- a number above what the changes and the rises of the history can come to
   abbrev top : List (Event T) → ℕ
   top events = 1 + (3 * changes events + rises events)
 
-  -- nobody acts for an owner who is gone, no two calls that may lock overlap, and no number has
-  -- come round
+  -- nobody acts for an owner who is gone, no two calls that may lock overlap, and no number has come round
   record Goes (events : List (Event T)) : Type 0 where
     pub faithful : IsFaithful events
     pub apart : LocksApart events
@@ -209,15 +208,13 @@ module _ {T : Type 0} (code : Coding T) (c : ℕ) where
   -- where nobody acts for an owner who is gone, no two calls that may lock overlap and no number
   -- has come round, this is so of each beginning of the events
   goes_less : (events es : List (Event T)) → Goes (events ++ es) → Goes events
-  goes_less events es g =
+  goes_less events es goes =
       record {
-        faithful = Each-less BeginsRight events es g.faithful;
-        apart = Each-less BeginsAlone events es g.apart;
+        faithful = Each-less BeginsRight events es goes.faithful;
+        apart = Each-less BeginsAlone events es goes.apart;
         young =
-            (let more = changes_more events es in
-            let rose : rises (events ++ es) ≡ rises events + rises es = sum_by-append rise events es in
-            let young = g.young in
-            omega arith);
+            (let rose : rises (events ++ es) ≡ rises events + rises es = sum_by-append rise events es in
+            omega (arith, changes_more events es, goes.young));
       }
 
   -- what is so of every open run: bounds on the counter, the numbers of elements and of changes,
@@ -229,18 +226,16 @@ module _ {T : Type 0} (code : Coding T) (c : ℕ) where
     pub honest : IsFaithful t.events → IsHonest t.events
     pub kept : Goes t.events → KeptSound (with_turns (top t.events) t)
 
-  -- the changes and rises of a history bound the counter, the numbers of the elements and the
-  -- number of changes
+  -- the changes and rises of a history bound the counter, the numbers of the elements and the number of changes
   bounds_by : (t : Trace T) → Sound code c t → (LocksApart t.events → Bounded t) → ((n : ℕ) → 1 + c ≤ n → n < 2 + (c + c) → Raised n t)
       → LocksApart t.events → Bounds t (top t.events)
-  bounds_by t s bounded raised apart =
-      let b = bounded apart in
+  bounds_by t sound bounded raised apart =
+      let within_bounds = bounded apart in
       record {
         some = omega arith;
         low = λ open_now.
-            (let not_shut : counter t ≢ locked = λ shut. true≢false (sym (eq-eqb (counter t) locked shut) ∙ ((facts code c t s).lock ∙ open_now)) in
-            let fits = b.fits not_shut in
-            omega arith);
+            (let not_shut : counter t ≢ locked = λ shut. true≢false (sym (eq-eqb (counter t) locked shut) ∙ ((facts code c t sound).lock ∙ open_now)) in
+            omega (arith, within_bounds.fits not_shut));
         counts = λ i below. (let few = word_raised (2 + c + i) t (raised (2 + c + i) (omega arith) (omega arith)) in omega arith);
         change = (let few = word_raised (1 + c) t (raised (1 + c) (omega arith) (omega arith)) in omega arith);
       }
@@ -273,7 +268,7 @@ module _ {T : Type 0} (code : Coding T) (c : ℕ) where
     kept_then goes =
         let was = goes_less t.events (events_of t.world turn) goes in
         let n = top t.events in
-        let few : n < 2 ^ 64 - 2 = (let young = was.young in omega arith) in
+        let few : n < 2 ^ 64 - 2 = (omega (arith, was.young)) in
         let same = turns_same (top new.events) n t turn in
         let sound : KeptSound (after_turn (with_turns n t) turn) =
         open_turn_sound true code c (with_turns n t) (h.kept was) (λ kept. few) turn (same_refusal n t turn ∙ e)
@@ -296,8 +291,7 @@ module _ {T : Type 0} (code : Coding T) (c : ℕ) where
 
 -- ---- a run
 
--- t is the trace of an open run of a container, c its capacity, start the trace with which it
--- opens
+-- t is the trace of an open run of a container, c its capacity, start the trace with which it opens
 module _ {T : Type 0} (t : Trace T) (is : t.world.kind ≡ kinds.Container) (r : IsReachedOpen t) where
   abbrev code : Coding T
   code = t.world.coding
@@ -311,10 +305,10 @@ module _ {T : Type 0} (t : Trace T) (is : t.world.kind ≡ kinds.Container) (r :
   -- the trace with which a container opens is sound in a run that keeps to all its terms
   kept_first : KeptSound code c start
   kept_first =
-      let w = t.world in
-      let may = admitted_is w.capacity (subst (λ kind. capacity_error kind w.capacity ≡ None) is r.admitted) in
-      subst (λ kind. KeptSound code c (opening w.coding kind w.capacity w.parties)) (sym is)
-      (opening_sound shown keeping w.coding w.capacity w.parties r.coded may.0 may.1)
+      let world_now = t.world in
+      let may = admitted_is world_now.capacity (subst (λ kind. capacity_error kind world_now.capacity ≡ None) is r.admitted) in
+      subst (λ kind. KeptSound code c (opening world_now.coding kind world_now.capacity world_now.parties)) (sym is)
+      (opening_sound shown keeping world_now.coding world_now.capacity world_now.parties r.coded may.0 may.1)
 
   -- nothing stands there yet
   words_first : start.world.words ≡ kept_first.state.words
@@ -329,8 +323,7 @@ module _ {T : Type 0} (t : Trace T) (is : t.world.kind ≡ kinds.Container) (r :
   raised_first : (n : ℕ) → 1 + c ≤ n → n < 2 + (c + c) → Raised n start
   raised_first n past before = record { seats = 0; beyond = λ q far. refl; fits = few (n == 1 + c) refl }
     where
-      -- a word of those that are counted is 0 at the start, the number of changes or that of an
-      -- element
+      -- a word of those that are counted is 0 at the start, the number of changes or that of an element
       few : (b : Bool) → (n == 1 + c) ≡ b → get_or start.world.words n 0 + 0 ≤ 0
       few true e = let none = change_first in let same = tested n (1 + c) e in subst (λ k. get_or start.world.words k 0 + 0 ≤ 0) (sym same) (omega arith)
       few false e =
@@ -340,7 +333,7 @@ module _ {T : Type 0} (t : Trace T) (is : t.world.kind ≡ kinds.Container) (r :
           subst (λ k. get_or start.world.words k 0 + 0 ≤ 0) same (omega arith)
 
   low_first : is_locked start.events ≡ false → counter_of start.world.words ≤ 0
-  low_first open_now = subst (λ ws. counter_of ws ≤ 0) (sym words_first) (let low = kept_first.holds.good.low open_now in omega arith)
+  low_first open_now = subst (λ ws. counter_of ws ≤ 0) (sym words_first) (omega (arith, kept_first.holds.good.low open_now))
 
   -- what is so of every open run is so at the opening
   holds_first : HoldsAll code c start
@@ -353,9 +346,9 @@ module _ {T : Type 0} (t : Trace T) (is : t.world.kind ≡ kinds.Container) (r :
         kept = λ goes. reset code c start kept_first (top code c start.events)
             (record {
               some = omega arith;
-              low = λ open_now. (let low = low_first open_now in omega arith);
-              counts = λ i below. (let few = counts_first i below in omega arith);
-              change = (let few = change_first in omega arith);
+              low = λ open_now. omega (arith, low_first open_now);
+              counts = λ i below. omega (arith, counts_first i below);
+              change = omega (arith, change_first);
             });
       }
 

@@ -10,5 +10,5 @@ pub use Rattle.history_laws.proofs.ContainerPlain.{none_recovers, none_frees}
 
 pub contained_history : {T : Type 0} (code : Coding T) (capacity : ℕ) (events : List (Event T)) → IsHistory code kinds.Container capacity events
     → IsOrderly events → IsContained events
-contained_history code capacity events h kept =
-    subst IsContained (sym h.is) (reached_contained h.trace h.run.of_kind h.run.reached (subst IsOrderly h.is kept))
+contained_history code capacity events history kept =
+    subst IsContained (sym history.is) (reached_contained history.trace history.run.of_kind history.run.reached (subst IsOrderly history.is kept))

@@ -91,7 +91,7 @@ replace_lifts replaces.AddsChange = 1
 replace_lifts stage = 2
 
 module _ {T : Type 0} where
-  -- by how much a call of a container may still raise such a number
+  -- this is by how much a call of a container may still raise such a number
   abbrev pub container_lifts : ContainerFlight T → ℕ
   container_lifts (Add run) = add_lifts run.call.stage
   container_lifts (Replace run) = replace_lifts run.call.stage
@@ -130,7 +130,7 @@ recover_adds (recovers.Hides index count) old = hides count old
 recover_adds (recovers.AddsChange state) old = 1
 recover_adds stage old = 0
 
--- by how much the step of a call of a container raises such a number, where it finds this word
+-- this is by how much the step of a call of a container raises such a number, where it finds this word
 abbrev pub container_adds : {T : Type 0} → ContainerFlight T → ℕ → ℕ
 container_adds (Add run) old = add_adds run.call.stage old
 container_adds (Replace run) old = replace_adds run.call.stage old
@@ -196,7 +196,7 @@ hides_most count old = let most = one_more_most count in grind arith
 check_keeps : (count old : ℕ) → written (Exchange count count) old ≤ old
 check_keeps count old = grind arith
 
--- of a word behind those of the set and before those of values
+-- the word stands behind those of the set and before those of values
 module _ (words : List ℕ) (n : ℕ) (inside : n < length words) where
   abbrev pub Lifts : Option Ask → ℕ → Type 0
   Lifts ask k = get_or (words_after words ask) n 0 ≤ get_or words n 0 + k
@@ -222,7 +222,7 @@ module _ (words : List ℕ) (n : ℕ) (inside : n < length words) where
   loaded word = most word Load 0 (omega arith)
 
   checked : (word count : ℕ) → Lifts (Some (record { word = word; op = Exchange count count })) 0
-  checked word count = most word (Exchange count count) 0 (let keeps = check_keeps count (get_or words word 0) in omega arith)
+  checked word count = most word (Exchange count count) 0 (omega (arith, check_keeps count (get_or words word 0)))
 
   hidden : (word count : ℕ) → Lifts (Some (record { word = word; op = Exchange count (one_more count) })) (hides count (get_or words word 0))
   hidden word count = most word (Exchange count (one_more count)) (hides count (get_or words word 0)) (hides_most count (get_or words word 0))
@@ -424,37 +424,31 @@ module _ {T : Type 0} where
     -- what a step of an add adds, and what is left to add, is no more than was left before, with the
     -- rises that the step writes
     add_keeps : (run : _) (stage : AddStage) (old : ℕ) → Keeps (Add (record run { call = record run.call { stage = stage } })) old
-    add_keeps run (adds.Hides index count) old =
-        let wrote = hidden_writes T p index (old == count) in omega arith
+    add_keeps run (adds.Hides index count) old = omega (arith, hidden_writes T p index (old == count))
     add_keeps run (adds.AddsCount index) old = omega arith
     add_keeps run (adds.AddsChange index) old = omega arith
     add_keeps run stage old =
         let r = record run { call = record run.call { stage = stage } } in
-        let leads = add_leads r.given r.room (add_after code.size r.call old) in
-        omega arith
+        omega (arith, add_leads r.given r.room (add_after code.size r.call old))
 
     -- what a step of a replace adds, and what is left to add, is no more than was left before, with the
     -- rises that the step writes
     replace_keeps : (run : _) (stage : ReplaceStage) (old : ℕ) → Keeps (Replace (record run { call = record run.call { stage = stage } })) old
-    replace_keeps run (replaces.Hides count) old =
-        let wrote = hidden_writes T p run.given.index (old == count) in omega arith
+    replace_keeps run (replaces.Hides count) old = omega (arith, hidden_writes T p run.given.index (old == count))
     replace_keeps run replaces.AddsCount old = omega arith
     replace_keeps run replaces.AddsChange old = omega arith
     replace_keeps run stage old =
         let r = record run { call = record run.call { stage = stage } } in
-        let leads = replace_leads r.given r.room (replace_after code.size r.call r.given old) in
-        omega arith
+        omega (arith, replace_leads r.given r.room (replace_after code.size r.call r.given old))
 
     -- what a step of a remove adds, and what is left to add, is no more than was left before, with the
     -- rises that the step writes
     remove_keeps : (run : _) (stage : RemoveStage) (old : ℕ) → Keeps (Remove (record run { call = record run.call { stage = stage } })) old
-    remove_keeps run (removes.Hides count state) old =
-        let wrote = hidden_writes T p run.given.index (old == count) in omega arith
+    remove_keeps run (removes.Hides count state) old = omega (arith, hidden_writes T p run.given.index (old == count))
     remove_keeps run (removes.AddsChange state) old = omega arith
     remove_keeps run stage old =
         let r = record run { call = record run.call { stage = stage } } in
-        let leads = remove_leads T r.given r.room (remove_after r.call r.given old) in
-        omega arith
+        omega (arith, remove_leads T r.given r.room (remove_after r.call r.given old))
 
     recover_keeps : (run : _) (stage : RecoverStage) (old : ℕ) → Keeps (Recover (record run { call = record run.call { stage = stage } })) old
     recover_keeps run stage old = grind arith
@@ -467,9 +461,9 @@ module _ {T : Type 0} where
     keeps (Remove run) old = remove_keeps run run.call.stage old
     keeps (Recover run) old = recover_keeps run run.call.stage old
     keeps (Find run) old = let leads = find_leads run.given in grind arith
-    keeps (Look which call) old = let leads = looks_lead code which call state old in omega arith
+    keeps (Look which call) old = omega (arith, looks_lead code which call state old)
     keeps (Count which run) old =
-        let leads = count_leads T which run.given run.room run.call (count_after run.call.capacity run.call.count old) in omega arith
+        omega (arith, count_leads T which run.given run.room run.call (count_after run.call.capacity run.call.count old))
     keeps (IsLocked run) old = grind arith
 
   -- ---- a begin

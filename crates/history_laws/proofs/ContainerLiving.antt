@@ -159,9 +159,9 @@ module _ {T : Type 0} (code : Coding T) (c : ℕ) (t : Trace T) (s : Sound code 
   next_right p (Some x) found = go x.doing refl
     where
       go : (doing : Doing T) → x.doing ≡ doing → is_for_gone t.events (flight_of (Some doing)) ≡ false
-      go (Over others) d = refl
-      go (Going flight since) d =
-          let there = stands_there (family_by (terms code c) code c) t s p x since flight found d in
+      go (Over others) same_doing = refl
+      go (Going flight since) same_doing =
+          let there = stands_there (family_by (terms code c) code c) t s p x since flight found same_doing in
           by_name p (set_acts_of p s.state.events) (acts_of p s.state.events) _ x.start flight there.at there.span
 
   pub steps_right : (turn : Turn T) → steps_for_gone t turn ≡ false

@@ -16,25 +16,18 @@ use Rattle.laws_robust.specs.Gone.{Word, gone_after, is_gone}
 use Rattle.history_laws.specs.Containers.{BeginsRight, IsFaithful, IsWellFormed, recovery, recoveries, removal, removals}
 
 module _ {T : Type 0} (f : Event T → ℕ) where
-  -- of a sum that is 0
+  -- no event adds to a sum that is 0
   here : (events before after : List (Event T)) (e : Event T) → events ≡ before ++ e ∷ after → sum_by f events ≡ 0 → f e ≡ 0
-  here events before after e is none =
-      let all = sum_by-append f before (e ∷ after) in
-      let one = sum_by-cons f e after in
-      let same = ap (sum_by f) is in
-      omega arith
+  here events before after e is none = omega (arith, sum_by-append f before (e ∷ after), sum_by-cons f e after, ap (sum_by f) is)
 
   earlier : (events before after : List (Event T)) → events ≡ before ++ after → sum_by f events ≡ 0 → sum_by f before ≡ 0
-  earlier events before after is none =
-      let all = sum_by-append f before after in
-      let same = ap (sum_by f) is in
-      omega arith
+  earlier events before after is none = omega (arith, sum_by-append f before after, ap (sum_by f) is)
 
   later : (e : Event T) (es : List (Event T)) → sum_by f (e ∷ es) ≡ 0 → sum_by f es ≡ 0
-  later e es none = let one = sum_by-cons f e es in omega arith
+  later e es none = omega (arith, sum_by-cons f e es)
 
   first : (e : Event T) (es : List (Event T)) → sum_by f (e ∷ es) ≡ 0 → f e ≡ 0
-  first e es none = let one = sum_by-cons f e es in omega arith
+  first e es none = omega (arith, sum_by-cons f e es)
 
 module _ {T : Type 0} where
   -- ---- nobody is gone

@@ -76,7 +76,7 @@ module _ {T : Type 0} where
     pub fits : word_at n t + sum_below (lifts_at t) seats ≤ rises t.events
 
   pub word_raised : (n : ℕ) (t : Trace T) → Raised n t → word_at n t ≤ rises t.events
-  word_raised n t r = let fits = r.fits in omega arith
+  word_raised n t r = omega (arith, r.fits)
 
   -- what a turn of a party owes
   record Owes (n : ℕ) (old new : Trace T) (p : ℕ) (es : List (Event T)) : Type 0 where
@@ -84,8 +84,7 @@ module _ {T : Type 0} where
     pub others : (q : ℕ) → q ≢ p → flight_in new.world q ≡ flight_in old.world q
     pub pays : word_at n new + lifts_at new p ≤ word_at n old + lifts_at old p + rises es
 
-  -- the turn of party p leads from old to new and writes es, n is the word; seats counts the
-  -- parties after it
+  -- the turn of party p leads from old to new and writes es, n is the word; seats counts the parties after it
   module _ (n : ℕ) (old new : Trace T) (p : ℕ) (es : List (Event T)) (owes : Owes n old new p es) (r : Raised n old) where
     abbrev seats : ℕ
     seats = r.seats + (p + 1)
@@ -96,8 +95,7 @@ module _ {T : Type 0} where
     differ : sum_below (lifts_at new) seats + lifts_at old p ≡ sum_below (lifts_at old) r.seats + lifts_at new p
     differ =
         let moves = sum_moved (lifts_at new) (lifts_at old) seats p (omega arith) (λ i ne. ap lifts_of (owes.others i ne)) in
-        let long = longer in
-        omega arith
+        omega (arith, longer)
 
     beyond : (q : ℕ) → seats ≤ q → flight_in new.world q ≡ None
     beyond q far = owes.others q (λ e. absurd (omega arith)) ∙ r.beyond q (omega arith)
@@ -110,11 +108,8 @@ module _ {T : Type 0} where
           seats = seats;
           beyond = beyond;
           fits =
-              let pays = owes.pays in
-              let was = r.fits in
-              let moves = differ in
               let more : rises new.events ≡ rises old.events + rises es = ap rises owes.events ∙ rises_more old.events es in
-              omega arith;
+              omega (arith, owes.pays, r.fits, differ);
         }
 
   raised_same : (n : ℕ) (t : Trace T) → Raised n t → Raised n record { world = t.world; events = t.events ++ [] }
@@ -156,7 +151,7 @@ module _ {T : Type 0} where
     then_is = ap (λ o. flight_of (doing_of o)) (party_put_same p _ t.world.latest) ∙ doing_is _ _ s.after
 
     wrote_more : rises s.wrote ≤ rises (events_of_step p x.start s)
-    wrote_more = let more = rises_more s.wrote (ending_of p x.start (answer_in s.after)) in omega arith
+    wrote_more = omega (arith, rises_more s.wrote (ending_of p x.start (answer_in s.after)))
 
     -- a step that pays makes a turn that pays
     step_owes : Owes n t new p (events_of_step p x.start s)
@@ -165,11 +160,7 @@ module _ {T : Type 0} where
           events = refl;
           others = λ q ne. ap (λ o. flight_of (doing_of o)) (party_put_other q p _ t.world.latest ne);
           pays =
-              (let keeps = pays.pays in
-              let before = ap lifts_of was in
-              let after = ap lifts_of then_is in
-              let more = wrote_more in
-              omega arith);
+              omega (arith, pays.pays, ap lifts_of was, ap lifts_of then_is, wrote_more);
         }
 
   -- ---- a begin
@@ -188,7 +179,7 @@ module _ {T : Type 0} where
         record {
           events = refl;
           others = λ q ne. ap (λ o. flight_of (doing_of o)) (party_put_other q p _ t.world.latest ne);
-          pays = (let after = ap lifts_of begun_is in omega arith);
+          pays = omega (arith, ap lifts_of begun_is);
         }
 
 -- ---- a step of a container's call, as one of any family
@@ -205,18 +196,14 @@ module _ {T : Type 0} (code : Coding T) (c : ℕ) where
 
   module _ (n : ℕ) (words : List ℕ) (p : ℕ) (dead : List ℕ) (states : List (ℕ × ContainerState T)) (flight : ContainerFlight T) where
     writes : (old : ℕ) → rises (calls.effects code p (state_of p states) flight old) ≤ rises (any_step p flight old dead states).wrote
-    writes old =
-        let more = rises_more (calls.effects code p (state_of p states) flight old) (calls.questions p flight old) in omega arith
+    writes old = omega (arith, rises_more (calls.effects code p (state_of p states) flight old) (calls.questions p flight old))
 
     -- a question that a call hears the answer of raises nothing that is not paid for
     decided : (old : ℕ) → PaysBy n words (flights.Container flight) None (any_step p flight old dead states)
     decided old =
         record {
           pays =
-              (let kept = keeps code p (state_of p states) flight old in
-              let left = any_left (after code (state_of p states) flight old) in
-              let wrote = writes old in
-              omega arith);
+              omega (arith, keeps code p (state_of p states) flight old, any_left (after code (state_of p states) flight old), writes old);
         }
 
     module _ (inside : n < length words) (past : 1 + c ≤ n) (before : n < 2 + (c + c)) (within : IsWithin c flight) where
@@ -228,11 +215,13 @@ module _ {T : Type 0} (code : Coding T) (c : ℕ) where
       stepped_so =
           record {
             pays =
-                (let kept = keeps code p (state_of p states) flight (old_of words wanted) in
-                let left = any_left (after code (state_of p states) flight (old_of words wanted)) in
-                let wrote = writes (old_of words wanted) in
-                let lifted = container_lift words n inside code c past before flight within in
-                omega arith);
+                omega (
+                  arith,
+                  keeps code p (state_of p states) flight (old_of words wanted),
+                  any_left (after code (state_of p states) flight (old_of words wanted)),
+                  writes (old_of words wanted),
+                  container_lift words n inside code c past before flight within,
+                );
           }
 
 -- ---- a begin, as one of any family
@@ -251,8 +240,7 @@ module _ {T : Type 0} where
 
 -- ---- a turn
 
--- n is one of the words of changes and of elements' numbers of a sound trace t of a container of
--- capacity c
+-- n is one of the words of changes and of elements' numbers of a sound trace t of a container of capacity c
 module _ {T : Type 0} (code : Coding T) (c : ℕ) (t : Trace T) (s : Sound code c t) (n : ℕ) (past : 1 + c ≤ n) (before : n < 2 + (c + c)) where
   abbrev ws : List ℕ
   ws = t.world.words
@@ -264,10 +252,7 @@ module _ {T : Type 0} (code : Coding T) (c : ℕ) (t : Trace T) (s : Sound code 
   PaysIn z p ask answer kept start flight = PaysBy n ws flight ask (step_of z ws (beside_of ws kept t.world.latest p) p start flight answer kept)
 
   inside : n < length ws
-  inside =
-      let wide = s.holds.elements.wide in
-      let same = ap length s.fit.words in
-      omega arith
+  inside = omega (arith, s.holds.elements.wide, ap length s.fit.words)
 
   -- the step of a call of the container that stands where it may pays for what it raises
   pays_in : (p : ℕ) (all : List SetAct) (done : List (Act T)) (start : Start T) (flight : Flight T)
@@ -310,12 +295,11 @@ module _ {T : Type 0} (code : Coding T) (c : ℕ) (t : Trace T) (s : Sound code 
     answered : (p : ℕ) (x : Party T) (ask : Option Ask) (answer : ℕ) (doing : Doing T) → party_of p t.world.latest ≡ Some x → x.doing ≡ doing
         → ((flight : Flight T) (since : ℕ) → doing ≡ Going flight since → PaysBy n ws flight ask (step_in t.world p x flight answer))
         → Raised n record { world = after_answer t.world p x ask answer doing; events = t.events ++ events_of_answer t.world p x answer doing }
-    answered p x ask answer (Over others) found d pays = raised_same n t r
-    answered p x ask answer (Going flight since) found d pays =
-        raised_on n t _ p _ (step_owes n t p x flight since ask answer found d (pays flight since refl)) r
+    answered p x ask answer (Over others) found same_doing pays = raised_same n t r
+    answered p x ask answer (Going flight since) found same_doing pays =
+        raised_on n t _ p _ (step_owes n t p x flight since ask answer found same_doing (pays flight since refl)) r
 
-    -- with a turn that goes on with a call, or does nothing, the word stays within what the
-    -- history lets it rise
+    -- with a turn that goes on with a call, or does nothing, the word stays within what the history lets it rise
     nexts : (p : ℕ) (o : Option (Party T)) → party_of p t.world.latest ≡ o
         → Raised n record { world = after_next t.world p o; events = t.events ++ events_of_next t.world p o }
     nexts p None found = raised_same n t r

@@ -25,13 +25,10 @@ module _ {T : Type 0} (code : Coding T) (capacity : ℕ) (events : List (Event T
   pub conserved : (place : ℕ) → counts place events ≡ takes place events + count_at place events
   conserved place =
       let all = machine.conserved place in
-      let sum = all.1 in
-      let c = ap (counts place) h.is in
-      let t = ap (takes place) h.is in
-      omega arith
+      omega (arith, all.1, ap (counts place) h.is, ap (takes place) h.is)
 
   pub within : (place : ℕ) → capacity ≤ place → counts place events ≡ 0
-  within place past = ap (counts place) h.is ∙ machine.within place (let same = h.run.sized in omega arith)
+  within place past = ap (counts place) h.is ∙ machine.within place (omega (arith, h.run.sized))
 
   pub answers : Each (CountsAnswerOn capacity) events
   answers =

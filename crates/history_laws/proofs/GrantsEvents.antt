@@ -77,27 +77,27 @@ module _ {T : Type 0} (i : ℕ) where
   module _ (c : ℕ) where
     container_fills : (p j o : ℕ) (span : Span T) → Stands container.promise c (Filled p j o) span
         → claim i (longer span (Filled p j o)) ≡ here i j (Filling o)
-    container_fills p j o span h = grind (arith, flat_map-append)
+    container_fills p j o span stands = grind (arith, flat_map-append)
 
     robust_fills : (p j o : ℕ) (span : Span T) → Stands robust.promise c (Filled p j o) span
         → claim i (longer span (Filled p j o)) ≡ here i j (Filling o)
-    robust_fills p j o span h = grind (arith, flat_map-append)
+    robust_fills p j o span stands = grind (arith, flat_map-append)
 
     container_grants : (p j o : ℕ) (span : Span T) → Stands container.promise c (Granted p j o) span
         → (claim i span ≡ here i j (Filling o)) × (claim i (longer span (Granted p j o)) ≡ here i j (Held o))
-    container_grants p j o span h = grind (arith, flat_map-append)
+    container_grants p j o span stands = grind (arith, flat_map-append)
 
     robust_grants : (p j o : ℕ) (span : Span T) → Stands robust.promise c (Granted p j o) span
         → (claim i span ≡ here i j (Filling o)) × (claim i (longer span (Granted p j o)) ≡ here i j (Held o))
-    robust_grants p j o span h = grind (arith, flat_map-append)
+    robust_grants p j o span stands = grind (arith, flat_map-append)
 
     container_frees : (p j o : ℕ) (span : Span T) → Stands container.promise c (FreedOf p j o) span
         → claim i (longer span (FreedOf p j o)) ≡ Apart
-    container_frees p j o span h = grind (arith, flat_map-append)
+    container_frees p j o span stands = grind (arith, flat_map-append)
 
     robust_frees : (p j o : ℕ) (span : Span T) → Stands robust.promise c (FreedOf p j o) span
         → claim i (longer span (FreedOf p j o)) ≡ Apart
-    robust_frees p j o span h = grind (arith, flat_map-append)
+    robust_frees p j o span stands = grind (arith, flat_map-append)
 
     abbrev OneOf : ℕ → ℕ → ℕ → List (Event T) → Span T → Type 0
     OneOf p j o before span =
@@ -108,55 +108,56 @@ module _ {T : Type 0} (i : ℕ) where
     -- its owner might, or nobody is at the index
     container_one : (p j o : ℕ) (before : List (Event T)) (span : Span T) → Stands container.promise c (FreedOf p j o) span
         → MayFree p j before span → OneOf p j o before span
-    container_one p j o before (Open (Container (containers.Remove k owner mode)) wrote) h may =
-        inl (grind arith, subst (λ n. SinceBegin p (λ part since. settled_of j part ≡ Some n) before) (sym h.1) may)
-    container_one p j o before (Open (Container (containers.Recover owner mode)) wrote) h may = inr may
-    container_one p j o before span h may = absurd h
+    container_one p j o before (Open (Container (containers.Remove k owner mode)) wrote) stands may =
+        inl (grind arith, subst (λ n. SinceBegin p (λ part since. settled_of j part ≡ Some n) before) (sym stands.1) may)
+    container_one p j o before (Open (Container (containers.Recover owner mode)) wrote) stands may = inr may
+    container_one p j o before span stands may = absurd stands
 
     -- of a robust set: who frees an index and may is a release that was to give it back, begun
     -- where its owner might, or nobody is at the index
     robust_one : (p j o : ℕ) (before : List (Event T)) (span : Span T) → Stands robust.promise c (FreedOf p j o) span
         → MayFree p j before span → OneOf p j o before span
-    robust_one p j o before (Open (Robust (robusts.Release k owner mode)) wrote) h may =
-        inl (grind arith, subst (λ n. SinceBegin p (λ part since. settled_of j part ≡ Some n) before) (sym h.1) may)
-    robust_one p j o before (Open (Robust (robusts.Recover mode)) wrote) h may = inr may
-    robust_one p j o before span h may = absurd h
+    robust_one p j o before (Open (Robust (robusts.Release k owner mode)) wrote) stands may =
+        inl (grind arith, subst (λ n. SinceBegin p (λ part since. settled_of j part ≡ Some n) before) (sym stands.1) may)
+    robust_one p j o before (Open (Robust (robusts.Recover mode)) wrote) stands may = inr may
+    robust_one p j o before span stands may = absurd stands
 
     container_ends : (p j o : ℕ) (value : T) (span : Span T)
         → Stands container.promise c (Finished p (Container (containers.Add value o)) (Index j)) span → claim i span ≡ here i j (Held o)
-    container_ends p j o value span h = grind arith
+    container_ends p j o value span stands = grind arith
 
     container_ends_none : (p j o : ℕ) (span : Span T)
         → Stands {T = T} container.promise c (Finished p (Robust (robusts.Acquire o)) (Index j)) span → ⊥
-    container_ends_none p j o span h = grind arith
+    container_ends_none p j o span stands = grind arith
 
     robust_ends : (p j o : ℕ) (span : Span T)
         → Stands {T = T} robust.promise c (Finished p (Robust (robusts.Acquire o)) (Index j)) span → claim i span ≡ here i j (Held o)
-    robust_ends p j o span h = grind arith
+    robust_ends p j o span stands = grind arith
 
     robust_ends_none : (p j o : ℕ) (value : T) (span : Span T)
         → Stands robust.promise c (Finished p (Container (containers.Add value o)) (Index j)) span → ⊥
-    robust_ends_none p j o value span h = grind arith
+    robust_ends_none p j o value span stands = grind arith
 
     -- a container's promise of how calls stand says so of each event
     pub container_says : (before : List (Event T)) (e : Event T) → StandsRight container.promise c before e → Says before e
-    container_says before (Filled p j o) h = container_fills p j o (span_of p before) h
-    container_says before (Granted p j o) h = container_grants p j o (span_of p before) h
-    container_says before (FreedOf p j o) h =
-        (container_frees p j o (span_of p before) h, λ may. container_one p j o before (span_of p before) h may)
-    container_says before (Finished p (Robust (robusts.Acquire o)) (Index j)) h = absurd (container_ends_none p j o (span_of p before) h)
-    container_says before (Finished p (Container (containers.Add value o)) (Index j)) h = container_ends p j o value (span_of p before) h
-    container_says before e h = tt
+    container_says before (Filled p j o) stands_right = container_fills p j o (span_of p before) stands_right
+    container_says before (Granted p j o) stands_right = container_grants p j o (span_of p before) stands_right
+    container_says before (FreedOf p j o) stands_right =
+        (container_frees p j o (span_of p before) stands_right, λ may. container_one p j o before (span_of p before) stands_right may)
+    container_says before (Finished p (Robust (robusts.Acquire o)) (Index j)) stands_right = absurd (container_ends_none p j o (span_of p before) stands_right)
+    container_says before (Finished p (Container (containers.Add value o)) (Index j)) stands_right = container_ends p j o value (span_of p before) stands_right
+    container_says before e stands_right = tt
 
     -- a robust set's promise of how calls stand says so of each event
     pub robust_says : (before : List (Event T)) (e : Event T) → StandsRight robust.promise c before e → Says before e
-    robust_says before (Filled p j o) h = robust_fills p j o (span_of p before) h
-    robust_says before (Granted p j o) h = robust_grants p j o (span_of p before) h
-    robust_says before (FreedOf p j o) h =
-        (robust_frees p j o (span_of p before) h, λ may. robust_one p j o before (span_of p before) h may)
-    robust_says before (Finished p (Robust (robusts.Acquire o)) (Index j)) h = robust_ends p j o (span_of p before) h
-    robust_says before (Finished p (Container (containers.Add value o)) (Index j)) h = absurd (robust_ends_none p j o value (span_of p before) h)
-    robust_says before e h = tt
+    robust_says before (Filled p j o) stands_right = robust_fills p j o (span_of p before) stands_right
+    robust_says before (Granted p j o) stands_right = robust_grants p j o (span_of p before) stands_right
+    robust_says before (FreedOf p j o) stands_right =
+        (robust_frees p j o (span_of p before) stands_right, λ may. robust_one p j o before (span_of p before) stands_right may)
+    robust_says before (Finished p (Robust (robusts.Acquire o)) (Index j)) stands_right = robust_ends p j o (span_of p before) stands_right
+    robust_says before (Finished p (Container (containers.Add value o)) (Index j)) stands_right =
+        absurd (robust_ends_none p j o value (span_of p before) stands_right)
+    robust_says before e stands_right = tt
 
   -- ---- what an event makes of a claim
 
@@ -249,7 +250,7 @@ module _ {T : Type 0} (i : ℕ) where
     StaysBy e q = (claims_then e q ≡ Apart) ⊎ ((claims_then e q ≡ claims q) × ((o : ℕ) → Began (events ++ e ∷ []) q o → Began events q o))
 
     went_on : (e : Event T) (q : ℕ) → BeginsNone q (e ∷ []) → (o : ℕ) → Began (events ++ e ∷ []) q o → Began events q o
-    went_on e q none o h = since_less q (λ part. settled_of i part ≡ Some o) events (e ∷ []) none h
+    went_on e q none o began = since_less q (λ part. settled_of i part ≡ Some o) events (e ∷ []) none began
 
     others : (p : ℕ) (e : Event T) → whose e ≡ Some p → (q : ℕ) → q ≢ p → StaysBy e q
     others p e is q ne = inr (ap (claim i) (other_span p q e (span_of q events) is ne), went_on e q (begins_none p q e is ne))
@@ -271,7 +272,7 @@ module _ {T : Type 0} (i : ℕ) where
     quietly : (e : Event T) → ((q : ℕ) → StaysBy e q) → Good filled holder settled right (claims_then e) (Began (events ++ e ∷ []))
     quietly e stays = quiet filled holder settled right claims (claims_then e) (Began events) (Began (events ++ e ∷ [])) g stays
 
-    -- where it is none of this index
+    -- an event about another index leaves each claim
     elsewhere : (p j : ℕ) (e : Event T) (to : Claim) → whose e ≡ Some p → (j == i) ≡ false → claim i (own_after (span_of p events) e) ≡ here i j to
         → (q : ℕ) → StaysBy e q
     elsewhere p j e to is other h = all_stay p e is (inl (mine_then p e Apart is (h ∙ ap (λ b. if b then to else Apart) other)))

@@ -12,23 +12,22 @@ use Rattle.laws_robust.proofs.OpenRuns as robust
 use Rattle.history_laws.specs.Grants.{IsFreedRight, IsHeldByOne, freeing, times_freed}
 use Rattle.history_laws.proofs.GrantsEvents.{container_held, set_held}
 
--- in a history of a robust set in which each that freed an index might, it was granted only where
--- nobody held it
+-- in a history of a robust set in which each that freed an index might, it was granted only where nobody held it
 pub set_grants : (index capacity : ℕ) (events : List (Event ℕ)) → IsHistory one_word kinds.Robust capacity events → IsFreedRight index events
     → IsHeldByOne index events
-set_grants index capacity events h freed =
-    let s = robust.reached_open_sound h.trace h.run.of_kind h.run.reached in
-    subst (IsHeldByOne index) (sym h.is)
-    (set_held index h.trace.world.capacity h.trace.events s.holds.good.does s.inv.spans (subst (IsFreedRight index) h.is freed))
+set_grants index capacity events history freed =
+    let is_sound = robust.reached_open_sound history.trace history.run.of_kind history.run.reached in
+    subst (IsHeldByOne index) (sym history.is)
+    (set_held index history.trace.world.capacity history.trace.events is_sound.holds.good.does is_sound.inv.spans (subst (IsFreedRight index) history.is freed))
 
--- in a history of a container in which each that freed an index might, it was granted only where
--- nobody held it
+-- in a history of a container in which each that freed an index might, it was granted only where nobody held it
 pub container_grants : {T : Type 0} (index : ℕ) (code : Coding T) (capacity : ℕ) (events : List (Event T)) → IsHistory code kinds.Container capacity events
     → IsFreedRight index events → IsHeldByOne index events
-container_grants index code capacity events h freed =
-    let s = container.reached_open_sound h.trace h.run.of_kind h.run.reached in
-    subst (IsHeldByOne index) (sym h.is)
-    (container_held index h.trace.world.capacity h.trace.events s.holds.good.does s.inv.spans (subst (IsFreedRight index) h.is freed))
+container_grants index code capacity events history freed =
+    let is_sound = container.reached_open_sound history.trace history.run.of_kind history.run.reached in
+    subst (IsHeldByOne index) (sym history.is)
+    (container_held index history.trace.world.capacity history.trace.events is_sound.holds.good.does
+    is_sound.inv.spans (subst (IsFreedRight index) history.is freed))
 
 -- where it was never freed, each that freed it might
 pub never_freed : {T : Type 0} (i : ℕ) (events : List (Event T)) → times_freed i events ≡ 0 → IsFreedRight i events

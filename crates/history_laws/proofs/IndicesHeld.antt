@@ -49,8 +49,7 @@ module _ {T : Type 0} where
         by_bool (index == i)
         (λ t.
         let same : index ≡ i = is_number index i t in
-        let low = right.0 in
-        absurd (omega arith))
+        absurd (omega (arith, right.0)))
         (λ t. rw t none)
     behind i past (Freed p index) right none = by_bool (index == i) (λ t. rw t refl) (λ t. rw t none)
     behind i past e right none = none
@@ -62,18 +61,16 @@ module _ {T : Type 0} where
     counts_on past so (Claimed p index) right =
         let others : (i : ℕ) → i ≢ index → held_then (Claimed p index) i ≡ is_held before i =
         λ i ne. (let t : (index == i) ≡ false = other_number index i (λ same. ne (sym same)) in rw t refl) in
-        let moved = sum_moved (held_then (Claimed p index)) (is_held before) c index right.0 others in
         let none : is_held before index ≡ 0 = ap (λ (o : Option ℕ). one_if (is_some o)) right.1 in
         let one : held_then (Claimed p index) index ≡ 1 = (let t = same_number index in rw t refl) in
-        omega arith
+        omega (arith, sum_moved (held_then (Claimed p index)) (is_held before) c index right.0 others)
     counts_on past so (Freed p index) right =
         let low : index < c = ⊎_elim (λ less. less) (λ more. (let none = past index more in absurd (cc))) (cases_lt index c) in
         let others : (i : ℕ) → i ≢ index → held_then (Freed p index) i ≡ is_held before i =
         λ i ne. (let t : (index == i) ≡ false = other_number index i (λ same. ne (sym same)) in rw t refl) in
-        let moved = sum_moved (held_then (Freed p index)) (is_held before) c index low others in
         let some : is_held before index ≡ 1 = ap (λ (o : Option ℕ). one_if (is_some o)) right in
         let none : held_then (Freed p index) index ≡ 0 = (let t = same_number index in rw t refl) in
-        omega arith
+        omega (arith, sum_moved (held_then (Freed p index)) (is_held before) c index low others)
     counts_on past so (Begun p start) right = begun_still (tally_of before) p start ∙ so
     counts_on past so (Finished p start answer) right = finished_still (tally_of before) p start answer ∙ so
     counts_on past so e right = so
@@ -87,8 +84,7 @@ module _ {T : Type 0} where
         (λ h rest e at none. fold-append (holder_after i) None h (e ∷ []) ∙ behind c h i past e (each h rest e at) none)
         refl before after is
 
-    -- at each moment the number that is counted from event to event is that of the indices that
-    -- somebody holds
+    -- at each moment the number that is counted from event to event is that of the indices that somebody holds
     counted : (before after : List (Event T)) → events ≡ before ++ after → (tally_of before).held ≡ sum_below (is_held before) c
     counted =
         along events (λ h. (tally_of h).held ≡ sum_below (is_held h) c)

@@ -41,43 +41,44 @@ module _ {T : Type 0} where
 
     -- an index is claimed once more than it is freed where it has a holder
     moves : (e : Event T) → HoldsRight c before e → claims i e + held_once i before ≡ frees i e + after e
-    moves (Claimed p index) h =
+    moves (Claimed p index) holds_right =
         by_bool (index == i)
         (λ t.
-        let none : held_once i before ≡ 0 = ap (λ (o : Option ℕ). one_if (is_some o)) (subst (λ n. holder_of n before ≡ None) (is_number index i t) h.1) in
+        let none : held_once i before ≡ 0 =
+        ap (λ (o : Option ℕ). one_if (is_some o)) (subst (λ n. holder_of n before ≡ None) (is_number index i t) holds_right.1) in
         rw t (omega arith))
         (λ t. rw t refl)
-    moves (Freed p index) h =
+    moves (Freed p index) holds_right =
         by_bool (index == i)
         (λ t.
-        let some : held_once i before ≡ 1 = ap (λ (o : Option ℕ). one_if (is_some o)) (subst (λ n. holder_of n before ≡ Some p) (is_number index i t) h) in
+        let some : held_once i before ≡ 1 =
+        ap (λ (o : Option ℕ). one_if (is_some o)) (subst (λ n. holder_of n before ≡ Some p) (is_number index i t) holds_right) in
         rw t (omega arith))
         (λ t. rw t (omega arith))
-    moves e h = refl
+    moves e holds_right = refl
 
     -- no index behind the last is claimed
     behind : c ≤ i → (e : Event T) → HoldsRight c before e → claims i e ≡ 0
-    behind past (Claimed p index) h =
+    behind past (Claimed p index) holds_right =
         by_bool (index == i)
         (λ t.
         let same : index ≡ i = is_number index i t in
-        let low = h.0 in
-        absurd (omega arith))
+        absurd (omega (arith, holds_right.0)))
         (λ t. rw t refl)
-    behind past e h = refl
+    behind past e holds_right = refl
 
     -- none is claimed where the set is locked
     unclaimed : is_locked before ≡ true → (e : Event T) → HoldsRight c before e → claims i e ≡ 0
-    unclaimed shut (Claimed p index) h = let open_is = h.2 in absurd (cc)
-    unclaimed shut e h = refl
+    unclaimed shut (Claimed p index) holds_right = let open_is = holds_right.2 in absurd (cc)
+    unclaimed shut e holds_right = refl
 
     -- nobody holds an index of a set that is locked
     unheld : (is_locked before ≡ true → holder_of i before ≡ None) → (e : Event T) → HoldsRight c before e
         → locked_after (is_locked before) e ≡ true → holder_after i (holder_of i before) e ≡ None
-    unheld none (Locked p) h shut = h.0 i
-    unheld none (Claimed p index) h shut = let open_is = h.2 in absurd (cc)
-    unheld none (Freed p index) h shut = by_bool (index == i) (λ t. rw t refl) (λ t. rw t (none shut))
-    unheld none e h shut = none shut
+    unheld none (Locked p) holds_right shut = holds_right.0 i
+    unheld none (Claimed p index) holds_right shut = let open_is = holds_right.2 in absurd (cc)
+    unheld none (Freed p index) holds_right shut = by_bool (index == i) (λ t. rw t refl) (λ t. rw t (none shut))
+    unheld none e holds_right shut = none shut
 
   -- ---- all events
 
@@ -96,22 +97,21 @@ module _ {T : Type 0} where
     unclaimed_since i before [] is shut = refl
     unclaimed_since i before (e ∷ es) is shut =
         let later : is_locked (before ++ e ∷ []) ≡ true = locked_later before (e ∷ []) shut in
-        let rest = unclaimed_since i (before ++ e ∷ []) es (is ∙ sym (append_assoc before (e ∷ []) es)) later in
-        let here = unclaimed c i before shut e (each before es e is) in
-        let sum = sum_by-cons (claims i) e es in
-        omega arith
+        omega (
+          arith,
+          unclaimed_since i (before ++ e ∷ []) es (is ∙ sym (append_assoc before (e ∷ []) es)) later,
+          unclaimed c i before shut e (each before es e is),
+          sum_by-cons (claims i) e es,
+        )
 
     -- an index was claimed as often as freed, and once more where it has a holder
     adds_up : (i : ℕ) → sum_by (claims i) events ≡ sum_by (frees i) events + held_once i events
     adds_up i =
         along events (λ h. sum_by (claims i) h ≡ sum_by (frees i) h + held_once i h)
         (λ h rest e at so. (
-        let claimed = sum_by_push (claims i) h e in
-        let freed = sum_by_push (frees i) h e in
-        let moved = moves c i h e (each h rest e at) in
         let held : held_once i (h ++ e ∷ []) ≡ one_if (is_some (holder_after i (holder_of i h) e)) =
         ap (λ (o : Option ℕ). one_if (is_some o)) (fold-append (holder_after i) None h (e ∷ [])) in
-        omega arith))
+        omega (arith, sum_by_push (claims i) h e, sum_by_push (frees i) h e, moves c i h e (each h rest e at))))
         refl events [] (sym (append-nil events))
 
     -- an index behind the last was never claimed
@@ -119,9 +119,7 @@ module _ {T : Type 0} where
     none_behind i past =
         along events (λ h. sum_by (claims i) h ≡ 0)
         (λ h rest e at none. (
-        let sum = sum_by_push (claims i) h e in
-        let here = behind c i h past e (each h rest e at) in
-        omega arith))
+        omega (arith, sum_by_push (claims i) h e, behind c i h past e (each h rest e at))))
         refl events [] (sym (append-nil events))
 
   own_one : (p : ℕ) (f : Event T → ℕ) (e : Event T) (o : Option ℕ)
@@ -133,11 +131,7 @@ module _ {T : Type 0} where
   own_sum : (p : ℕ) (f : Event T → ℕ) (events : List (Event T)) → sum_by f (events_by p events) ≡ sum_by (owned (λ q. q) p f) events
   own_sum p f [] = refl
   own_sum p f (e ∷ es) =
-      let rest = own_sum p f es in
-      let both = sum_by-append f (own_of p e) (events_by p es) in
-      let one = sum_by-cons (owned (λ q. q) p f) e es in
-      let first = own_one p f e (whose e) in
-      omega arith
+      omega (arith, own_sum p f es, sum_by-append f (own_of p e) (events_by p es), sum_by-cons (owned (λ q. q) p f) e es, own_one p f e (whose e))
 
 -- ---- the laws
 
@@ -165,13 +159,13 @@ module _ {T : Type 0} (code : Coding T) (capacity : ℕ) (events : List (Event T
   did_so : (before : List (Event T)) (e : Event T) → StandsRight promise h.trace.world.capacity before e → DidAsAnswered before e
   did_so before (Finished p (Indices start) answer) right =
       let under = open_for (Indices start) (λ wrote. done_by start answer ≡ Some (set_acts wrote)) (span_of p before) right in
-      let s : IsSince p (Indices start) under.wrote before = since_of p before (Indices start) under.wrote under.is in
+      let since_now : IsSince p (Indices start) under.wrote before = since_of p before (Indices start) under.wrote under.is in
       record {
-        before = s.before;
-        since = s.since;
-        is = s.is;
-        within = s.within;
-        did = under.holds ∙ ap (λ (es : List (Event T)). Some (set_acts es)) (sym s.own);
+        before = since_now.before;
+        since = since_now.since;
+        is = since_now.is;
+        within = since_now.within;
+        did = under.holds ∙ ap (λ (es : List (Event T)). Some (set_acts es)) (sym since_now.own);
       }
   did_so before e right = tt
 
@@ -198,8 +192,8 @@ module _ {T : Type 0} (code : Coding T) (capacity : ℕ) (events : List (Event T
 
   pub sole : (p i : ℕ) → Holds i (events_by p events) → holder_of i events ≡ Some p
   sole p i once =
-      let by = held_by (λ q. q) p capacity i events (events_by p events) holds (λ f. own_sum p f events) once in
-      by.2 ∙ ap Some by.1
+      let by_this_party = held_by (λ q. q) p capacity i events (events_by p events) holds (λ f. own_sum p f events) once in
+      by_this_party.2 ∙ ap Some by_this_party.1
 
   pub counted : (before after : List (Event T)) → events ≡ before ++ after → (tally_of before).held ≡ held_below capacity before
   counted before after is = held_is capacity events holds before after is

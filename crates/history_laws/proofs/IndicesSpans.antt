@@ -32,34 +32,32 @@ module _ {T : Type 0} (p : ℕ) where
   -- ---- one event more
 
   module _ (events : List (Event T)) (e : Event T) (none : BeginsNone p (e ∷ [])) where
-    -- with an event more that begins no call of the party, its latest call still stands in the
-    -- events
+    -- with an event more that begins no call of the party, its latest call still stands in the events
     further : (start : Start T) (wrote : List (Event T)) → IsSince start wrote events → IsSince start (wrote ++ own_of p e) (events ++ e ∷ [])
-    further start wrote s =
+    further start wrote is_since =
         record {
-          before = s.before;
-          since = s.since ++ e ∷ [];
-          is = ap (λ xs. xs ++ e ∷ []) s.is ∙ append_assoc s.before (Begun p start ∷ s.since) (e ∷ []);
-          within = begins_none_more p s.since (e ∷ []) s.within none;
-          own = by_more p s.since (e ∷ []) ∙ (ap (λ xs. xs ++ (own_of p e ++ [])) s.own ∙ ap (λ xs. wrote ++ xs) (append-nil (own_of p e)));
+          before = is_since.before;
+          since = is_since.since ++ e ∷ [];
+          is = ap (λ xs. xs ++ e ∷ []) is_since.is ∙ append_assoc is_since.before (Begun p start ∷ is_since.since) (e ∷ []);
+          within = begins_none_more p is_since.since (e ∷ []) is_since.within none;
+          own = by_more p is_since.since (e ∷ []) ∙ (ap (λ xs. xs ++ (own_of p e ++ [])) is_since.own ∙ ap (λ xs. wrote ++ xs) (append-nil (own_of p e)));
         }
 
-    -- of another party
+    -- an event of another party leaves what the span tells
     still : own_of p e ≡ [] → (span : Span T) → Tells events span → Tells (events ++ e ∷ []) span
     still other Never s = tt
     still other (Open start wrote) s =
         subst (λ xs. IsSince start xs (events ++ e ∷ [])) (ap (λ xs. wrote ++ xs) other ∙ append-nil wrote) (further start wrote s)
     still other (Ended start answer wrote) s = tt
 
-    -- of the party itself
+    -- an event of the party itself is told by its longer span
     more : own_of p e ≡ e ∷ [] → (span : Span T) → Tells events span → Tells (events ++ e ∷ []) (longer span e)
     more mine Never s = tt
     more mine (Open start wrote) s =
         subst (λ xs. IsSince start xs (events ++ e ∷ [])) (ap (λ xs. wrote ++ xs) mine) (further start wrote s)
     more mine (Ended start answer wrote) s = tt
 
-    -- an event that goes on with a span leaves the call of the party in the events, whether the
-    -- event is its own or not
+    -- an event that goes on with a span leaves the call of the party in the events, whether the event is its own or not
     writes : ((z : Span T) → own_after z e ≡ longer z e) → (span : Span T) → Tells events span
         → (b : Bool) → is_party p (whose e) ≡ b → Tells (events ++ e ∷ []) (span_after p span e)
     writes longer_so span s true t =

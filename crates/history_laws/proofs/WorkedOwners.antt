@@ -73,8 +73,7 @@ taken = begins 0 (add 5 1) 2 ++ (begins 1 (recover 1) 8 ++ begins 2 (add 7 2) 2)
 abbrev both : Trace ℕ
 both = ran_on 1 (taken ++ (nexts 0 2 ++ nexts 2 2))
 
--- what was written before owner 2 is granted the index: owner 1 was granted it after the recovery
--- had freed it
+-- what was written before owner 2 is granted the index: owner 1 was granted it after the recovery had freed it
 abbrev before_both : List (Event ℕ)
 before_both =
     Begun 0 (add 5 1)

@@ -10,7 +10,7 @@ ghost use Rattle.lock_free_owners.specs.Worn.{changes, lock_calls, LocksApart};
 
 /// Where no two calls that may lock overlap, the counter is at its end only after a third of 2^64 - 2 changes: indices
 /// filled or freed, and counts begun. Of two that overlap each can make the other count again, and raise the counter, any
-/// number of times. The lemma is `worn_set` of `proofs/OwnersLaws.antt`.
+/// number of times. The lemma is `worn_set` of `lock_free_owners/proofs/Worn/Laws.antt`.
 pub fn worn_sets_have_changed()
     ensures { (capacity : ℕ) (events : List (Event ℕ)) → IsWorn capacity events → LocksApart events
         → 2 ^ 64 - 2 ≤ 3 * changes events }

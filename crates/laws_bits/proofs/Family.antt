@@ -96,7 +96,7 @@ module _ {T : Type 0} where
       abbrev pub then_state : List ℕ → List (Event T) → SetState T
       then_state words es = record { words = words; events = events ++ es }
 
-      -- that leaves these words, where the party's span was this
+      -- what a turn shows that leaves these words, where the party's span was this
       pub record Shows (words : List ℕ) (from : Span T) (y : Party T) (es : List (Event T)) (changes' : ℕ) : Type 0 where
         pub preserves : K.Preserves c s.words events turns changes words es changes'
         pub own : AreOwn p es

@@ -125,7 +125,7 @@ module _ {T : Type 0} (K : SetOutline T) where
           }
       step_shows x since start flight here = absurd here.at
 
-      -- its first stage is one of the set's own
+      -- the first stage of a call is one of the set's own
       some_first : (start : BitsStart) (flight : Flight T)
           → first_of K.kind c (Bits start) registries.Nothing ≡ Some flight
           → (mine : BitsFlight) × (flight ≡ flights.Bits mine) × (first K.kind c start ≡ Some mine)

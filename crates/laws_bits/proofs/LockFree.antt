@@ -163,7 +163,7 @@ module _ {T : Type 0} where
         measure = λ code c. counts_measure c;
       }
 
-  -- ---- each step falls
+  -- ---- the measure falls with each step
 
   module _ (n : ℕ) (code : Coding T) (words : List ℕ) where
     abbrev M : WordMeasure T
@@ -179,6 +179,7 @@ module _ {T : Type 0} where
         word : ℕ
         word = get_or words (element_of bit) 0
 
+        -- the cases are whether the bit is set
         go : (t : Bool) → has_flag word bit ≡ t → Shown (set_at bit setting.LoadsElement)
         go true t = rw t tt
         go false t =
@@ -189,6 +190,7 @@ module _ {T : Type 0} where
         word : ℕ
         word = get_or words (element_of bit) 0
 
+        -- the cases are whether the word is still what was read and whether the bit is set
         go : (t : Bool) → (word == found) ≡ t → (u : Bool) → has_flag word bit ≡ u → Shown (set_at bit (setting.ExchangesElement found))
         go true t u e = rw t tt
         go false t true u = rw (t, u) tt
@@ -221,6 +223,7 @@ module _ {T : Type 0} where
         word : ℕ
         word = get_or words (element_of place) 0
 
+        -- the cases are whether the place is set and whether a further place follows
         go : (t : Bool) → has_flag word place ≡ t → (u : Bool) → nat_lt (passed + 1) c ≡ u
             → FallsIn M words new 1 was (as_next (reset_tests (record { capacity = c; stage = stage }) start passed word))
         go true t u e =
@@ -231,10 +234,11 @@ module _ {T : Type 0} where
             rw (t, u) (inl (same, omega arith, one))
         go false t false u = rw (t, u) tt
 
-    -- each step of a reset of the next one falls
+    -- the measure falls with each step of a reset of the next one
     next_falls : (c : ℕ) (stage : ResetNextStage) → Shown (next_at c stage)
     next_falls c resetting.LoadsPosition = go (nat_lt 0 c) refl
       where
+        -- the cases are whether there is a place
         go : (t : Bool) → nat_lt 0 c ≡ t → Shown (next_at c resetting.LoadsPosition)
         go true t =
             let less : 0 < c = grind (arith, nat_tests) in
@@ -254,6 +258,7 @@ module _ {T : Type 0} where
         stage : ResetNextStage
         stage = resetting.ExchangesElement start passed found
 
+        -- the cases are whether the word is still what was read
         go : (t : Bool) → (word == found) ≡ t → Shown (next_at c stage)
         go true t = rw t (inr (rw t (omega arith), inr (omega arith)))
         go false t =
@@ -270,6 +275,7 @@ module _ {T : Type 0} where
         flight : BitsFlight
         flight = calls.ResetAll (record { call = record { word = word; end = end }; given = tt; room = room })
 
+        -- the cases are whether a further word follows and whether the word is before the end
         go : (t : Bool) → nat_lt (word + 1) end ≡ t → (u : Bool) → nat_lt word end ≡ u → Shown flight
         go true t true u = let less : word + 1 < end = grind (arith, nat_tests) in rw (t, u) (inr (omega arith, inr (omega arith)))
         go true t false u =
@@ -278,7 +284,7 @@ module _ {T : Type 0} where
             absurd (omega arith)
         go false t u e = rw t tt
 
-    -- each step of any call of a bit set falls
+    -- the measure falls with each step of any call of a bit set
     bits_fall : (c : ℕ) (start : Start T) (flight : Flight T) → FlightStands (BitsStand c) start flight → StepFalls M code words flight
     bits_fall c (starts.Bits start) (flights.Bits (calls.Set run)) at = set_falls run.given run.call.stage
     bits_fall c (starts.Bits start) (flights.Bits (calls.ResetNext run)) at = next_falls run.call.capacity run.call.stage
@@ -286,11 +292,11 @@ module _ {T : Type 0} where
     bits_fall c (starts.Bits start) (flights.Bits (calls.IsSet run)) at = tt
     bits_fall c start flight at = absurd at
 
-    -- of the counts
+    -- what a step of a counting set has to show
     abbrev CountShown : BitsFlight → Type 0
     CountShown flight = StepFalls (counts_measure n) code words (flights.Bits flight)
 
-    -- each step of a reset of all counts falls
+    -- the measure falls with each step of a reset of all counts
     takes_fall : (word end : ℕ) (room : OneWord)
         → CountShown (calls.TakeAll (record { call = record { word = word; end = end }; given = tt; room = room }))
     takes_fall word end room = go (nat_lt (word + 1) end) refl (nat_lt word end) refl
@@ -311,8 +317,7 @@ module _ {T : Type 0} where
 
   -- ---- no call has more left
 
-  -- no call of a bit set has more steps left than the capacity and two, or more changes to make
-  -- than the measure names
+  -- no call of a bit set has more steps left than the capacity and two, or more changes to make than the measure names
   bits_most : (c : ℕ) (words : List ℕ) (start : Start T) (flight : Flight T) → FlightStands (BitsStand c) start flight
       → (left words flight ≤ c + 2) × (pays flight ≤ max 1 (elements c - 1))
   bits_most c words (starts.Bits start) (flights.Bits (calls.Set run)) at =

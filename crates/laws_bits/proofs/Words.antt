@@ -25,7 +25,7 @@ change_one words (Some ask) i ne = by_place (i == ask.word) refl
 pub load_leaves : (words : List ℕ) (w : ℕ) → words_after words (Some (record { word = w; op = Load })) ≡ words
 load_leaves words w = set-get_or words w 0
 
--- so does an exchange that finds another value
+-- an exchange that finds another value leaves the words
 pub failed_leaves : (words : List ℕ) (w found new : ℕ) → (get_or words w 0 == found) ≡ false
     → words_after words (Some (record { word = w; op = Exchange found new })) ≡ words
 failed_leaves words w found new t =

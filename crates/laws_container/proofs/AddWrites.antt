@@ -155,29 +155,28 @@ module _ {T : Type 0} (adding : Adding T) (i : ℕ)
       abbrev now_at : ℕ
       now_at = count_in code c (before scene) i
 
-      -- the step in which an add hides what stands there shows what it has to, whether it finds
-      -- the number or another
+      -- the step in which an add hides what stands there shows what it has to, whether it finds the number or another
       hides_step : StepOf scene start (at_stage (adds.Hides i count))
       hides_step =
           on_bool (λ b. Leads scene start (Some (exchanges (count_word c i) count (one_more count))) false scene.states
           ((if b then Hidden p i ∷ [] else []) ++ []) (GoOn (at_stage (adds.Stores i 0))))
           (now_at == count)
           (λ t.
-          let is : now_at ≡ count = grind (arith, nat_tests) in
+          let same_count : now_at ≡ count = grind (arith, nat_tests) in
           let some = inv.elements.coded.some in
           let wide = inv.elements.wide in
-          let y = then_at (adds.Stores i 0) hide_it in
-          let new = hides_count scene inv i count below is in
-          let now_odd : now_at % 2 ≡ 1 = ap (λ n. n % 2) is ∙ odd in
-          let well_formed = was_well_formed scene start tt here.span (words_after ws hide_it) y (Hidden p i ∷ []) (refl, tt) in
+          let party_after = then_at (adds.Stores i 0) hide_it in
+          let new = hides_count scene inv i count below same_count in
+          let now_odd : now_at % 2 ≡ 1 = ap (λ n. n % 2) same_count ∙ odd in
+          let well_formed = was_well_formed scene start tt here.span (words_after ws hide_it) party_after (Hidden p i ∷ []) (refl, tt) in
           let after : count_at c (words_after ws hide_it) i ≡ one_more now_at =
           ap (λ w. count_at c w i) new ∙ count_set c code.size ws i (one_more now_at) (omega arith) in
           goes_on scene start (at_stage (adds.Stores i 0)) hide_it false scene.states (Hidden p i ∷ []) here.span (λ start w. refl)
-          (hides scene inv start (at_stage (adds.Hides i count)) tt here y (words_after ws hide_it)
+          (hides scene inv start (at_stage (adds.Hides i count)) tt here party_after (words_after ws hide_it)
           i below new refl now_odd (λ holds q ne o theirs fresh. nobody_else holds q ne o theirs) well_formed)
           ((granted.1, none), tt) (omega arith)
           (refl, refl, fits, ((below, ap (λ (d : List SetAct). d ++ []) granted.1), inr (ap (λ d. d ++ Hides i ∷ []) none), omega arith)) (
-            owns_hidden hide_it y,
+            owns_hidden hide_it party_after,
             record {
               few = omega arith;
               has = λ holds lives. record { even = ap (λ n. n % 2) after ∙ omega arith; written = λ j js. absurd (omega arith) };
@@ -186,13 +185,13 @@ module _ {T : Type 0} (adding : Adding T) (i : ℕ)
           (λ t.
           let other : now_at ≢ count = grind (arith, nat_tests) in
           let some = inv.elements.coded.some in
-          let y = then_at (adds.Stores i 0) hide_it in
+          let party_after = then_at (adds.Stores i 0) hide_it in
           let same = fails_same ws (count_word c i) count (one_more count) other in
           calm_step (adds.Hides i count) (adds.Stores i 0) hide_it same here refl (omega arith) (granted, inl none, omega arith) (
-            owns_calm hide_it y,
-            first_word hide_it y same
+            owns_calm hide_it party_after,
+            first_word hide_it party_after same
                 (λ holds. ⊎_elim (λ e. absurd (other e)) (λ even. even) (covers holds (acts.stays holds.kept)))
-                (was_well_formed_calmly scene start tt here.span y),
+                (was_well_formed_calmly scene start tt here.span party_after),
           ))
 
     -- ---- a word is stored
@@ -203,8 +202,7 @@ module _ {T : Type 0} (adding : Adding T) (i : ℕ)
       abbrev store_it : Option Ask
       store_it = Some (stores_to (element_word c code.size i at) (get_or (code.words_of value) at 0))
 
-      -- a store of a word leads to the stage behind it, where the add knows there what that
-      -- stage asks
+      -- a store of a word leads to the stage behind it, where the add knows there what that stage asks
       store_to : (next : AddStage) → add_owes next ≡ true
           → steps + 1 ≤ add_number c code.size next (backs_then scene false)
           → AddAt c code.size (all scene) (done scene) owner next
@@ -249,14 +247,14 @@ module _ {T : Type 0} (adding : Adding T) (i : ℕ)
           ))
           (λ t.
           let last : code.size ≤ at + 1 = grind (arith, nat_tests) in
-          let is : at + 1 ≡ code.size = omega arith in
+          let is_last : at + 1 ≡ code.size = omega arith in
           store_to (adds.AddsCount i) refl (omega arith) (granted, hidden) (
             owns_calm store_it (then_at (adds.AddsCount i) store_it),
             subst (λ n. Writes code c owner i value n
                 (view scene.terms (words_after ws store_it) scene.states
                 (put p (then_at (adds.AddsCount i) store_it) latest) events p (since_then scene store_it)
                 (changes_then scene store_it) (backs_then scene false)))
-                is (one_more_word (adds.AddsCount i)),
+                is_last (one_more_word (adds.AddsCount i)),
           ))
 
     -- ---- the value is placed
@@ -325,16 +323,16 @@ module _ {T : Type 0} (adding : Adding T) (i : ℕ)
       -- the step in which an add counts the change ends it
       ends_step : StepOf scene start (at_stage (adds.AddsChange i))
       ends_step =
-          let y = party_then scene start end_it false (Done (Index i)) in
-          let es = Finished p (Container start) (Index i) ∷ [] in
-          let well_formed = was_well_formed scene start tt here.span (words_after ws end_it) y es (refl, tt) in
+          let party_after = party_then scene start end_it false (Done (Index i)) in
+          let written = Finished p (Container start) (Index i) ∷ [] in
+          let well_formed = was_well_formed scene start tt here.span (words_after ws end_it) party_after written (refl, tt) in
           let new = adds_to_change scene inv in
           ends scene start (Index i) end_it false scene.states [] here.span none_lengthens
-          (ends_counted scene inv start (at_stage (adds.AddsChange i)) tt here y (words_after ws end_it) (Index i)
+          (ends_counted scene inv start (at_stage (adds.AddsChange i)) tt here party_after (words_after ws end_it) (Index i)
           (settles (of_set scene) (inv_of_set scene inv) (words_after ws end_it)
           (leaves_behind (of_set scene) (inv_of_set scene inv) (words_after ws end_it) (change_word c) _ (omega arith) new)
           i owner value
-          (λ calm. k.owns (calm_less scene.terms.by events es calm)
+          (λ calm. k.owns (calm_less scene.terms.by events written calm)
           (lives_settled scene.terms.by p i owner value events acts.alive calm.1)))
           tt well_formed (λ holds. placed (well_formed holds)) new says)
           ((refl, granted.1), tt) (omega arith) (let paid = k.paid in omega arith)
@@ -349,8 +347,7 @@ module _ {T : Type 0} (adding : Adding T) (i : ℕ)
 module _ {T : Type 0} (adding : Adding T) where
   open adding use {scene, value, owner}
 
-  -- any step of an add that stands at a stage, and knows what the stage tells, shows what it
-  -- has to
+  -- any step of an add that stands at a stage, and knows what the stage tells, shows what it has to
   pub add_step : (stage : AddStage) → IsHere scene (Add value owner) (add_at scene.capacity value owner stage)
       → AddAt scene.capacity scene.coding.size (all scene) (done scene) owner stage
       → AddKnows scene.coding scene.capacity value owner stage (sees_now scene)

@@ -75,24 +75,24 @@ module _ {T : Type 0} (adding : Adding T) (stage : AcquireStage)
         → set_knows.IsPaid (set_stages.sees (of_set scene) ask back)
         → FewEnd (of_set scene) (inv_of_set scene inv) owner fits acts.alive 0 ask back → Lead ask back [] (Done (Err failure))
     refuses failures.IsLocked ask back same why paid few =
-        let y = party_then scene start ask back (Done (NoPlace add_failures.IsLocked)) in
-        let es = Finished p (Container start) (NoPlace add_failures.IsLocked) ∷ [] in
-        let well_formed = was_well_formed scene start tt here.span (words_after ws ask) y es (refl, tt) in
+        let party_after = party_then scene start ask back (Done (NoPlace add_failures.IsLocked)) in
+        let written = Finished p (Container start) (NoPlace add_failures.IsLocked) ∷ [] in
+        let well_formed = was_well_formed scene start tt here.span (words_after ws ask) party_after written (refl, tt) in
         ends scene start (NoPlace add_failures.IsLocked) ask back scene.states [] here.span none_lengthens
-        (ends_calmly scene inv start flight tt here y (words_after ws ask) (NoPlace add_failures.IsLocked)
-        (set_effects.quietly (of_set scene) (inv_of_set scene inv) (words_after ws ask) es
+        (ends_calmly scene inv start flight tt here party_after (words_after ws ask) (NoPlace add_failures.IsLocked)
+        (set_effects.quietly (of_set scene) (inv_of_set scene inv) (words_after ws ask) written
         (set_effects.stays_same (of_set scene) (inv_of_set scene inv) (words_after ws ask) same).leaves
         (quiet_end p (Container start) (NoPlace add_failures.IsLocked) (λ i o. refl) (λ i r. refl))
         (refl, tt) (tt, tt) (tt, tt))
-        why.0 well_formed (λ holds. tt) same (λ i b. refl) (still (words_after ws ask) y es well_formed))
+        why.0 well_formed (λ holds. tt) same (λ i b. refl) (still (words_after ws ask) party_after written well_formed))
         ((refl, why.1), tt) (omega arith) (omega arith)
     refuses failures.OutOfIndices ask back same why paid few =
-        let y = party_then scene start ask back (Done (NoPlace add_failures.OutOfSpace)) in
-        let es = Finished p (Container start) (NoPlace add_failures.OutOfSpace) ∷ [] in
-        let well_formed = was_well_formed scene start tt here.span (words_after ws ask) y es (refl, tt) in
+        let party_after = party_then scene start ask back (Done (NoPlace add_failures.OutOfSpace)) in
+        let written = Finished p (Container start) (NoPlace add_failures.OutOfSpace) ∷ [] in
+        let well_formed = was_well_formed scene start tt here.span (words_after ws ask) party_after written (refl, tt) in
         ends scene start (NoPlace add_failures.OutOfSpace) ask back scene.states [] here.span none_lengthens
-        (ends_calmly scene inv start flight tt here y (words_after ws ask) (NoPlace add_failures.OutOfSpace)
-        (set_effects.quietly (of_set scene) (inv_of_set scene inv) (words_after ws ask) es
+        (ends_calmly scene inv start flight tt here party_after (words_after ws ask) (NoPlace add_failures.OutOfSpace)
+        (set_effects.quietly (of_set scene) (inv_of_set scene inv) (words_after ws ask) written
         (set_effects.stays_same (of_set scene) (inv_of_set scene inv) (words_after ws ask) same).leaves
         (quiet_end p (Container start) (NoPlace add_failures.OutOfSpace)
         (λ i o. refl) (λ i r. refl))
@@ -101,11 +101,10 @@ module _ {T : Type 0} (adding : Adding T) (stage : AcquireStage)
           ⊎_elim
               (λ worn. inl (set_invariant.worn_on scene.terms.by ws (words_after ws ask) (λ end. ap set_core.counter_of same ∙ end) worn))
               (λ all_filled. inr all_filled) why.1,
-        ) well_formed (λ holds. tt) same (λ i b. refl) (still (words_after ws ask) y es well_formed))
+        ) well_formed (λ holds. tt) same (λ i b. refl) (still (words_after ws ask) party_after written well_formed))
         ((refl, why.2), tt) (omega arith) (omega arith)
 
-    -- what the acquire of the set leads to, in an add: each of its steps, its grant, and each
-    -- of its failures
+    -- what the acquire of the set leads to, in an add: each of its steps, its grant, and each of its failures
     caller : Caller (of_set scene) (inv_of_set scene inv) owner fits acts.alive 0 Lead
     caller =
         record {
@@ -119,27 +118,27 @@ module _ {T : Type 0} (adding : Adding T) (stage : AcquireStage)
               let y =
               party_then scene start ask false
               (GoOn (goes_to (adds.Acquires (acquires.Raises i raises.LoadsCounter)))) in
-              let es = Filled p i owner ∷ [] in
-              let well_formed = was_well_formed scene start tt here.span (words_after ws ask) y es (refl, tt) in
+              let written = Filled p i owner ∷ [] in
+              let well_formed = was_well_formed scene start tt here.span (words_after ws ask) y written (refl, tt) in
               goes_on scene start (goes_to (adds.Acquires (acquires.Raises i raises.LoadsCounter)))
-              ask false scene.states es here.span (λ start w. refl)
+              ask false scene.states written here.span (λ start w. refl)
               (fills scene inv start flight tt here y (words_after ws ask)
               (rest_set scene inv start flight tt here y (words_after ws ask) (cell_word i) owner (omega arith) new)
               (wide_set scene inv start flight tt here y (words_after ws ask) (cell_word i) owner new) i owner does
-              well_formed (still (words_after ws ask) y es well_formed))
+              well_formed (still (words_after ws ask) y written well_formed))
               ((refl, empty_all), tt) (omega arith)
               (refl, refl, fits, ((below, ap (λ d. d ++ Fills i owner ∷ []) empty_all), ap (λ (d : List (Act T)). d ++ []) none)) known;
           fails = refuses;
           grants = λ i ask back below filled mine raised paid few.
               let stays = set_effects.raised_stays (of_set scene) (inv_of_set scene inv) (words_after ws ask) raised in
               let y = party_then scene start ask back (GoOn (goes_to (adds.LoadsCount i))) in
-              let es = Granted p i owner ∷ [] in
-              let well_formed = was_well_formed scene start tt here.span (words_after ws ask) y es (refl, tt) in
+              let written = Granted p i owner ∷ [] in
+              let well_formed = was_well_formed scene start tt here.span (words_after ws ask) y written (refl, tt) in
               let alone = grants_alone (of_set scene) (inv_of_set scene inv) (words_after ws ask) i owner mine acts.alive raised in
-              goes_on scene start (goes_to (adds.LoadsCount i)) ask back scene.states es here.span (λ start w. refl)
+              goes_on scene start (goes_to (adds.LoadsCount i)) ask back scene.states written here.span (λ start w. refl)
               (grants scene inv start flight tt here y (words_after ws ask)
               (λ n behind. stays.others n (omega arith)) stays.leaves.wide i owner alone well_formed
-              (still (words_after ws ask) y es well_formed))
+              (still (words_after ws ask) y written well_formed))
               ((refl, filled), tt) (omega arith)
               (refl, refl, fits, ((below, ap (λ d. d ++ Grants i owner ∷ []) filled), ap (λ (d : List (Act T)). d ++ []) none))
               (record {

@@ -28,17 +28,16 @@ module _ {T : Type 0} where
   none_rest p (Begun q s ∷ es) rest begins_none = none_rest p es rest begins_none.1
   none_rest p (e ∷ es) rest begins_none = none_rest p es rest begins_none
 
-  -- what was announced when a call began, and has stood through it with one value, is announced
-  -- now
+  -- what was announced when a call began, and has stood through it with one value, is announced now
   pub announced_through : (p i : ℕ) (value : T) (events : List (Event T)) → WasAnnounced p i events
       → StoodThrough p i value events → announced_of i events ≡ true
   announced_through p i value events said through =
       let part : List (Event T) = said.before ++ Begun p said.start ∷ [] in
-      let is : part ++ said.since ≡ events = append_assoc said.before (Begun p said.start ∷ []) said.since ∙ sym said.is in
+      let joined : part ++ said.since ≡ events = append_assoc said.before (Begun p said.start ∷ []) said.since ∙ sym said.is in
       let begun : announced_of i part ≡ true = fold-append (announced_after i) false said.before (Begun p said.start ∷ []) ∙ said.holds in
-      subst (λ es. announced_of i es ≡ true) is
+      subst (λ es. announced_of i es ≡ true) joined
       (all_stays i value said.since part
       (λ mid rest e. through (part ++ mid) rest
-      (sym is ∙ (ap (λ xs. part ++ xs) e ∙ sym (append_assoc part mid rest)))
+      (sym joined ∙ (ap (λ xs. part ++ xs) e ∙ sym (append_assoc part mid rest)))
       (none_rest p mid rest (subst (BeginsNone p) e said.within)))
       begun)

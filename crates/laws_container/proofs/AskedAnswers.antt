@@ -178,8 +178,7 @@ module _ {T : Type 0} (shown : Shown T) (terms : Terms) (code : Coding T) (t : T
         let d = decided shown terms code c t s may p said (by_turn p said is) in
         subst (λ u. question_at (after_turn t u) p ≡ None) (sym is) (d.goes.asks ∙ waits_none code p d.goes.flight d.goes.answer d.due)
 
-    -- a party that asks about an element after the turn has copied it in the turn, or asked so
-    -- before
+    -- a party that asks about an element after the turn has copied it in the turn, or asked so before
     once : AsksOnce t (after_turn t turn)
     once p index value e ne =
         ⊎_elim

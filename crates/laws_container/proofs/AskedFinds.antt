@@ -1,4 +1,4 @@
--- A find that ends writes nothing else in that turn, and where no no ends it, it has come to the indices of the whole container.
+-- A find that ends writes nothing else in that turn. Unless a decision of no ends it, it has come to each index.
 use Rattle.laws_container.proofs.Names.{◌≡◌, ℕ, ⊎_elim, Option, Some, List, [], ◌∷◌, ◌++◌, refl, sym, ap, subst, ◌∙◌}
 use Rattle.laws_container.proofs.Names.{append-nil, arith, append_cancel_left, FindStage, ContainerState, Answer}
 use Rattle.laws_container.proofs.Names.{Number, Event, Finished, Container, ContainerFlight, Turn, Coding, after}
@@ -56,8 +56,7 @@ module _ {T : Type 0} (shown : Shown T) (terms : Terms) (code : Coding T) (t : T
       (λ (going : IsGoing shown terms code c t s may turn). by going.party going.goes)
       (any_turn shown terms code c t s may turn r)
     where
-      -- a turn in which a party's call goes on, and that ends a find, writes nothing before
-      -- that end
+      -- a turn in which a party's call goes on, and that ends a find, writes nothing before that end
       by : (q : ℕ) → GoesOn shown terms code c t s may turn q → wrote ≡ []
       by q goes_on =
           let state = state_of q s.state.states in
@@ -77,7 +76,7 @@ module _ {T : Type 0} (shown : Shown T) (terms : Terms) (code : Coding T) (t : T
     (s : frame.Sound (family_by terms code t.world.capacity) t) (may : MayGoOn terms t) (turn : Turn T)
     (r : IsAllowed t.world turn)
     (well_formed : Type 0) (so_far : well_formed → IsWellFormedSoFar terms (after_turn t turn).world.latest (after_turn t turn).events) where
-  -- each find that ends in a turn that is no no to it has counted over the whole container
+  -- each find that ends in a turn other than a no to its party has counted over the whole container
   pub finds_all : FindsAllIf well_formed t turn (after_turn t turn)
   finds_all p owner number ends ne =
       let none = ends_alone shown terms code t s may turn r p owner number ends.wrote (append_cancel_left t.events (events_of t.world turn) _ ends.is) in

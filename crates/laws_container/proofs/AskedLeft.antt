@@ -41,6 +41,6 @@ module _ {T : Type 0} (code : Coding T) where
   pub question_left : (o : Option (ContainerState T)) (flight : ContainerFlight T) (old : ℕ) → left (after code o flight old) ≡ made flight old
   question_left o flight old = grind arith
 
-  -- and one that begins asks about none
+  -- a call that begins asks about no value
   pub question_first : (c : ℕ) (start : ContainerStart T) → question_in code (Some (flights.Container (first c start))) ≡ None
   question_first c start = grind arith

@@ -92,7 +92,7 @@ module _ {T : Type 0} (shown : Shown T) (terms : Terms) (code : Coding T) (c : �
     abbrev ByYes : Coding T → Flight T → Type 0
     ByYes y flight = is_question (want_of y flight) ≡ true → answer ≢ 0 → turn ≡ Decide q true
 
-    -- with what stays so of the flight
+    -- the turn moves a call of a container on, with this answer
     pub record Went (flight : Flight T) : Type 0 where
       pub on : GoesOn turn q
       pub is : flight ≡ flights.Container on.flight
@@ -147,25 +147,25 @@ module _ {T : Type 0} (shown : Shown T) (terms : Terms) (code : Coding T) (c : �
   next_by : (q : ℕ) (x : Party T) → party_of q t.world.latest ≡ Some x → is_none (flight_in t.world q) ≡ false
       → is_due t.world.coding (flight_in t.world q) ≡ false → (doing : Doing T) → x.doing ≡ doing → GoesOn (Next q) q
   next_by q x found some free (Over others) same_doing =
-      let here : flight_in t.world q ≡ None = ap (λ o. flight_of (doing_of o)) found ∙ ap (λ same_doing. flight_of (Some same_doing)) same_doing in
+      let here : flight_in t.world q ≡ None = ap (λ o. flight_of (doing_of o)) found ∙ ap (λ d. flight_of (Some d)) same_doing in
       let none : is_none (flight_in t.world q) ≡ true = ap is_none here in
       absurd (cc)
   next_by q x found some free (Going flight since) same_doing =
-      let w = t.world in
-      let here : flight_in w q ≡ Some flight = ap (λ o. flight_of (doing_of o)) found ∙ ap (λ same_doing. flight_of (Some same_doing)) same_doing in
-      let asks_none : is_question (want_of w.coding flight) ≡ false = rw here at free in
+      let world = t.world in
+      let here : flight_in world q ≡ Some flight = ap (λ o. flight_of (doing_of o)) found ∙ ap (λ d. flight_of (Some d)) same_doing in
+      let asks_none : is_question (want_of world.coding flight) ≡ false = rw here at free in
       let n = next_number x (Going flight since) in
-      let ask = ask_of_doing w.coding (Going flight since) in
+      let ask = ask_of_doing world.coding (Going flight since) in
       (went (Next q) q n refl x since found flight same_doing
-      (ap (events_of_next w q) found ∙ ap (λ doing. events_of_answer w q x (next_number x doing) doing) same_doing)
-      (ap (λ o. world_asks (after_next w q o) q) found
-      ∙ (ap (λ doing. world_asks (after_answer w q x (ask_of_doing w.coding doing) (next_number x doing) doing) q) same_doing
-      ∙ same_asks w q x since flight n ask))
-      (λ p ne. ap (λ o. world_asks (after_next w q o) p) found
-      ∙ (ap (λ doing. world_asks (after_answer w q x (ask_of_doing w.coding doing) (next_number x doing) doing) p) same_doing
-      ∙ other_asks w q x since flight n ask p ne))
+      (ap (events_of_next world q) found ∙ ap (λ doing. events_of_answer world q x (next_number x doing) doing) same_doing)
+      (ap (λ o. world_asks (after_next world q o) q) found
+      ∙ (ap (λ doing. world_asks (after_answer world q x (ask_of_doing world.coding doing) (next_number x doing) doing) q) same_doing
+      ∙ same_asks world q x since flight n ask))
+      (λ p ne. ap (λ o. world_asks (after_next world q o) p) found
+      ∙ (ap (λ doing. world_asks (after_answer world q x (ask_of_doing world.coding doing) (next_number x doing) doing) p) same_doing
+      ∙ other_asks world q x since flight n ask p ne))
       (λ due not. absurd (cc))
-      (ap (question_in w.coding) here)).on
+      (ap (question_in world.coding) here)).on
 
   -- a step that is not refused lets the party's call go on
   next_goes : (q : ℕ) → call_refusal t.world (Next q) ≡ None → GoesOn (Next q) q
@@ -189,23 +189,23 @@ module _ {T : Type 0} (shown : Shown T) (terms : Terms) (code : Coding T) (c : �
   decision_by : (q : ℕ) (said : Bool) (x : Party T) → party_of q t.world.latest ≡ Some x
       → is_due t.world.coding (flight_in t.world q) ≡ true → (doing : Doing T) → x.doing ≡ doing → IsDecided q said
   decision_by q said x found due (Over others) same_doing =
-      let here : flight_in t.world q ≡ None = ap (λ o. flight_of (doing_of o)) found ∙ ap (λ same_doing. flight_of (Some same_doing)) same_doing in
+      let here : flight_in t.world q ≡ None = ap (λ o. flight_of (doing_of o)) found ∙ ap (λ d. flight_of (Some d)) same_doing in
       let none : is_due t.world.coding (flight_in t.world q) ≡ false = ap (is_due t.world.coding) here in
       absurd (cc)
   decision_by q said x found due (Going flight since) same_doing =
-      let w = t.world in
-      let here : flight_in w q ≡ Some flight = ap (λ o. flight_of (doing_of o)) found ∙ ap (λ same_doing. flight_of (Some same_doing)) same_doing in
+      let world = t.world in
+      let here : flight_in world q ≡ Some flight = ap (λ o. flight_of (doing_of o)) found ∙ ap (λ d. flight_of (Some d)) same_doing in
       let n = number_of said in
       let h = went (Decide q said) q n refl x since found flight same_doing
-      (ap (events_of_decision w q said) found ∙ ap (events_of_answer w q x n) same_doing)
-      (ap (λ o. world_asks (after_decision w q said o) q) found
-      ∙ (ap (λ doing. world_asks (after_answer w q x None n doing) q) same_doing ∙ same_asks w q x since flight n None))
-      (λ p ne. ap (λ o. world_asks (after_decision w q said o) p) found
-      ∙ (ap (λ doing. world_asks (after_answer w q x None n doing) p) same_doing ∙ other_asks w q x since flight n None p ne))
+      (ap (events_of_decision world q said) found ∙ ap (events_of_answer world q x n) same_doing)
+      (ap (λ o. world_asks (after_decision world q said o) q) found
+      ∙ (ap (λ doing. world_asks (after_answer world q x None n doing) q) same_doing ∙ same_asks world q x since flight n None))
+      (λ p ne. ap (λ o. world_asks (after_decision world q said o) p) found
+      ∙ (ap (λ doing. world_asks (after_answer world q x None n doing) p) same_doing ∙ other_asks world q x since flight n None p ne))
       (λ waits some. ap (Decide q) (is_yes said some))
-      (ap (question_in w.coding) here)
+      (ap (question_in world.coding) here)
       in
-      let asks : is_question (want_of w.coding flight) ≡ true = rw here at due in
+      let asks : is_question (want_of world.coding flight) ≡ true = rw here at due in
       record {
         goes = h.on;
         due = subst (λ f. is_question (want_of code f) ≡ true) h.is (subst (λ y. is_question (want_of y flight) ≡ true) s.coding asks);

@@ -17,8 +17,7 @@ use Rattle.laws_container.proofs.CallProgress.{RecoverAt, LookAt, At}
 
 -- ---- how many steps a call has taken
 
--- `c` is the capacity, `z` the words of a value; the call has done `all` to the set, and `done`
--- to elements
+-- `c` is the capacity, `z` the words of a value; the call has done `all` to the set, and `done` to elements
 module _ {T : Type 0} (c z : ℕ) (all : List SetAct) (done : List (Act T)) where
   add_most : (owner : ℕ) (stage : AddStage) (backs : ℕ) → AddAt c z all done owner stage → add_number c z stage backs ≤ c + 7 + z + backs * (c + 1)
   add_most owner stage backs at = grind arith

@@ -192,8 +192,7 @@ number_of c z (IsLocked run) backs = 0
 abbrev pub AreBelow : ℕ → List ℕ → Type 0
 AreBelow bound indices = AllByRecursion (λ i. i < bound) indices
 
--- `c` is the capacity, `z` the words of a value; the call has done `all` to the set, and `done`
--- to elements
+-- `c` is the capacity, `z` the words of a value; the call has done `all` to the set, and `done` to elements
 module _ {T : Type 0} (c z : ℕ) (all : List SetAct) (done : List (Act T)) where
   -- it may have hidden what an earlier owner left
   abbrev pub MayHaveHidden : ℕ → Type 0
@@ -213,8 +212,7 @@ module _ {T : Type 0} (c z : ℕ) (all : List SetAct) (done : List (Act T)) wher
   AddAt owner (adds.AddsCount index) = IsGranted owner index × MayHaveHidden index
   AddAt owner (adds.AddsChange index) = IsGranted owner index
 
-  -- a remove at its stage: whether the index is one of the container, and how far its release
-  -- is
+  -- a remove at its stage: whether the index is one of the container, and how far its release is
   abbrev pub RemoveAt : ℕ → ℕ → ReleaseMode → RemoveStage → Type 0
   RemoveAt index owner mode removes.Refuses = (c ≤ index) × (all ≡ [])
   RemoveAt index owner mode removes.LoadsCount =
@@ -227,8 +225,7 @@ module _ {T : Type 0} (c z : ℕ) (all : List SetAct) (done : List (Act T)) wher
   RemoveAt index owner mode (removes.AddsChange state) =
       (index < c) × HasDone {T = T} (starts.Remove index owner mode) (State state) all []
 
-  -- a replace at its stage: whether the index is one of the container, and whether it may have
-  -- hidden something
+  -- a replace at its stage: whether the index is one of the container, and whether it may have hidden something
   abbrev pub ReplaceAt : ℕ → ReplaceStage → Type 0
   ReplaceAt index replaces.Refuses = (c ≤ index) × (all ≡ []) × (done ≡ [])
   ReplaceAt index replaces.LoadsCell = (index < c) × (all ≡ []) × (done ≡ [])
@@ -244,8 +241,7 @@ module _ {T : Type 0} (c z : ℕ) (all : List SetAct) (done : List (Act T)) wher
   abbrev pub CopiesAt : ℕ → ℕ → ℕ → Type 0
   CopiesAt index count at = (index < c) × AreBelow index (seen_in done) × (count % 2 ≡ 1)
 
-  -- a find at its stage: it has come to indices below the one where it is, and has done nothing
-  -- to the set
+  -- a find at its stage: it has come to indices below the one where it is, and has done nothing to the set
   abbrev pub FindAt : FindStage → Type 0
   FindAt (finds.LoadsCell index found) =
       (all ≡ []) × (index < c) × AreBelow index (seen_in done)
@@ -293,8 +289,7 @@ module _ {T : Type 0} (c z : ℕ) (all : List SetAct) (done : List (Act T)) wher
       (i : ℕ) → IsOneOf (Frees i owner) all → AskedOrShown owner i
   RecoverAt owner mode (recovers.AddsChange state) = Unit {0}
 
-  -- a look at its stage: it has come to indices below the one where it is, and has done nothing
-  -- to the set
+  -- a look at its stage: it has come to indices below the one where it is, and has done nothing to the set
   abbrev pub LookAt : LookStage → Type 0
   LookAt looks.LoadsChange = (all ≡ []) × (done ≡ [])
   LookAt (looks.LoadsCount index) =

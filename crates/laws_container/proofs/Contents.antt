@@ -61,8 +61,7 @@ module _ {T : Type 0} (code : Coding T) (c : ℕ) where
       other_data : (a : ℕ) → a ≢ i → (j : ℕ) → j < z → datum_at c z stored a j ≡ datum_at c z words a j
       other_data a ne j js = data_stay c z words i k x a j ne js ks
 
-      -- a store of a word by the writer leaves what stands at other indices, and nothing stands
-      -- at its own
+      -- a store of a word by the writer leaves what stands at other indices, and nothing stands at its own
       pub store_whole : IsWhole stored events
       store_whole a low = ⊎_elim here there (cases_eq a i)
         where
@@ -87,8 +86,7 @@ module _ {T : Type 0} (code : Coding T) (c : ℕ) where
       is_now : count_at c counted i ≡ n
       is_now = count_set c z words i n (omega arith)
 
-      -- a changed count leaves what stands elsewhere, and at the index there stands what the
-      -- event left there
+      -- a changed count leaves what stands elsewhere, and at the index there stands what the event left there
       count_there : (e : Event T) (o : Option T)
           → ((a : ℕ) → a ≢ i → contents_of a (events ++ e ∷ []) ≡ contents_of a events)
           → contents_of i (events ++ e ∷ []) ≡ o → Stands counted i o → IsWhole counted (events ++ e ∷ [])

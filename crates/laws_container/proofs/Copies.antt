@@ -18,8 +18,7 @@ module _ {T : Type 0} (code : Coding T) (c : ℕ) where
 
   -- ---- a word is read, by a step that leaves the words
 
-  -- after a step that leaves the words, a copy into which the next word was read has one word
-  -- more
+  -- after a step that leaves the words, a copy into which the next word was read has one word more
   pub copying_more : (v v' : View T) (index count : ℕ) (copy : List ℕ) (at : ℕ) → at < code.size → code.size ≤ 128
       → v'.words ≡ v.words → (Keeps v'.terms → Keeps v.terms) → (WellFormed (now v') → WellFormed (now v))
       → Copying code c index count copy at v
@@ -30,7 +29,7 @@ module _ {T : Type 0} (code : Coding T) (c : ℕ) where
         few = omega arith;
         room = length-set copy at _ ∙ copying.room;
         odd = copying.odd;
-        below = λ keeps. let low = copying.below (kept keeps) in let eq = count_same in omega arith;
+        below = λ keeps. omega (arith, copying.below (kept keeps), count_same);
         same = λ holds is j js.
             let here = get_or-set_same copy at (datum_in code c (now v) index at) 0 (let room = copying.room in omega arith) in
             let there = get_or-set_other copy at j (datum_in code c (now v) index at) 0 in

@@ -78,8 +78,7 @@ module _ {T : Type 0} (scene : Scene T) (inv : Inv scene) where
   abbrev ws : List ℕ
   ws = scene.words
 
-  -- so many were filled: none before the first index, as many past an empty cell, and one more
-  -- past a filled one
+  -- so many were filled: none before the first index, as many past an empty cell, and one more past a filled one
   said : IsSaid (of_set scene) (inv_of_set scene inv) (set_knows.Borrowed (set_stages.now (of_set scene)))
   said =
       record {
@@ -115,17 +114,17 @@ module _ {T : Type 0} (scene : Scene T) (inv : Inv scene) where
         → steps + step_count ask ≤ c + 2 + backs_then scene false * (c + 2)
         → Leads scene (counts_as which) ask false scene.states [] (Done (counted which number))
     counts_end number ask stays is paid few =
-        let y = party_then scene start ask false (Done (counted which number)) in
-        let es = Finished p (Container start) (counted which number) ∷ [] in
-        let well_formed = was_well_formed scene start (no_replace T which) here.span (words_after ws ask) y es (refl, tt) in
+        let party_after = party_then scene start ask false (Done (counted which number)) in
+        let written = Finished p (Container start) (counted which number) ∷ [] in
+        let well_formed = was_well_formed scene start (no_replace T which) here.span (words_after ws ask) party_after written (refl, tt) in
         ends scene start (counted which number) ask false scene.states [] here.span none_lengthens
-        (ends_there scene inv start (count_at which c count) tt here y (words_after ws ask) stays
+        (ends_there scene inv start (count_at which c count) tt here party_after (words_after ws ask) stays
         (counted which number)
         (quiet_end p (Container start) (counted which number) (settles_not T which p number)
         (rights_not T which p number))
         (announces_not T which p number)
         (answers_count T scene.terms.by (IsWorn scene.terms.by (words_after ws ask)) which c p number events is)
-        well_formed (λ holds. places_not T which p number events) (still (words_after ws ask) y es well_formed))
+        well_formed (λ holds. places_not T which p number events) (still (words_after ws ask) party_after written well_formed))
         ((refl, does_count T which number (all scene) (done scene) none), tt) (few_count T which c code.size _ (backs_then scene false) few) (omega arith)
 
     -- a step of a count shows what it has to
@@ -135,12 +134,12 @@ module _ {T : Type 0} (scene : Scene T) (inv : Inv scene) where
         part_step (of_set scene) (inv_of_set scene inv) (set_knows.Borrowed (set_stages.now (of_set scene))) said counts_to count at k.paid k.scanned k.says
         (λ next ask back same next_at paid scanned says few.
         let low = few 0 (c + 2) (omega arith) (omega arith) in
-        let y = party_then scene start ask back (GoOn (count_at which c next)) in
-        let well_formed = was_well_formed scene start (no_replace T which) here.span (words_after ws ask) y [] tt in
+        let party_after = party_then scene start ask back (GoOn (count_at which c next)) in
+        let well_formed = was_well_formed scene start (no_replace T which) here.span (words_after ws ask) party_after [] tt in
         goes_calmly scene start (count_at which c next) ask back scene.states here.span
-        (moves scene inv start (count_at which c count) tt here y (words_after ws ask)
+        (moves scene inv start (count_at which c count) tt here party_after (words_after ws ask)
         (stays_same (of_set scene) (inv_of_set scene inv) (words_after ws ask) same) well_formed
-        (still (words_after ws ask) y [] well_formed))
+        (still (words_after ws ask) party_after [] well_formed))
         (omega arith) (at_count T which c code.size (all scene) (done scene) next next_at none)
         (record { paid = paid; scanned = scanned; owns = tt; says = says; gone = tt }))
         (λ ask same shut paid few.
@@ -179,14 +178,14 @@ module _ {T : Type 0} (scene : Scene T) (inv : Inv scene) where
   lock_step here none knows s =
       let ask = Some (set_stages.loads 0) in
       let answer = Truth (counter_of ws == locked) in
-      let y = party_then scene starts.IsLocked ask false (Done answer) in
-      let es = Finished p (Container starts.IsLocked) answer ∷ [] in
-      let well_formed = was_well_formed scene starts.IsLocked tt here.span (words_after ws ask) y es (refl, tt) in
+      let party_after = party_then scene starts.IsLocked ask false (Done answer) in
+      let written = Finished p (Container starts.IsLocked) answer ∷ [] in
+      let well_formed = was_well_formed scene starts.IsLocked tt here.span (words_after ws ask) party_after written (refl, tt) in
       let paid = knows.paid in
       ends scene starts.IsLocked answer ask false scene.states [] here.span none_lengthens
-      (ends_there scene inv starts.IsLocked lock_at tt here y (words_after ws ask)
+      (ends_there scene inv starts.IsLocked lock_at tt here party_after (words_after ws ask)
       (stays_same (of_set scene) (inv_of_set scene inv) (words_after ws ask) (set_stages.loads_same ws 0)) answer
       (quiet_end p (Container starts.IsLocked) answer (λ i o. refl) (λ i r. refl))
       (λ i b. refl) inv.good.lock well_formed (λ holds. tt)
-      (owes_none scene starts.IsLocked lock_at y here refl))
+      (owes_none scene starts.IsLocked lock_at party_after here refl))
       ((refl, none), tt) (omega arith) (omega arith)

@@ -51,7 +51,7 @@ module _ {T : Type 0} (scene : Scene T) (inv : Inv scene) (words' : List ℕ) (y
     pub contents : (i : ℕ) → contents_of i (events ++ es) ≡ contents_of i events
     pub announced : (i : ℕ) → announced_of i (events ++ es) ≡ announced_of i events
     pub left : (i : ℕ) → left_of i events ≡ true → left_of i (events ++ es) ≡ true
-    -- nor frees an index where another writes
+    -- it frees no index where another writes
     pub spares : WellFormed m' → (q : ℕ) → q ≢ p → (i o : ℕ) → is_gone scene.terms.by o events ≡ false
         → IsWriter q i o events → left_of i events ≡ false → left_of i (events ++ es) ≡ false
 
@@ -119,8 +119,7 @@ module _ {T : Type 0} (scene : Scene T) (inv : Inv scene) (words' : List ℕ) (y
     datum_as_it_was : (i j : ℕ) → datum_in code c m' i j ≡ datum_in code c m i j
     datum_as_it_was = grind (arith, changes_no_datum, one_more)
 
-    -- a turn that counts a change, and announces only what stands, does to the elements what it
-    -- may
+    -- a turn that counts a change, and announces only what stands, does to the elements what it may
     pub counts_change : Changes scene words' y es
     counts_change = grind (arith, count_as_it_was, datum_as_it_was, raised, raised_few, length, length-set, one_more, is_some, still_stands)
 
@@ -143,12 +142,11 @@ module _ {T : Type 0} (scene : Scene T) (inv : Inv scene) (words' : List ℕ) (y
     elsewhere : WellFormed m' → (a : ℕ) → count_in code c m a % 2 ≡ 1 → a ≢ i
     elsewhere holds a odd same = grind arith
 
-    -- and so is what another writes
+    -- what another party writes is at another index
     not_theirs : WellFormed m' → (q : ℕ) → q ≢ p → (a o : ℕ) → IsWriter q a o events → a ≢ i
     not_theirs holds q ne a o theirs same = grind arith
 
-    -- a turn that stores a word of a value, by the one who may write there, does to the
-    -- elements what it may
+    -- a turn that stores a word of a value, by the one who may write there, does to the elements what it may
     pub stores : Changes scene words' y es
     stores =
         record {
@@ -203,6 +201,7 @@ module _ {T : Type 0} (scene : Scene T) (inv : Inv scene) (words' : List ℕ) (y
     moved : (a : ℕ) → count_in code c m' a ≡ count_in code c m a → a ≢ i
     moved a is same = let by_count_here = count_here in grind arith
 
+    -- no other party has run alone since the call began
     not_alone : {A : Type 0} → (q : ℕ) → q ≢ p → WasAlone q (events ++ es) → A
     not_alone q ne was =
         absurd (subst IsShut open_now (others_shut q p events (λ e. ne (sym e)) (alone_less q events es (others_begin_none q p es ne own) was)))
@@ -219,8 +218,7 @@ module _ {T : Type 0} (scene : Scene T) (inv : Inv scene) (words' : List ℕ) (y
       pub lost : WellFormed m' → (o : ℕ) → is_gone scene.terms.by o events ≡ true → filled_of i events ≡ Some o → count_in code c m i % 2 ≡ 1
       pub whole : WellFormed m' → IsWhole code c words' (events ++ es)
 
-    -- a turn that adds one to the number of an element, as it may be counted, does to the
-    -- elements what it may
+    -- a turn that adds one to the number of an element, as it may be counted, does to the elements what it may
     pub counts_one : IsCounted → Changes scene words' y es
     counts_one counted =
         record {
@@ -236,7 +234,7 @@ module _ {T : Type 0} (scene : Scene T) (inv : Inv scene) (words' : List ℕ) (y
           leaves = λ q ne.
               record {
                 under = λ holds a o low lives theirs even. (count_there a (counted.under holds q ne a o theirs even), λ j js. datum_all a j);
-                over = λ holds a o low lives theirs. let here = count_here in let ok = counted.over holds q ne o in let there = count_there a in grind arith;
+                over = λ holds a o low lives theirs. let here = count_here in let there = count_there a in grind (arith, counted.over holds q ne o);
                 placed =
                     λ holds a o low lives theirs fresh some. let here = counted.placed holds q ne o in
                     let left = counted.left a in let same = counted.contents a in grind arith;

@@ -72,14 +72,14 @@ module _ {T : Type 0} (finding : Finding T) where
     copies is =
         let same : words_after ws check_it ≡ ws =
         exchange_sets ws (count_word c k) count count is ∙ (ap (set ws (count_word c k)) (sym is) ∙ set-get_or ws (count_word c k) 0) in
-        let y = then_at finding room (finds.ChecksCount k found count) here stands.0 room (finds.Asks k found) check_it in
-        let well_formed = was_well_formed scene start tt here.span (words_after ws check_it) y copying (refl, tt) in
+        let party_after = then_at finding room (finds.ChecksCount k found count) here stands.0 room (finds.Asks k found) check_it in
+        let well_formed = was_well_formed scene start tt here.span (words_after ws check_it) party_after copying (refl, tt) in
         let acts_then : acts_of p (events ++ copying) ≡ done scene ++ Copies k value ∷ [] =
         acts_more scene start here.span copying (refl, tt) (λ start w. refl) in
         goes_on scene start (find_at c owner room (finds.Asks k found)) check_it false scene.states copying here.span (λ start w. refl)
-        (silently scene inv (words_after ws check_it) same y copying (tt, tt) (refl, tt) start
+        (silently scene inv (words_after ws check_it) same party_after copying (tt, tt) (refl, tt) start
         (find_at c owner room (finds.ChecksCount k found count)) tt here well_formed
-        (owes_none scene start (find_at c owner room (finds.ChecksCount k found count)) y here refl)
+        (owes_none scene start (find_at c owner room (finds.ChecksCount k found count)) party_after here refl)
         (record {
           asks = (tt, tt);
           recovers = (tt, tt);
@@ -137,15 +137,14 @@ module _ {T : Type 0} (finding : Finding T) where
         (below_more k (k + 1) _ (omega arith) stands.1.1) h.0.1
         (found_past finding k found (λ holds through. other (h.1 holds through)) h.0.2) h.2.room
 
-    -- the step in which a find checks the number shows what it has to, whether it is the same
-    -- or not
+    -- the step in which a find checks the number shows what it has to, whether it is the same or not
     check_step : StepOf scene start (find_at c owner room (finds.ChecksCount k found count))
     check_step =
         on_bool (λ b. Leads scene start (Some (exchanges (count_word c k) count count)) false scene.states
         ((if b then Copied p k (read_in code room) ∷ [] else []) ++ [])
         (as_find room (if b then GoOn (at_find first (finds.Asks k found)) else find_comes_to first (k + 1) found)))
         (count_now == count)
-        (λ t. let is : count_now ≡ count = grind (arith, nat_tests) in copies is)
+        (λ t. let same_count : count_now ≡ count = grind (arith, nat_tests) in copies same_count)
         (λ t. let other : count_now ≢ count = grind (arith, nat_tests) in fails other)
 
   -- ---- it is told whether to go on
@@ -169,8 +168,7 @@ module _ {T : Type 0} (finding : Finding T) where
 
   -- ---- any step
 
-  -- any step of a find that stands at a stage, and knows what the stage tells, shows what it
-  -- has to
+  -- any step of a find that stands at a stage, and knows what the stage tells, shows what it has to
   pub find_step : (room : buffers.Buffer 128) (stage : FindStage) → FindAt c z (all scene) (done scene) stage
       → IsHere scene (Find owner) (find_at c owner room stage) → Knows code c (find_at c owner room stage) v
       → steps ≤ find_number z stage → StepOf scene (Find owner) (find_at c owner room stage)

@@ -92,6 +92,7 @@ module _ {T : Type 0} (scene : Scene T) (inv : Inv scene) (owner : ℕ) (fits : 
       → FindAt c code.size (all scene) (done scene) stage → Tells number due (find_at c owner room stage)
   stage_tells number due room (finds.LoadsCell k found) at here h asks answer loads told e = go (answer == owner) refl (done_is _ number _ e)
     where
+      -- the cases are whether the cell has the owner
       go : (b : Bool) → (answer == owner) ≡ b
           → (if b then GoOn (at_find (at_stage (finds.LoadsCell k found)) (finds.LoadsCount k (one_more found)))
           else find_comes_to (at_stage (finds.LoadsCell k found)) (k + 1) found)
@@ -99,7 +100,7 @@ module _ {T : Type 0} (scene : Scene T) (inv : Inv scene) (owner : ℕ) (fits : 
           → Has c number
       go true t r = absurd (cc)
       go false t r =
-          let is : answer ≡ cell scene.words k = loads (sym asks) in
+          let answer_is : answer ≡ cell scene.words k = loads (sym asks) in
           let other : cell scene.words k ≢ owner = grind (arith, nat_tests) in
           ended k found number at.1 (comes_is (finds.LoadsCell k found) k found number r)
           (record {
@@ -108,14 +109,15 @@ module _ {T : Type 0} (scene : Scene T) (inv : Inv scene) (owner : ℕ) (fits : 
           })
   stage_tells number due room (finds.LoadsCount k found) at here h asks answer loads told e = go (is_even answer) refl (done_is _ number _ e)
     where
+      -- the cases are whether the count is even (nothing stands there)
       go : (b : Bool) → is_even answer ≡ b
           → (if b then find_comes_to (at_stage (finds.LoadsCount k found)) (k + 1) found else GoOn
           (at_find (at_stage (finds.LoadsCount k found)) (finds.LoadsWord k found answer 0)))
           ≡ Done number
           → Has c number
       go true t r =
-          let is : answer ≡ count_in code c (before scene) k = loads (sym asks) in
-          let even : is_even (count_in code c (before scene) k) ≡ true = subst (λ n. is_even n ≡ true) is t in
+          let answer_is : answer ≡ count_in code c (before scene) k = loads (sym asks) in
+          let even : is_even (count_in code c (before scene) k) ≡ true = subst (λ n. is_even n ≡ true) answer_is t in
           ended k found number at.1 (comes_is (finds.LoadsCount k found) k found number r)
           (record {
             count = h.1.0.1;
@@ -129,6 +131,7 @@ module _ {T : Type 0} (scene : Scene T) (inv : Inv scene) (owner : ℕ) (fits : 
   stage_tells number due room (finds.LoadsWord k found count word) at here h asks answer loads told e =
       go (nat_lt (word + 1) code.size) (done_is _ number _ e)
     where
+      -- the cases are whether a further word of the value follows; the find goes on in both
       go : (b : Bool)
           → (if b then GoOn
           (at_find (at_stage (finds.LoadsWord k found count word)) (finds.LoadsWord k found count (word + 1)))
@@ -141,6 +144,7 @@ module _ {T : Type 0} (scene : Scene T) (inv : Inv scene) (owner : ℕ) (fits : 
   stage_tells number due room (finds.ChecksCount k found count) at here h asks answer loads told e =
       go (answer == count) refl (done_is _ number _ e)
     where
+      -- the cases are whether the count is still what was read
       go : (b : Bool) → (answer == count) ≡ b
           → (if b then GoOn (at_find (at_stage (finds.ChecksCount k found count)) (finds.Asks k found))
           else find_comes_to (at_stage (finds.ChecksCount k found count)) (k + 1) found)
@@ -148,7 +152,7 @@ module _ {T : Type 0} (scene : Scene T) (inv : Inv scene) (owner : ℕ) (fits : 
           → Has c number
       go true t r = absurd (cc)
       go false t r =
-          let is : answer ≡ count_in code c (before scene) k = loads (sym asks) in
+          let answer_is : answer ≡ count_in code c (before scene) k = loads (sym asks) in
           let other : count_in code c (before scene) k ≢ count = grind (arith, nat_tests) in
           ended k found number at.1.0 (comes_is (finds.ChecksCount k found count) k found number r)
           (record {
@@ -182,8 +186,7 @@ module _ {T : Type 0} (scene : Scene T) (inv : Inv scene) (owner : ℕ) where
   owner_fits (calls.Find run) at = at.2
   owner_fits flight at = absurd at
 
-  -- a find that ends when it is handed what it has loaded, or a yes, has its number for the
-  -- whole container
+  -- a find that ends when it is handed what it has loaded, or a yes, has its number for the whole container
   find_tells : (number : ℕ) (due : Bool) (flight : ContainerFlight T)
       → (at : At c code.size (all scene) (done scene) (Find owner) flight) → (fits : owner < empty)
       → Tells scene inv owner fits number due flight
@@ -193,8 +196,7 @@ module _ {T : Type 0} (scene : Scene T) (inv : Inv scene) (owner : ℕ) where
       (stage_tells scene inv owner fits number due run.room run.call.stage at.3)
   find_tells number due flight at fits = absurd at
 
-  -- a find that a no ends has its number for the indices up to the one that it asked about,
-  -- that one among them
+  -- a find that a no ends has its number for the indices up to the one that it asked about, that one among them
   find_stops : (number index : ℕ) (value : T) (flight : ContainerFlight T)
       → At c code.size (all scene) (done scene) (Find owner) flight → (fits : owner < empty)
       → Stops scene inv owner fits number index value flight
@@ -272,12 +274,12 @@ module _ {T : Type 0} (handed : Handed T) where
       → IsHere scene (Find owner) flight → (fits : owner < empty)
       → Has scene inv owner fits bound number
       → Ends bound
-  ends_with bound flight is here fits has_holds =
+  ends_with bound flight is here fits found_so_far =
       record {
         party = is;
-        count = subst (λ n. IsCount n (IsFilledWith owner) bound number t.events) is has_holds.count;
+        count = subst (λ n. IsCount n (IsFilledWith owner) bound number t.events) is found_so_far.count;
         whole = λ y well_formed.
-            subst (λ n. IsFoundWhole n owner bound number t.events) is (has_holds.whole (was_well_formed scene (Find owner) tt here.span s.state.words y
+            subst (λ n. IsFoundWhole n owner bound number t.events) is (found_so_far.whole (was_well_formed scene (Find owner) tt here.span s.state.words y
             (Finished p (Container (Find owner)) (Number number) ∷ []) (ap Some (sym is), tt) well_formed));
       }
 
@@ -287,15 +289,15 @@ module _ {T : Type 0} (handed : Handed T) where
       → StandsThere (family_by terms code c) t s q x since start flight → is_question (want_of code flight) ≡ due
       → (due ≡ false → answer ≡ old_of s.state.words (ask_of (want_of code flight)))
       → Wrote code (kept_now shown terms code c t s) start flight → Ends c
-  counted due told (Container start) (flights.Container flight) stands_there_holds asks loads wrote =
+  counted due told (Container start) (flights.Container flight) standing asks loads wrote =
       let end = wrote_end start flight wrote in
       let name = find_name start owner end.name in
-      let stands = subst (λ a. StandsThere (family_by terms code c) t s q x since (Container a) (flights.Container flight)) name stands_there_holds in
+      let stands = subst (λ a. StandsThere (family_by terms code c) t s q x since (Container a) (flights.Container flight)) name standing in
       let there = is_there shown terms code c t s q x since found (Find owner) flight stands in
       let fits = owner_fits scene inv owner flight there.at in
       ends_with c flight end.party there.here fits (find_tells scene inv owner number due flight there.at fits
       there.here there.knows asks answer loads told end.done)
-  counted due told start flight stands_there_holds asks loads wrote = absurd stands_there_holds.at
+  counted due told start flight standing asks loads wrote = absurd standing.at
 
   -- a call that stands there, was told no about an index, and wrote that the find is done, has
   -- counted over the indices up to that one
@@ -303,21 +305,21 @@ module _ {T : Type 0} (handed : Handed T) where
       → StandsThere (family_by terms code c) t s q x since start flight
       → question_in code (Some flight) ≡ Some (index, value) → Wrote code (kept_now shown terms code c t s) start flight
       → Ends (index + 1)
-  stopped index value zero (Container start) (flights.Container flight) stands_there_holds asks wrote =
+  stopped index value zero (Container start) (flights.Container flight) standing asks wrote =
       let end = wrote_end start flight wrote in
       let name = find_name start owner end.name in
-      let stands = subst (λ a. StandsThere (family_by terms code c) t s q x since (Container a) (flights.Container flight)) name stands_there_holds in
+      let stands = subst (λ a. StandsThere (family_by terms code c) t s q x since (Container a) (flights.Container flight)) name standing in
       let there = is_there shown terms code c t s q x since found (Find owner) flight stands in
       let fits = owner_fits scene inv owner flight there.at in
       ends_with (index + 1) flight end.party there.here fits (find_stops scene inv owner number index value flight there.at fits there.knows asks
       (subst (λ n. answer_in (any_call (after code (state_of q s.state.states) flight n)) ≡ Some (Number number)) zero end.done))
-  stopped index value zero start flight stands_there_holds asks wrote = absurd stands_there_holds.at
+  stopped index value zero start flight standing asks wrote = absurd standing.at
 
   own_end : (start : Start T) (flight : Flight T) → StandsThere (family_by terms code c) t s q x since start flight
       → Wrote code (kept_now shown terms code c t s) start flight → q ≡ p
   own_end = grind (arith, wrote_end)
 
-  -- by the words, and what is kept beside them
+  -- the call under way stands there, by the words and what is kept beside them
   module _ (flight : Flight T) (doing : x.doing ≡ Going flight since) (e : Wrote t.world.coding t.world.kept x.start flight) where
     there_is : StandsThere (family_by terms code c) t s q x since x.start flight
     there_is = stands_there (family_by terms code c) t s q x since flight found doing
@@ -330,8 +332,7 @@ module _ {T : Type 0} (handed : Handed T) where
     pub own_party : q ≡ p
     own_party = own_end x.start flight there_is by_now
 
-    -- a find that wrote its end when it was handed what it had loaded, or a yes, has counted
-    -- over the whole container
+    -- a find that wrote its end when it was handed what it had loaded, or a yes, has counted over the whole container
     pub all_counted : (due : Bool) → (due ≡ true → answer ≢ 0) → is_question (want_of t.world.coding flight) ≡ due
         → (due ≡ false → answer ≡ old_of t.world.words (ask_of (want_of t.world.coding flight))) → Ends c
     all_counted due told asks loads =
@@ -348,8 +349,7 @@ module _ {T : Type 0} (handed : Handed T) where
 
 -- ---- any turn
 
--- `c` is the capacity, `t` the run so far, `s` what is sound of it; party `p` finds for the
--- owner
+-- `c` is the capacity, `t` the run so far, `s` what is sound of it; party `p` finds for the owner
 module _ {T : Type 0} (shown : Shown T) (terms : Terms) (code : Coding T) (c : ℕ) (t : Trace T)
     (s : frame.Sound (family_by terms code c) t) (p owner number : ℕ) where
   abbrev Ended : List (Event T) → Type 0
@@ -389,77 +389,77 @@ module _ {T : Type 0} (shown : Shown T) (terms : Terms) (code : Coding T) (c : �
   next_tells : (q : ℕ) → MayGoOn terms t → is_due t.world.coding (flight_in t.world q) ≡ false
       → (o : Option (Party T)) → party_of q t.world.latest ≡ o → Ended (events_of_next t.world q o)
       → Told c (after_next t.world q o).latest
-  next_tells q may free None found ended_holds = absurd (cc)
-  next_tells q may free (Some x) found ended_holds = go x.doing refl ended_holds
+  next_tells q may free None found ended = absurd (cc)
+  next_tells q may free (Some x) found ended = go x.doing refl ended
     where
+      -- the cases are whether the party's call is over or under way
       go : (doing : Doing T) → x.doing ≡ doing → Ended (events_of_answer t.world q x (old_of t.world.words (ask_of_doing t.world.coding doing)) doing)
           → Told c (after_answer t.world q x (ask_of_doing t.world.coding doing) (old_of t.world.words (ask_of_doing t.world.coding doing)) doing).latest
-      go (Over others) same_doing ended_holds = absurd (cc)
-      go (Going flight since) same_doing ended_holds =
-          let here : flight_in t.world q ≡ Some flight = ap (λ o. flight_of (doing_of o)) found ∙ ap (λ same_doing. flight_of (Some same_doing)) same_doing in
+      go (Over others) same_doing ended = absurd (cc)
+      go (Going flight since) same_doing ended =
+          let here : flight_in t.world q ≡ Some flight = ap (λ o. flight_of (doing_of o)) found ∙ ap (λ d. flight_of (Some d)) same_doing in
           let h =
           all_counted (handed q may found since (Next q) refl (old_of t.world.words (ask_of (want_of t.world.coding flight))))
-          flight same_doing ended_holds false
+          flight same_doing ended false
           (λ told. absurd (cc)) (rw here at free) (λ no. refl) in
           (h.count, h.whole _)
 
-  -- a decision that wrote only that the find is done, and that is no no to its party, tells of
-  -- the whole container
+  -- a decision that wrote only that the find is done, other than a no to its party, tells of the whole container
   decision_tells : (q : ℕ) (said : Bool) → MayGoOn terms t → is_due t.world.coding (flight_in t.world q) ≡ true
       → ◌≢◌ {A = Turn T} (Decide q said) (Decide p false) → (o : Option (Party T)) → party_of q t.world.latest ≡ o
       → Ended (events_of_decision t.world q said o)
       → Told c (after_decision t.world q said o).latest
-  decision_tells q said may due ne None found ended_holds = absurd (cc)
-  decision_tells q said may due ne (Some x) found ended_holds = go x.doing refl ended_holds
+  decision_tells q said may due ne None found ended = absurd (cc)
+  decision_tells q said may due ne (Some x) found ended = go x.doing refl ended
     where
       go : (doing : Doing T) → x.doing ≡ doing → Ended (events_of_answer t.world q x (number_of said) doing)
           → Told c (after_answer t.world q x None (number_of said) doing).latest
-      go (Over others) same_doing ended_holds = absurd (cc)
-      go (Going flight since) same_doing ended_holds = by said refl
+      go (Over others) same_doing ended = absurd (cc)
+      go (Going flight since) same_doing ended = by said refl
         where
+          -- the cases are whether the decision was yes
           by : (b : Bool) → said ≡ b → Told c (after_answer t.world q x None (number_of said) (Going flight since)).latest
           by true is =
               let here : flight_in t.world q ≡ Some flight =
-              ap (λ o. flight_of (doing_of o)) found ∙ ap (λ same_doing. flight_of (Some same_doing)) same_doing in
+              ap (λ o. flight_of (doing_of o)) found ∙ ap (λ d. flight_of (Some d)) same_doing in
               let h =
-              all_counted (handed q may found since (Decide q said) refl (number_of said)) flight same_doing ended_holds true
+              all_counted (handed q may found since (Decide q said) refl (number_of said)) flight same_doing ended true
               (λ told zero. let one : number_of said ≡ 1 = ap number_of is in absurd (omega arith)) (rw here at due)
               (λ no. absurd (cc)) in
               (h.count, h.whole _)
           by false is =
-              let party = own_party (handed q may found since (Decide q said) refl (number_of said)) flight same_doing ended_holds in
+              let party = own_party (handed q may found since (Decide q said) refl (number_of said)) flight same_doing ended in
               absurd (ne (ap (λ n. Decide n said) party ∙ ap (λ b. Decide p b) is))
 
-  -- a no to a find about an index, which wrote only that it is done, tells of the indices up to
-  -- that one
+  -- a no to a find about an index, which wrote only that it is done, tells of the indices up to that one
   stop_tells : (index : ℕ) (value : T) → MayGoOn terms t → (o : Option (Party T)) → party_of p t.world.latest ≡ o
       → question_in t.world.coding (flight_of (doing_of o)) ≡ Some (index, value)
       → Ended (events_of_decision t.world p false o) → Told (index + 1) (after_decision t.world p false o).latest
-  stop_tells index value may None found asks ended_holds = absurd (cc)
-  stop_tells index value may (Some x) found asks ended_holds = go x.doing refl asks ended_holds
+  stop_tells index value may None found asks ended = absurd (cc)
+  stop_tells index value may (Some x) found asks ended = go x.doing refl asks ended
     where
+      -- the cases are whether the party's call is over or under way
       go : (doing : Doing T) → x.doing ≡ doing
           → question_in t.world.coding (flight_of (Some doing)) ≡ Some (index, value)
           → Ended (events_of_answer t.world p x (number_of false) doing)
           → Told (index + 1) (after_answer t.world p x None (number_of false) doing).latest
-      go (Over others) same_doing asks ended_holds = absurd (cc)
-      go (Going flight since) same_doing asks ended_holds =
-          let h = all_stopped (handed p may found since (Decide p false) refl (number_of false)) flight same_doing ended_holds index value refl asks in
+      go (Over others) same_doing asks ended = absurd (cc)
+      go (Going flight since) same_doing asks ended =
+          let h = all_stopped (handed p may found since (Decide p false) refl (number_of false)) flight same_doing ended index value refl asks in
           (h.count, h.whole _)
 
   -- no decision is due in a step
   not_due : (q : ℕ) → call_refusal t.world (Next q) ≡ None → is_due t.world.coding (flight_in t.world q) ≡ false
   not_due = grind (arith, row_passed, is_none)
 
-  -- a turn that wrote only that the find is done, and that is no no to its party, tells of the
-  -- whole container
+  -- a turn that wrote only that the find is done, other than a no to its party, tells of the whole container
   tells : MayGoOn terms t → (turn : Turn T) → IsAllowed t.world turn → Ended (events_of t.world turn)
       → turn ≢ Decide p false → Told c (after_turn t turn).world.latest
-  tells may (Begin q start) allowed ended_holds ne = absurd (cc)
-  tells may (Next q) allowed ended_holds ne = next_tells q may (not_due q allowed) (party_of q t.world.latest) refl ended_holds
-  tells may (Decide q said) allowed ended_holds ne =
-      decision_tells q said may allowed ne (party_of q t.world.latest) refl ended_holds
-  tells may (Die o) allowed ended_holds ne = absurd (cc)
+  tells may (Begin q start) allowed ended ne = absurd (cc)
+  tells may (Next q) allowed ended ne = next_tells q may (not_due q allowed) (party_of q t.world.latest) refl ended
+  tells may (Decide q said) allowed ended ne =
+      decision_tells q said may allowed ne (party_of q t.world.latest) refl ended
+  tells may (Die o) allowed ended ne = absurd (cc)
 
 module _ {T : Type 0} (shown : Shown T) (terms : Terms) (code : Coding T) (t : Trace T)
     (s : frame.Sound (family_by terms code t.world.capacity) t) (may : MayGoOn terms t) (turn : Turn T)
@@ -472,8 +472,7 @@ module _ {T : Type 0} (shown : Shown T) (terms : Terms) (code : Coding T) (t : T
       → CountsIf well_formed p owner bound number t.events
   right = grind (arith, after_turn)
 
-  -- a find that ends in a turn that is no no to its party has counted right over the whole
-  -- container
+  -- a find that ends in a turn other than a no to its party has counted right over the whole container
   pub counts_all : (p owner number : ℕ)
       → (after_turn t turn).events ≡ t.events ++ Finished p (Container (Find owner)) (Number number) ∷ []
       → turn ≢ Decide p false → CountsIf well_formed p owner t.world.capacity number t.events

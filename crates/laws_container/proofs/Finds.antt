@@ -128,8 +128,7 @@ module _ {T : Type 0} (finding : Finding T) where
             through = still_through p (IsFilledWith owner) k found events h.count b new adds once not;
           }
 
-      -- an index that is counted, or not, adds to the number below the next bound and is still
-      -- to be copied
+      -- an index that is counted, or not, adds to the number below the next bound and is still to be copied
       found_with : HasFoundBelow code c owner (k + 1) k new v
       found_with =
           record {
@@ -147,8 +146,7 @@ module _ {T : Type 0} (finding : Finding T) where
                 (λ ne. h.copied i (omega arith) (sym (with_there h.count.chosen k b i ne) ∙ chosen) through) (cases_eq i k);
           }
 
-    -- a cell that has the owner adds one to those that are found, of which this one is still to
-    -- be copied
+    -- a cell that has the owner adds one to those that are found, of which this one is still to be copied
     found_one : cell ws k ≡ owner → HasFound k k found → Counted k found → HasFound (k + 1) k (one_more found)
     found_one is h counted well_formed =
         let few = inv.good.few in
@@ -192,11 +190,11 @@ module _ {T : Type 0} (finding : Finding T) where
         → Knows code c (find_at c owner room' next) (SeesCalmly room' next ask)
         → Leads scene start ask false scene.states [] (GoOn (find_at c owner room' next))
     calm_step room' next ask same few at known =
-        let y = then_at room' next ask in
+        let party_after = then_at room' next ask in
         goes_calmly scene start (find_at c owner room' next) ask false scene.states here.span
-        (silently scene inv (words_after ws ask) same y [] tt tt start (find_at c owner room stage) tt here
-        (was_well_formed scene start tt here.span (words_after ws ask) y [] tt)
-        (owes_none scene start (find_at c owner room stage) y here refl) (right_none (words_after ws ask) y))
+        (silently scene inv (words_after ws ask) same party_after [] tt tt start (find_at c owner room stage) tt here
+        (was_well_formed scene start tt here.span (words_after ws ask) party_after [] tt)
+        (owes_none scene start (find_at c owner room stage) party_after here refl) (right_none (words_after ws ask) party_after))
         few (refl, refl, fits, at) known
 
     -- what it has counted stays so, over a step that writes nothing
@@ -213,12 +211,12 @@ module _ {T : Type 0} (finding : Finding T) where
         → steps + step_count ask ≤ c * (z + 3) → Counted bound number
         → Leads scene start ask false scene.states [] (Done (answers.Number number))
     ends_there ask same bound number within paid few counted =
-        let y = party_then scene start ask false (Done (answers.Number number)) in
-        let es = Finished p (Container start) (answers.Number number) ∷ [] in
+        let party_after = party_then scene start ask false (Done (answers.Number number)) in
+        let written = Finished p (Container start) (answers.Number number) ∷ [] in
         ends scene start (answers.Number number) ask false scene.states [] here.span none_lengthens
-        (silently scene inv (words_after ws ask) same y es (tt, tt) (refl, tt) start (find_at c owner room stage) tt
-        here (was_well_formed scene start tt here.span (words_after ws ask) y es (refl, tt))
-        (owes_none scene start (find_at c owner room stage) y here refl)
+        (silently scene inv (words_after ws ask) same party_after written (tt, tt) (refl, tt) start (find_at c owner room stage) tt
+        here (was_well_formed scene start tt here.span (words_after ws ask) party_after written (refl, tt))
+        (owes_none scene start (find_at c owner room stage) party_after here refl)
         (record {
           asks = (tt, tt);
           recovers = (tt, tt);
@@ -228,8 +226,7 @@ module _ {T : Type 0} (finding : Finding T) where
         }))
         ((refl, nothing), tt) few (omega arith)
 
-    -- a step that leaves the words brings a find to the next index, or to its end behind the
-    -- last
+    -- a step that leaves the words brings a find to the next index, or to its end behind the last
     pub comes_to_next : (ask : Option Ask) → words_after ws ask ≡ ws → (k found : ℕ) → k < c → IsPaid v
         → steps + step_count ask ≤ (k + 1) * (z + 3) → AreBelow (k + 1) (seen_in (done scene)) → Counted (k + 1) found
         → HasFound (k + 1) (k + 1) found → IsLong room
@@ -257,7 +254,7 @@ module _ {T : Type 0} (finding : Finding T) where
         (as_find room (if b then GoOn (at_find first (finds.LoadsCount k (one_more found))) else find_comes_to first (k + 1) found)))
         (cell ws k == owner)
         (λ t.
-        let is : cell ws k ≡ owner = grind (arith, nat_tests) in
+        let has_owner : cell ws k ≡ owner = grind (arith, nat_tests) in
         calm_step room (finds.LoadsCell k found) here at.0 room
         (finds.LoadsCount k (one_more found)) (Some (set_stages.loads (cell_word k)))
         (loads_same ws (cell_word k)) (omega arith) at (
@@ -265,8 +262,8 @@ module _ {T : Type 0} (finding : Finding T) where
           (
             counts_calm room (finds.LoadsCell k found) here at.0 room
                 (finds.LoadsCount k (one_more found)) (Some (set_stages.loads (cell_word k))) (k + 1) k
-                (one_more found) h.0 (one_counts k found at.1 is h.1) (found_one k found at.1 is h.2 h.1),
-            held_now p (IsFilledWith owner k) events (filled_by (of_set scene) (inv_of_set scene inv) k at.1 owner fits is),
+                (one_more found) h.0 (one_counts k found at.1 has_owner h.1) (found_one k found at.1 has_owner h.2 h.1),
+            held_now p (IsFilledWith owner k) events (filled_by (of_set scene) (inv_of_set scene inv) k at.1 owner fits has_owner),
           ),
         ))
         (λ t.
@@ -318,7 +315,7 @@ module _ {T : Type 0} (finding : Finding T) where
             copying_first code c (SeesCalmly room (finds.LoadsCount k found) here at.0 room
                 (finds.LoadsWord k found number 0) load_it)
                 k number room.words at.1 long (odd_is number t)
-                (λ kept. let eq = ap (λ w. count_at c w k) same in omega arith),
+                (λ kept. omega (arith, ap (λ w. count_at c w k) same)),
             h.1,
           ),
         ))
@@ -367,8 +364,7 @@ module _ {T : Type 0} (finding : Finding T) where
     long_on : IsLong room'
     long_on = length-set room.words at word ∙ h.2.room
 
-    -- the step in which a find loads a word leads on, to the next word or to the check of the
-    -- number
+    -- the step in which a find loads a word leads on, to the next word or to the check of the number
     pub word_step : StepOf scene start (find_at c owner room (finds.LoadsWord k found count at))
     word_step =
         on_bool (λ b. Leads scene start (Some (set_stages.loads (element_word c z k at))) false scene.states []
@@ -391,7 +387,7 @@ module _ {T : Type 0} (finding : Finding T) where
         (λ t.
         let last : z ≤ at + 1 = grind (arith, nat_tests) in
         let ats = stands.2 in
-        let is : at + 1 ≡ z = omega arith in
+        let is_last : at + 1 ≡ z = omega arith in
         calm_step room (finds.LoadsWord k found count at) here stands.0 room'
         (finds.ChecksCount k found count) load_word same_words (omega arith) (stands.0, stands.1) (
           long_on,
@@ -401,7 +397,7 @@ module _ {T : Type 0} (finding : Finding T) where
             subst (λ n. Copying code c k count room'.words n
                 (SeesCalmly room (finds.LoadsWord k found count at) here stands.0 room'
                 (finds.ChecksCount k found count) load_word))
-                is (copied_on (finds.ChecksCount k found count)),
+                is_last (copied_on (finds.ChecksCount k found count)),
             h.3,
           ),
         ))

@@ -21,7 +21,7 @@ module _ {T : Type 0} (code : Coding T) (c : ℕ) where
       → SinceBegin p (λ part since. settled_of index part ≡ Some owner) m.events
       → Covered index count m
 
-  -- and before a recovery, while its owner fills the index
+  -- what a recovery knows before it may free an index, while its owner fills it
   abbrev pub RecoverCovers : ℕ → ℕ → ℕ → Now T → Type 0
   RecoverCovers owner index count m =
       WellFormed m → filled_of index m.events ≡ Some owner → Covered index count m

@@ -11,16 +11,15 @@ use Rattle.laws_container.proofs.Turns.{Now, WellFormed, Passes, Leaves}
 module _ {T : Type 0} where
   -- nothing stands there
   pub nothing_is : (o : Option T) → is_some o ≡ false → o ≡ None
-  nothing_is None is_some_false = refl
-  nothing_is (Some value) is_some_false = absurd (cc)
+  nothing_is None nothing = refl
+  nothing_is (Some value) nothing = absurd (cc)
 
   -- at this moment nothing stands at an index that has been freed
   pub empty_now : (p owner i index : ℕ) (events : List (Event T)) → IsOneOf (Frees i owner) (set_acts_of p events)
       → i ≡ index → contents_of index events ≡ None → EmptySinceFreed p owner i events
   empty_now = grind (arith, held_now)
 
--- party `q` knows this of the index in the machine `m`, and another takes a turn; `c` is the
--- capacity
+-- party `q` knows this of the index in the machine `m`, and another takes a turn; `c` is the capacity
 module _ {T : Type 0} (code : Coding T) (c q owner index count : ℕ) (m : Now T) (words' : List ℕ)
     (latest' : List (ℕ × Party T)) (es : List (Event T)) (goes : Goes m.words words' m.events es)
     (spares : Spares m.terms.by q m.events es)

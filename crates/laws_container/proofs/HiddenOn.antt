@@ -22,7 +22,7 @@ module _ {T : Type 0} (code : Coding T) (c p owner index count : ℕ) (m : Now T
       → HasHidden code c p owner (StillStands code c index count m) m → HasHidden code c p owner no_index m
   hidden_even whole below even h well_formed i freed = grind arith
 
-  -- nor where the number is another by now
+  -- where the number is another by now, what stood under it is hidden
   pub hidden_other : count_in code c m index ≢ count → HasHidden code c p owner (StillStands code c index count m) m → HasHidden code c p owner no_index m
   hidden_other = grind (arith, inl)
 
@@ -33,7 +33,7 @@ module _ {T : Type 0} (scene : Scene T) (start : ContainerStart T) (none : NoRep
     (owner : ℕ) where
   open scene use {coding as code, capacity as c, party as p, latest as latest, events as events}
 
-  -- that writes nothing
+  -- the step writes nothing
   module _ (words' : List ℕ) (y : Party T) where
     abbrev calm : Now T
     calm = moment scene.terms words' (put p y latest) events
@@ -47,7 +47,7 @@ module _ {T : Type 0} (scene : Scene T) (start : ContainerStart T) (none : NoRep
     stands_calm index count same h well_formed i freed =
         ⊎_elim (λ gone. inl gone) (λ s. inr (s.0, same ∙ s.1, s.2)) (h (was_well_formed_calmly scene start none span y well_formed) i freed)
 
-  -- that frees nothing
+  -- the step frees nothing
   module _ (words' : List ℕ) (y : Party T) (es : List (Event T)) (own : AreOwn p es) (fresh : BeginsNone p es)
       (longer : Lengthens es)
       (frees_none : (i : ℕ) → IsOneOf (Frees i owner) (all scene ++ set_acts es) → IsOneOf (Frees i owner) (all scene)) where
@@ -68,8 +68,7 @@ module _ {T : Type 0} (scene : Scene T) (start : ContainerStart T) (none : NoRep
     pub hidden_on : HasHidden code c p owner no_index (before scene) → HasHidden code c p owner no_index then_is
     hidden_on hidden = hidden_so no_index no_index (λ well_formed i freed but. absurd but) hidden
 
-    -- over a step that leaves the number and what stands at the index, that index alone is
-    -- exempt still
+    -- over a step that leaves the number and what stands at the index, that index alone is exempt still
     pub stands_on : (index count : ℕ) → count_at c words' index ≡ count_in code c (before scene) index
         → contents_of index (events ++ es) ≡ contents_of index events
         → HasHidden code c p owner (StillStands code c index count (before scene)) (before scene)
@@ -78,7 +77,7 @@ module _ {T : Type 0} (scene : Scene T) (start : ContainerStart T) (none : NoRep
         hidden_so (StillStands code c index count (before scene)) (StillStands code c index count then_is)
         (λ well_formed i freed s. inr (s.0, same ∙ s.1, ap is_some contents ∙ s.2)) hidden
 
-    -- and after which nothing stands there
+    -- after a step that leaves nothing at the index, no index is exempt
     pub hidden_now : (index count : ℕ) → contents_of index (events ++ es) ≡ None
         → HasHidden code c p owner (StillStands code c index count (before scene)) (before scene)
         → HasHidden code c p owner no_index then_is
@@ -135,7 +134,7 @@ module _ {T : Type 0} (scene : Scene T) (start : ContainerStart T) (none : NoRep
         let earlier = was_well_formed scene start none span words' y free (refl, tt) well_formed in
         ⊎_elim
         (λ had. ⊎_elim (λ gone. inl (held_later p _ events free tt gone)) (λ never. absurd never) (h earlier i had))
-        (λ e. let is : index ≡ i = cc in
-        freed_now i freed (sym is) (covered earlier well_formed) (contents_of index events) refl
+        (λ e. let same_index : index ≡ i = cc in
+        freed_now i freed (sym same_index) (covered earlier well_formed) (contents_of index events) refl
         (inv.elements.whole earlier index below))
         (was_one (Frees i owner) (Frees index owner) (all scene) (subst (IsOneOf (Frees i owner)) set_acts_then freed))

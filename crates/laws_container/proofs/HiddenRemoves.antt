@@ -37,20 +37,20 @@ total_is = grind arith
 -- it has freed its index
 removed_frees : (T : Type 0) (index owner : ℕ) (mode : ReleaseMode) (state : ReleaseState) (made : List SetAct)
     → HasDone {T = T} (Remove index owner mode) (answers.State state) made [] → IsOneOf (Frees index owner) made
-removed_frees T index owner Default states.Locked made has_done_holds = absurd has_done_holds
-removed_frees T index owner Default states.Unlocked made has_done_holds =
-    subst (IsOneOf (Frees index owner)) (sym has_done_holds) (record { before = []; after = []; is = refl })
-removed_frees T index owner LockIfLastIndex states.Locked made has_done_holds =
+removed_frees T index owner Default states.Locked made has_done = absurd has_done
+removed_frees T index owner Default states.Unlocked made has_done =
+    subst (IsOneOf (Frees index owner)) (sym has_done) (record { before = []; after = []; is = refl })
+removed_frees T index owner LockIfLastIndex states.Locked made has_done =
     ⊎_elim (λ e. subst (IsOneOf (Frees index owner)) (sym e) (record { before = []; after = []; is = refl }))
-    (λ e. subst (IsOneOf (Frees index owner)) (sym e) (record { before = []; after = Locks ∷ []; is = refl })) has_done_holds
-removed_frees T index owner LockIfLastIndex states.Unlocked made has_done_holds =
-    subst (IsOneOf (Frees index owner)) (sym has_done_holds) (record { before = []; after = []; is = refl })
+    (λ e. subst (IsOneOf (Frees index owner)) (sym e) (record { before = []; after = Locks ∷ []; is = refl })) has_done
+removed_frees T index owner LockIfLastIndex states.Unlocked made has_done =
+    subst (IsOneOf (Frees index owner)) (sym has_done) (record { before = []; after = []; is = refl })
 
 -- whatever it has done to elements
 removed_done : {T : Type 0} (index owner : ℕ) (mode : ReleaseMode) (state : ReleaseState) (made : List SetAct) (done : List (Act T))
     → HasDone {T = T} (Remove index owner mode) (answers.State state) made []
     → HasDone {T = T} (Remove index owner mode) (answers.State state) made done
-removed_done index owner mode state made acts has_done_holds = grind arith
+removed_done index owner mode state made acts has_done = grind arith
 
 -- a remove by the party of the scene, for an owner that is not gone
 pub record Removing (T : Type 0) : Type 0 where
@@ -112,9 +112,9 @@ module _ {T : Type 0} (removing : Removing T) where
     counter_stays end =
         by_bool (count_now == count)
         (λ t.
-        let is : count_now ≡ count = grind (arith, nat_tests) in
+        let same_count : count_now ≡ count = grind (arith, nat_tests) in
         (leaves_behind (of_set scene) (inv_of_set scene inv) (words_after ws hide_it) (count_word c index) _
-        (omega arith) (hides_count scene inv index count below is)).stuck
+        (omega arith) (hides_count scene inv index count below same_count)).stuck
         end)
         (λ t.
         let other : count_now ≢ count = grind (arith, nat_tests) in
@@ -142,16 +142,16 @@ module _ {T : Type 0} (removing : Removing T) where
         ((if b then Hidden p index ∷ [] else []) ++ []) (GoOn (at_stage (removes.AddsChange state))))
         (count_now == count)
         (λ t.
-        let is : count_now ≡ count = grind (arith, nat_tests) in
-        let y = then_at next hide_it false in
-        let es = Hidden p index ∷ [] in
-        let odd : count_now % 2 ≡ 1 = ap (λ n. n % 2) is ∙ stands.4 in
+        let same_count : count_now ≡ count = grind (arith, nat_tests) in
+        let party_after = then_at next hide_it false in
+        let written = Hidden p index ∷ [] in
+        let odd : count_now % 2 ≡ 1 = ap (λ n. n % 2) same_count ∙ stands.4 in
         let total = same_total in
-        goes_on scene start (at_stage next) hide_it false scene.states es here.span (λ start w. refl)
-        (hides scene inv start (at_stage (removes.Hides count state)) tt here y
-        (words_after ws hide_it) index below (hides_count scene inv index count below is) refl odd
-        (λ holds q ne o theirs fresh. both_ways (left_of index events) fresh (k.2.left holds is))
-        (was_well_formed scene start tt here.span (words_after ws hide_it) y es (refl, tt)))
+        goes_on scene start (at_stage next) hide_it false scene.states written here.span (λ start w. refl)
+        (hides scene inv start (at_stage (removes.Hides count state)) tt here party_after
+        (words_after ws hide_it) index below (hides_count scene inv index count below same_count) refl odd
+        (λ holds q ne o theirs fresh. both_ways (left_of index events) fresh (k.2.left holds same_count))
+        (was_well_formed scene start tt here.span (words_after ws hide_it) party_after written (refl, tt)))
         ((refl, stands.2, stands.3), tt) (omega arith) (
           refl,
           given_is,
@@ -163,17 +163,17 @@ module _ {T : Type 0} (removing : Removing T) where
         ) (
           let paid = k.0 in
               omega arith,
-          says_then mode state es tt y k.1,
-          hides_it scene start tt here.span owner (words_after ws hide_it) y index count k.3,
+          says_then mode state written tt party_after k.1,
+          hides_it scene start tt here.span owner (words_after ws hide_it) party_after index count k.3,
         ))
         (λ t.
         let other : count_now ≢ count = grind (arith, nat_tests) in
-        let y = then_at next hide_it false in
+        let party_after = then_at next hide_it false in
         let total = same_total in
         goes_on scene start (at_stage next) hide_it false scene.states [] here.span none_lengthens
-        (loads scene inv start (at_stage (removes.Hides count state)) tt here y
+        (loads scene inv start (at_stage (removes.Hides count state)) tt here party_after
         (words_after ws hide_it) (fails_same ws (count_word c index) count (one_more count) other)
-        (was_well_formed scene start tt here.span (words_after ws hide_it) y [] tt) (λ was. refl))
+        (was_well_formed scene start tt here.span (words_after ws hide_it) party_after [] tt) (λ was. refl))
         tt (omega arith) (
           refl,
           given_is,
@@ -184,8 +184,8 @@ module _ {T : Type 0} (removing : Removing T) where
           ),
         ) (
           let paid = k.0 in omega arith,
-          says_then mode state [] tt y k.1,
-          hidden_on scene start tt here.span owner (words_after ws hide_it) y [] tt tt none_lengthens
+          says_then mode state [] tt party_after k.1,
+          hidden_on scene start tt here.span owner (words_after ws hide_it) party_after [] tt tt none_lengthens
               (λ i was. subst (IsOneOf (Frees i owner)) (append-nil (all scene)) was)
               (hidden_other code c p owner index count (before scene) other k.3),
         ))
@@ -213,15 +213,15 @@ module _ {T : Type 0} (removing : Removing T) where
     -- the step in which a remove counts the change ends it
     pub end_step : StepOf scene start (at_stage (removes.AddsChange state))
     end_step =
-        let y = party_then scene start end_it false (Done (answers.State state)) in
-        let es = Finished p (Container start) (answers.State state) ∷ [] in
-        let well_formed = was_well_formed scene start tt here.span (words_after ws end_it) y es (refl, tt) in
+        let party_after = party_then scene start end_it false (Done (answers.State state)) in
+        let written = Finished p (Container start) (answers.State state) ∷ [] in
+        let well_formed = was_well_formed scene start tt here.span (words_after ws end_it) party_after written (refl, tt) in
         let new = adds_to_change scene inv in
         let most = total_is c z index owner mode (backs_then scene false) T in
         let total = same_total in
         ends scene start (answers.State state) end_it false scene.states [] here.span none_lengthens
-        (ends_counted scene inv start (at_stage (removes.AddsChange state)) tt here y (words_after ws end_it) (answers.State state)
-        (set_effects.quietly (of_set scene) (inv_of_set scene inv) (words_after ws end_it) es
+        (ends_counted scene inv start (at_stage (removes.AddsChange state)) tt here party_after (words_after ws end_it) (answers.State state)
+        (set_effects.quietly (of_set scene) (inv_of_set scene inv) (words_after ws end_it) written
         (leaves_behind (of_set scene) (inv_of_set scene inv) (words_after ws end_it) (change_word c) _ (omega arith) new)
         (quiet_end p (Container start) (answers.State state) (λ i o. refl) (λ i r. refl))
         (refl, tt) (tt, tt) (tt, tt))

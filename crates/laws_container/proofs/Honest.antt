@@ -41,7 +41,7 @@ module _ {T : Type 0} (events : List (Event T)) where
         → IsForLiving start
     living_by start flight at alive = grind arith
 
-    -- and one that waits for an answer does neither
+    -- a call that asks a question is for an owner who lives
     living_asked : (start : ContainerStart T) (flight : ContainerFlight T) → At c z all done start flight → is_question (want code flight) ≡ true
         → IsForLiving start
     living_asked start flight at asks = grind arith
@@ -92,8 +92,7 @@ module _ {T : Type 0} (p : ℕ) where
       pub span : span_of p events ≡ Open (Container start) wrote
       pub living : IsForLiving events start
 
-    -- an event that a step writes for a call that acts for nobody who is gone is honest, and
-    -- leaves the call so
+    -- an event that a step writes for a call that acts for nobody who is gone is honest, and leaves the call so
     one : (events : List (Event T)) (e : Event T) → IsEffectOf (Next p) e → StandsRight promise c events e → Goes events
         → ActsForRight events e × Goes (events ++ e ∷ [])
     one events e its right goes =
@@ -113,10 +112,10 @@ module _ {T : Type 0} (p : ℕ) where
         → AreRight ActsForRight events es × Goes (events ++ es)
     all_right events [] its spans goes = (tt, subst Goes (sym (append-nil events)) goes)
     all_right events (e ∷ es) its spans goes =
-        let is : (events ++ e ∷ []) ++ es ≡ events ++ e ∷ es = append_assoc events (e ∷ []) es in
+        let joined : (events ++ e ∷ []) ++ es ≡ events ++ e ∷ es = append_assoc events (e ∷ []) es in
         let first = one events e its.0 (spans events es e refl) goes in
-        let rest = all_right (events ++ e ∷ []) es its.1 (subst (Each (StandsRight promise c)) (sym is) spans) first.1 in
-        ((first.0, rest.0), subst Goes is rest.1)
+        let rest = all_right (events ++ e ∷ []) es its.1 (subst (Each (StandsRight promise c)) (sym joined) spans) first.1 in
+        ((first.0, rest.0), subst Goes joined rest.1)
 
     end_right : (events : List (Event T)) (outcome : Option (Answer T)) → IsForLiving events start
         → AreRight ActsForRight events (ending_of p (Container start) outcome)
@@ -128,10 +127,10 @@ module _ {T : Type 0} (p : ℕ) where
         → IsHonest (events ++ (did ++ ending_of p (Container start) outcome))
     honest_more events did outcome its goes honest spans =
         let ends = ending_of p (Container start) outcome in
-        let is : (events ++ did) ++ ends ≡ events ++ (did ++ ends) = append_assoc events did ends in
-        let before = Each-less (StandsRight promise c) (events ++ did) ends (subst (Each (StandsRight promise c)) (sym is) spans) in
+        let joined : (events ++ did) ++ ends ≡ events ++ (did ++ ends) = append_assoc events did ends in
+        let before = Each-less (StandsRight promise c) (events ++ did) ends (subst (Each (StandsRight promise c)) (sym joined) spans) in
         let r = all_right events did its before goes in
-        subst IsHonest is
+        subst IsHonest joined
         (Each-append ActsForRight (events ++ did) ends (Each-append ActsForRight events did honest r.0) (end_right (events ++ did) outcome r.1.living))
 
 -- ---- one turn
@@ -185,12 +184,12 @@ module _ {T : Type 0} (terms : Terms) (code : Coding T) (c : ℕ) (t : Trace T) 
   same = subst IsHonest (sym (append-nil t.events)) honest
 
   by_steps : (flight : Flight T) → is_for_gone t.events (Some flight) ≡ false → Minds flight
-  by_steps (flights.Container flight) is_for_gone_false = inl is_for_gone_false
-  by_steps flight is_for_gone_false = tt
+  by_steps (flights.Container flight) owner_lives = inl owner_lives
+  by_steps flight owner_lives = tt
 
   by_question : (flight : Flight T) → is_question (want_of t.world.coding flight) ≡ true → Minds flight
-  by_question (flights.Container flight) is_question_true = inr is_question_true
-  by_question flight is_question_true = tt
+  by_question (flights.Container flight) asks = inr asks
+  by_question flight asks = tt
 
   flies : (p : ℕ) (x : Party T) (flight : Flight T) (since : ℕ) → party_of p t.world.latest ≡ Some x → x.doing ≡ Going flight since
       → flight_in t.world p ≡ Some flight
@@ -202,6 +201,7 @@ module _ {T : Type 0} (terms : Terms) (code : Coding T) (c : ℕ) (t : Trace T) 
   next_honest p steps None e spans = same
   next_honest p steps (Some x) e spans = go x.doing refl spans
     where
+      -- the cases are whether the party's call is over or under way
       go : (doing : Doing T) → x.doing ≡ doing → Spans (events_of_answer t.world p x (old doing) doing)
           → Honest (events_of_answer t.world p x (old doing) doing)
       go (Over others) same_doing spans = same
@@ -215,6 +215,7 @@ module _ {T : Type 0} (terms : Terms) (code : Coding T) (c : ℕ) (t : Trace T) 
   decision_honest p said due None e spans = same
   decision_honest p said due (Some x) e spans = go x.doing refl spans
     where
+      -- the cases are whether the party's call is over or under way
       go : (doing : Doing T) → x.doing ≡ doing → Spans (events_of_answer t.world p x (number_of said) doing)
           → Honest (events_of_answer t.world p x (number_of said) doing)
       go (Over others) same_doing spans = same
@@ -223,8 +224,7 @@ module _ {T : Type 0} (terms : Terms) (code : Coding T) (c : ℕ) (t : Trace T) 
           (by_question flight (subst (λ o. is_due t.world.coding o ≡ true) (flies p x flight since e same_doing) due))
           spans
 
-  -- a turn that an open run does not refuse, and that takes no step for one who is gone, leaves
-  -- the run honest
+  -- a turn that an open run does not refuse, and that takes no step for one who is gone, leaves the run honest
   pub turn_honest : (turn : Turn T) → open_refusal t.world turn ≡ None → steps_for_gone t turn ≡ false
       → frame.Sound (family_by terms code c) (after_turn t turn) → IsHonest (after_turn t turn).events
   turn_honest (Begin p start) e steps next = Each-append ActsForRight t.events (Begun p start ∷ []) honest (tt, tt)

@@ -281,8 +281,7 @@ module _ {T : Type 0} (scene : Scene T) where
         events = events ++ es;
       }
 
-  -- what is so after a turn that leaves these words and states, writes these events, and has
-  -- changed words so often
+  -- what is so after a turn that leaves these words and states, writes these events, and has changed words so often
   pub record Shows (words' : List ℕ) (states' : List (ℕ × ContainerState T)) (from : Span T) (y : Party T) (es : List (Event T)) (changes' : ℕ) : Type 0 where
     pub does : Does scene words' states' y es
     pub stands : AllFollow (Stands promise c) from es
@@ -318,7 +317,7 @@ module _ {T : Type 0} (scene : Scene T) where
 
   pub at_written : (c z : ℕ) (w w' : List (Event T)) (start : Start T) (flight : Flight T) → w' ≡ w
       → FlightAt c z (set_acts w) (acts w) start flight → FlightAt c z (set_acts w') (acts w') start flight
-  at_written c z w w' start flight same flight_at_holds = subst (λ x. FlightAt c z (set_acts x) (acts x) start flight) (sym same) flight_at_holds
+  at_written c z w w' start flight same standing = subst (λ x. FlightAt c z (set_acts x) (acts x) start flight) (sym same) standing
 
   module _ (words' : List ℕ) (states' : List (ℕ × ContainerState T)) (from : Span T) (y : Party T)
       (es : List (Event T)) (changes' : ℕ) (s : Shows words' states' from y es changes') (old : ContainerNow T)

@@ -24,8 +24,7 @@ use Rattle.laws_container.proofs.TurnPromises.{tells_if}
 use Rattle.laws_container.proofs.Written.{all_effects}
 
 module _ {T : Type 0} (shown : Shown T) (code : Coding T) (c : ℕ) where
-  -- what a step of a call that stands there writes down is effects of the step's party, and
-  -- then the call's end
+  -- what a step of a call that stands there writes down is effects of the step's party, and then the call's end
   writes : (t : Trace T) (turn : Turn T) (p : ℕ) → IsParty turn p → (answer : ℕ) (s : ContainerNow T) (start : Start T) (flight : Flight T)
       → (family code c).At s p start flight
       → Writes (outline dying) t turn (answered_from t p t.world.coding answer s.words (registries.Container s.dead s.states) start flight)
@@ -45,7 +44,7 @@ module _ {T : Type 0} (shown : Shown T) (code : Coding T) (c : ℕ) where
       → frame.Sound (family code c) t → promise.tells t turn (after_turn t turn)
   tells_all t turn e sound = here (subst (λ n. frame.Sound (family code n) t) (sym sound.capacity) sound)
     where
-      -- by the machine's own capacity it does
+      -- a turn that the rows allow tells all that the promise says by the machine's own capacity
       here : frame.Sound (family code t.world.capacity) t → promise.tells t turn (after_turn t turn)
       here sound =
           let passed = passes t.world turn e in

@@ -35,8 +35,7 @@ module _ {T : Type 0} where
       → WasFilled owner index v → WellFormed (now v) → MayReplace v.party index owner v.events
   may_replace = grind arith
 
-  -- a replace that has found its owner may write at its index, in a well-formed run, if that
-  -- owner is not gone
+  -- a replace that has found its owner may write at its index, in a well-formed run, if that owner is not gone
   pub replacing : (c index owner : ℕ) (value : T) (v : View T) → ReplaceKnows c index owner value v
       → WellFormed (now v) → Lives owner v → Replacing v.party index owner v.events
   replacing = grind (arith, may_replace)
@@ -99,7 +98,7 @@ module _ {T : Type 0} (code : Coding T) (c : ℕ) (v : View T) (turn : OthersTur
   paid is_paid = ⊎_elim (λ s. let same = s.1 in omega arith) (λ more. omega arith) seen
 
   pub check_paid : (index count : ℕ) → CheckPaid code c index count v → CheckPaid code c index count later
-  check_paid index count check_paid_holds = grind arith
+  check_paid index count was_paid = grind arith
 
   lives : (owner : ℕ) → Lives owner later → Lives owner v
   lives owner alive = gone_less v.terms.by owner events es alive
@@ -126,7 +125,7 @@ module _ {T : Type 0} (code : Coding T) (c : ℕ) (v : View T) (turn : OthersTur
   found = grind arith
 
   replace_owns : (index owner : ℕ) → ReplaceOwns v.terms.by q index owner events → ReplaceOwns v.terms.by q index owner (events ++ es)
-  replace_owns index owner replace_owns_holds = replace_later v.terms.by events es q index owner spares replace_owns_holds
+  replace_owns index owner owned = replace_later v.terms.by events es q index owner spares owned
 
   -- a replace that has found its owner knows so after another party's turn
   replace_knows : (index owner : ℕ) (value : T) → ReplaceKnows c index owner value v → ReplaceKnows c index owner value later
@@ -154,7 +153,7 @@ module _ {T : Type 0} (code : Coding T) (c : ℕ) (v : View T) (turn : OthersTur
 
   writes : (owner index : ℕ) (value : T) (k : ℕ) → index < c → IsTheWriter owner index
       → Writes code c owner index value k v → Writes code c owner index value k later
-  writes owner index value k below writer writes_holds = let by_lives = lives in grind arith
+  writes owner index value k below writer wrote = let by_lives = lives in grind arith
 
   placed : (index : ℕ) (value : T) → HasPlaced code c index value v → HasPlaced code c index value later
   placed index value h well_formed = ap (λ a. places a) acts_same ∙ h (passes.well_formed well_formed)
@@ -164,49 +163,49 @@ module _ {T : Type 0} (code : Coding T) (c : ℕ) (v : View T) (turn : OthersTur
 
   -- an add at any stage knows after another party's turn what it knew
   pub add_knows : (value : T) (owner : ℕ) (stage : AddStage) → AddKnows code c value owner stage v → AddKnows code c value owner stage later
-  add_knows value owner (adds.Acquires stage) add_knows_holds = set_knows (acquire_at c owner stage) add_knows_holds
-  add_knows value owner (adds.LoadsCount index) add_knows_holds = add_owns owner index add_knows_holds
-  add_knows value owner (adds.Hides index count) add_knows_holds =
-      (add_owns owner index add_knows_holds.0, covers owner index count add_knows_holds.0.within (adds_write owner index add_knows_holds.0) add_knows_holds.1)
-  add_knows value owner (adds.Stores index at) add_knows_holds = (
-    add_owns owner index add_knows_holds.0,
-    writes owner index value at add_knows_holds.0.within (adds_write owner index add_knows_holds.0) add_knows_holds.1,
+  add_knows value owner (adds.Acquires stage) knew = set_knows (acquire_at c owner stage) knew
+  add_knows value owner (adds.LoadsCount index) knew = add_owns owner index knew
+  add_knows value owner (adds.Hides index count) knew =
+      (add_owns owner index knew.0, covers owner index count knew.0.within (adds_write owner index knew.0) knew.1)
+  add_knows value owner (adds.Stores index at) knew = (
+    add_owns owner index knew.0,
+    writes owner index value at knew.0.within (adds_write owner index knew.0) knew.1,
   )
-  add_knows value owner (adds.AddsCount index) add_knows_holds = (
-    add_owns owner index add_knows_holds.0,
-    writes owner index value code.size add_knows_holds.0.within (adds_write owner index add_knows_holds.0) add_knows_holds.1,
+  add_knows value owner (adds.AddsCount index) knew = (
+    add_owns owner index knew.0,
+    writes owner index value code.size knew.0.within (adds_write owner index knew.0) knew.1,
   )
-  add_knows value owner (adds.AddsChange index) add_knows_holds = (
-    add_owns owner index add_knows_holds.0,
-    placed index value add_knows_holds.1,
-    stood owner index add_knows_holds.0.within (adds_write owner index add_knows_holds.0) add_knows_holds.2,
+  add_knows value owner (adds.AddsChange index) knew = (
+    add_owns owner index knew.0,
+    placed index value knew.1,
+    stood owner index knew.0.within (adds_write owner index knew.0) knew.2,
   )
 
   -- a replace at any stage knows after another party's turn what it knew
   pub replaces_know : (index : ℕ) (value : T) (owner : ℕ) (stage : ReplaceStage)
       → ReplacesKnow code c index value owner stage v → ReplacesKnow code c index value owner stage later
-  replaces_know index value owner replaces.Refuses replaces_know_holds = paid replaces_know_holds
-  replaces_know index value owner replaces.LoadsCell replaces_know_holds = (paid replaces_know_holds.0, replace_owns index owner replaces_know_holds.1)
-  replaces_know index value owner replaces.LoadsCount replaces_know_holds = replace_knows index owner value replaces_know_holds
-  replaces_know index value owner (replaces.Hides count) replaces_know_holds = (
-    replace_knows index owner value replaces_know_holds.0,
-    covers owner index count replaces_know_holds.0.within (replaces_write owner index value replaces_know_holds.0)
-        replaces_know_holds.1,
+  replaces_know index value owner replaces.Refuses knew = paid knew
+  replaces_know index value owner replaces.LoadsCell knew = (paid knew.0, replace_owns index owner knew.1)
+  replaces_know index value owner replaces.LoadsCount knew = replace_knows index owner value knew
+  replaces_know index value owner (replaces.Hides count) knew = (
+    replace_knows index owner value knew.0,
+    covers owner index count knew.0.within (replaces_write owner index value knew.0)
+        knew.1,
   )
-  replaces_know index value owner (replaces.Stores at) replaces_know_holds = (
-    replace_knows index owner value replaces_know_holds.0,
-    writes owner index value at replaces_know_holds.0.within
-        (replaces_write owner index value replaces_know_holds.0) replaces_know_holds.1,
+  replaces_know index value owner (replaces.Stores at) knew = (
+    replace_knows index owner value knew.0,
+    writes owner index value at knew.0.within
+        (replaces_write owner index value knew.0) knew.1,
   )
-  replaces_know index value owner replaces.AddsCount replaces_know_holds = (
-    replace_knows index owner value replaces_know_holds.0,
-    writes owner index value code.size replaces_know_holds.0.within
-        (replaces_write owner index value replaces_know_holds.0) replaces_know_holds.1,
+  replaces_know index value owner replaces.AddsCount knew = (
+    replace_knows index owner value knew.0,
+    writes owner index value code.size knew.0.within
+        (replaces_write owner index value knew.0) knew.1,
   )
-  replaces_know index value owner replaces.AddsChange replaces_know_holds = (
-    replace_knows index owner value replaces_know_holds.0,
-    placed index value replaces_know_holds.1,
-    stood owner index replaces_know_holds.0.within (replaces_write owner index value replaces_know_holds.0) replaces_know_holds.2,
+  replaces_know index value owner replaces.AddsChange knew = (
+    replace_knows index owner value knew.0,
+    placed index value knew.1,
+    stood owner index knew.0.within (replaces_write owner index value knew.0) knew.2,
   )
 
   -- ---- a remove
@@ -234,29 +233,28 @@ module _ {T : Type 0} (code : Coding T) (c : ℕ) (v : View T) (turn : OthersTur
   has_left index count left = grind arith
 
   release_left : (index count : ℕ) (stage : ReleaseStage) → ReleaseLeft code c index count stage v → ReleaseLeft code c index count stage later
-  release_left index count stage release_left_holds = grind arith
+  release_left index count stage was_left = grind arith
 
-  -- what a release in a remove knows of the element that stood there is so after another
-  -- party's turn
+  -- what a release in a remove knows of the element that stood there is so after another party's turn
   release_hides : (index owner : ℕ) (mode : ReleaseMode) (count : ℕ) (stage : ReleaseStage)
       → set.Knows c (release_at c index owner mode stage) (of_set v) → ReleaseLeft code c index count stage v
       → ReleaseHides code c index owner count stage v → ReleaseHides code c index owner count stage later
-  release_hides index owner mode count releases.EmptiesCell knows left release_hides_holds =
-      remove_covers code c q owner index count (now v) words' latest' es goes spares passes leaves left.0 knows.owns release_hides_holds
-  release_hides index owner mode count (releases.Raises raise) knows left release_hides_holds =
-      hidden_stands code c q owner index count (now v) words' latest' es goes spares passes leaves left.within release_hides_holds
-  release_hides index owner mode count (releases.Locks lock) knows left release_hides_holds =
-      hidden_stands code c q owner index count (now v) words' latest' es goes spares passes leaves left.within release_hides_holds
+  release_hides index owner mode count releases.EmptiesCell knows left was_hidden =
+      remove_covers code c q owner index count (now v) words' latest' es goes spares passes leaves left.0 knows.owns was_hidden
+  release_hides index owner mode count (releases.Raises raise) knows left was_hidden =
+      hidden_stands code c q owner index count (now v) words' latest' es goes spares passes leaves left.within was_hidden
+  release_hides index owner mode count (releases.Locks lock) knows left was_hidden =
+      hidden_stands code c q owner index count (now v) words' latest' es goes spares passes leaves left.within was_hidden
 
   -- a remove at any stage knows after another party's turn what it knew
   pub remove_knows : (index owner : ℕ) (mode : ReleaseMode) (stage : RemoveStage)
       → RemoveKnows code c index owner mode stage v → RemoveKnows code c index owner mode stage later
-  remove_knows index owner mode removes.Refuses remove_knows_holds = paid remove_knows_holds
-  remove_knows index owner mode removes.LoadsCount remove_knows_holds = set_knows (release_at c index owner mode releases.EmptiesCell) remove_knows_holds
-  remove_knows index owner mode (removes.Releases count stage) remove_knows_holds = (
-    set_knows (release_at c index owner mode stage) remove_knows_holds.0,
-    release_left index count stage remove_knows_holds.1,
-    release_hides index owner mode count stage remove_knows_holds.0 remove_knows_holds.1 remove_knows_holds.2,
+  remove_knows index owner mode removes.Refuses knew = paid knew
+  remove_knows index owner mode removes.LoadsCount knew = set_knows (release_at c index owner mode releases.EmptiesCell) knew
+  remove_knows index owner mode (removes.Releases count stage) knew = (
+    set_knows (release_at c index owner mode stage) knew.0,
+    release_left index count stage knew.1,
+    release_hides index owner mode count stage knew.0 knew.1 knew.2,
   )
   remove_knows index owner mode (removes.Hides count state) h = (
     paid h.0,
@@ -302,14 +300,14 @@ module _ {T : Type 0} (code : Coding T) (c : ℕ) (v : View T) (turn : OthersTur
 
   -- a find at any stage knows after another party's turn what it knew
   pub find_knows : (owner : ℕ) (room : buffers.Buffer 128) (stage : FindStage) → FindKnows code c owner room stage v → FindKnows code c owner room stage later
-  find_knows owner room (finds.LoadsCell index number) find_knows_holds = finds_on owner index index number find_knows_holds
-  find_knows owner room (finds.LoadsCount index number) find_knows_holds =
-      (finds_on owner (index + 1) index number find_knows_holds.0, once (IsFilledWith owner index) find_knows_holds.1)
-  find_knows owner room (finds.LoadsWord index number count at) find_knows_holds = (
-    finds_on owner (index + 1) index number find_knows_holds.0,
-    steady index count find_knows_holds.2.within find_knows_holds.1,
-    copying index count room.words at find_knows_holds.2,
-    once (IsFilledWith owner index) find_knows_holds.3,
+  find_knows owner room (finds.LoadsCell index number) knew = finds_on owner index index number knew
+  find_knows owner room (finds.LoadsCount index number) knew =
+      (finds_on owner (index + 1) index number knew.0, once (IsFilledWith owner index) knew.1)
+  find_knows owner room (finds.LoadsWord index number count at) knew = (
+    finds_on owner (index + 1) index number knew.0,
+    steady index count knew.2.within knew.1,
+    copying index count room.words at knew.2,
+    once (IsFilledWith owner index) knew.3,
   )
   find_knows owner room (finds.ChecksCount index number count) h = (
     finds_on owner (index + 1) index number h.0,

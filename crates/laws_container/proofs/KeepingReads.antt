@@ -80,47 +80,46 @@ module _ {T : Type 0} (code : Coding T) (c : ℕ) (v : View T) (turn : OthersTur
   gone_but : (owner : ℕ) (Here : ℕ → Type 0) → IsGone owner v → GoneBut code c owner Here v → GoneBut code c owner Here later
   gone_but = grind (arith, inl, lost, inr, honest_less, told_before)
 
-  -- what a recovery knows it knows after another party's turn, where what it has hidden stays
-  -- so
+  -- what a recovery knows it knows after another party's turn, where what it has hidden stays so
   recovers_then : (owner k : ℕ) (Here But But' : ℕ → Type 0)
       → (HasHidden code c q owner But (now v) → HasHidden code c q owner But' (now later))
       → Recovers code c owner k Here But v → Recovers code c owner k Here But' later
-  recovers_then owner k Here But But' stays recovers_holds =
+  recovers_then owner k Here But But' stays recovered_so =
       record {
-        dead = still_gone owner recovers_holds.dead;
-        was_open = once code c v turn IsUnlocked recovers_holds.was_open;
-        asked = asked_below owner k recovers_holds.asked;
-        gone = gone_but owner Here recovers_holds.dead recovers_holds.gone;
-        hidden = stays recovers_holds.hidden;
+        dead = still_gone owner recovered_so.dead;
+        was_open = once code c v turn IsUnlocked recovered_so.was_open;
+        asked = asked_below owner k recovered_so.asked;
+        gone = gone_but owner Here recovered_so.dead recovered_so.gone;
+        hidden = stays recovered_so.hidden;
       }
 
   recovers_on : (owner k : ℕ) (Here : ℕ → Type 0) → Recovers code c owner k Here no_index v → Recovers code c owner k Here no_index later
-  recovers_on owner k Here recovers_holds =
-      recovers_then owner k Here no_index no_index (λ g. hidden_later code c q owner no_index (now v) words' latest' es spares passes g) recovers_holds
+  recovers_on owner k Here recovered_so =
+      recovers_then owner k Here no_index no_index (λ g. hidden_later code c q owner no_index (now v) words' latest' es spares passes g) recovered_so
 
   covers_on : (owner index count : ℕ) → index < c → IsGone owner v → RecoverCovers code c owner index count (now v)
       → RecoverCovers code c owner index count (now later)
-  covers_on owner index count below dead recover_covers_holds =
-      recover_covers code c q owner index count (now v) words' latest' es goes spares passes leaves below dead recover_covers_holds
+  covers_on owner index count below dead covered =
+      recover_covers code c q owner index count (now v) words' latest' es goes spares passes leaves below dead covered
 
   -- an owner who was recovered before another party's turn is so after it
   recovered : (owner : ℕ) → IsGone owner v → HasRecoveredBy v.terms.by q owner events → HasRecoveredBy v.terms.by q owner (events ++ es)
-  recovered owner dead has_recovered_by_holds =
+  recovered owner dead had_recovered =
       record {
         gone =
-            λ honest i told e. has_recovered_by_holds.gone (honest_less v.terms.by events es honest) i
+            λ honest i told e. had_recovered.gone (honest_less v.terms.by events es honest) i
             (told_before i owner told) (lost i owner honest dead e);
-        asked = λ i through. asked_later i owner (has_recovered_by_holds.asked i (through_less q (StillToFree q owner i) events es spares.none through));
+        asked = λ i through. asked_later i owner (had_recovered.asked i (through_less q (StillToFree q owner i) events es spares.none through));
       }
 
   -- what the state says with which a recovery will end holds after another party's turn
   recover_says : (owner : ℕ) (mode : ReleaseMode) (state : ReleaseState) → RecoverSays code c owner mode state v → RecoverSays code c owner mode state later
-  recover_says owner mode states.Locked recover_says_holds = locked_later events es recover_says_holds
-  recover_says owner mode states.Unlocked recover_says_holds = (
-    still_gone owner recover_says_holds.0,
-    unlocked_later q owner events es spares.none (set_acts_same code c v turn) recover_says_holds.1,
-    recovered owner recover_says_holds.0 recover_says_holds.2,
-    each_later q owner (Worn v) (Worn later) (worn code c v turn) mode events es spares.none (set_acts_same code c v turn) recover_says_holds.3,
+  recover_says owner mode states.Locked said = locked_later events es said
+  recover_says owner mode states.Unlocked said = (
+    still_gone owner said.0,
+    unlocked_later q owner events es spares.none (set_acts_same code c v turn) said.1,
+    recovered owner said.0 said.2,
+    each_later q owner (Worn v) (Worn later) (worn code c v turn) mode events es spares.none (set_acts_same code c v turn) said.3,
   )
 
   fills : (owner : ℕ) (mode : ReleaseMode) (But : ℕ → Type 0) → FilledBut (Worn v) mode q owner But events
@@ -136,10 +135,10 @@ module _ {T : Type 0} (code : Coding T) (c : ℕ) (v : View T) (turn : OthersTur
   -- a recovery at any stage knows after another party's turn what it knew
   recover_knows : (owner : ℕ) (mode : ReleaseMode) (room : buffers.Buffer 128) (stage : RecoverStage)
       → RecoverKnows code c owner mode room stage v → RecoverKnows code c owner mode room stage later
-  recover_knows owner mode room recovers.LoadsCounter recover_knows_holds = (
-    paid code c v turn recover_knows_holds.0,
-    still_gone owner recover_knows_holds.1,
-    gone_but owner none recover_knows_holds.1 recover_knows_holds.2,
+  recover_knows owner mode room recovers.LoadsCounter knew = (
+    paid code c v turn knew.0,
+    still_gone owner knew.1,
+    gone_but owner none knew.1 knew.2,
   )
   recover_knows owner mode room (recovers.LoadsCell index) h = (paid code c v turn h.0, recovers_on owner index none h.1)
   recover_knows owner mode room (recovers.LoadsCount index) h = (
@@ -210,11 +209,11 @@ module _ {T : Type 0} (code : Coding T) (c : ℕ) (v : View T) (turn : OthersTur
 
   -- a look has gone over the same indices after another party's turn
   looks_on : (k x : ℕ) → Looks code c k x v → Looks code c k x later
-  looks_on k x looks_holds =
+  looks_on k x looked =
       record {
-        state = looks_holds.state;
-        found = same_state ∙ looks_holds.found;
-        course = course_later code c (now v) m' es refl passes q looks_holds.state calls_on spares.none leaves.alone k x looks_holds.course;
+        state = looked.state;
+        found = same_state ∙ looked.found;
+        course = course_later code c (now v) m' es refl passes q looked.state calls_on spares.none leaves.alone k x looked.course;
       }
 
   -- a look that copies an element copies it still after another party's turn
@@ -239,13 +238,13 @@ module _ {T : Type 0} (code : Coding T) (c : ℕ) (v : View T) (turn : OthersTur
 
   -- a look at any stage knows after another party's turn what it knew
   look_knows : (stage : LookStage) → LookKnows code c stage v → LookKnows code c stage later
-  look_knows looks.LoadsChange look_knows_holds = (paid code c v turn look_knows_holds.0, look_rests look_knows_holds.1)
-  look_knows (looks.LoadsCount index) look_knows_holds = (paid code c v turn look_knows_holds.0, looks_on index c look_knows_holds.1)
-  look_knows (looks.LoadsWord index count at) look_knows_holds =
-      (check_paid code c v turn index count look_knows_holds.0, look_copies index count at look_knows_holds.1)
-  look_knows (looks.ChecksCount index count) look_knows_holds = (
-    check_paid code c v turn index count look_knows_holds.0,
-    look_copies index count code.size look_knows_holds.1,
+  look_knows looks.LoadsChange knew = (paid code c v turn knew.0, look_rests knew.1)
+  look_knows (looks.LoadsCount index) knew = (paid code c v turn knew.0, looks_on index c knew.1)
+  look_knows (looks.LoadsWord index count at) knew =
+      (check_paid code c v turn index count knew.0, look_copies index count at knew.1)
+  look_knows (looks.ChecksCount index count) knew = (
+    check_paid code c v turn index count knew.0,
+    look_copies index count code.size knew.1,
   )
 
   -- ---- any call

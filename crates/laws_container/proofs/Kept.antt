@@ -80,12 +80,12 @@ module _ {T : Type 0} (code : Coding T) (t : Trace T) (s : frame.Sound (family c
   -- what holds of the machine is what is promised of a container where owners die
   pub container_kept : IsContainer t
   container_kept =
-      let e = s.holds.elements in
+      let elements_hold = s.holds.elements in
       record {
         does = s.holds.good.does;
-        asks = asks_right t.events e.asks;
-        recovers = recovers_right t.events e.recovers;
-        answers = answers_right ⊥ (λ worn. worn) Death t.world.capacity t.events tt e.answers;
+        asks = asks_right t.events elements_hold.asks;
+        recovers = recovers_right t.events elements_hold.recovers;
+        answers = answers_right ⊥ (λ worn. worn) Death t.world.capacity t.events tt elements_hold.answers;
         cells = cells dying code t s;
         lock = lock dying code t s;
         dead = dead dying code t s;

@@ -56,7 +56,7 @@ module _ {T : Type 0} where
       → (s : ContainerState T) → length s.shown.elements ≡ c → ShowsOwn p s c events' → ShowsCopied p s events events'
   own_then p c what events events' on s wide h getting i value e = h (on.still getting) i value (not_past c s i value wide e) e
 
-  -- where the span is the same
+  -- where the span is the same the call goes on and copies nothing
   pub calls_same : (p : ℕ) (events events' : List (Event T)) → span_of p events' ≡ span_of p events → CallsOn p None events events'
   calls_same p events events' same = grind arith
 

@@ -65,20 +65,19 @@ module _ {T : Type 0} where
         → FilledAtLast p events → FilledBut worn mode p owner But events
     filled_last worn mode h events k = grind arith
 
-    -- where the container is not locked
+    -- where the container is not locked, each index that was freed has been filled since
     pub filled_each : (worn : Type 0) (mode : ReleaseMode) (events : List (Event T)) → is_locked events ≡ false
         → FilledBut worn mode p owner NoIndex events → FilledSinceEachBy worn mode p owner events
     filled_each worn mode events free filled_but = grind arith
 
-    -- what was said of the locks at the end of a recovery is so after events that do nothing to
-    -- the set
+    -- what was said of the locks at the end of a recovery is so after events that do nothing to the set
     pub each_later : (worn worn' : Type 0) → (worn → worn') → (mode : ReleaseMode) (events es : List (Event T))
         → BeginsNone p es → set_acts_of p (events ++ es) ≡ set_acts_of p events → FilledSinceEachBy worn mode p owner events
         → FilledSinceEachBy worn' mode p owner (events ++ es)
-    each_later worn worn' on Default events es none same filled_since_each_by_holds = tt
-    each_later worn worn' on LockIfLastIndex events es none same filled_since_each_by_holds = λ i was.
+    each_later worn worn' on Default events es none same filled_since = tt
+    each_later worn worn' on LockIfLastIndex events es none same filled_since = λ i was.
         ⊎_elim (λ end. inl (on end)) (λ (f : FilledSinceFreed p owner i events). inr (record { other = f.other; once = held_later p _ events es none f.once }))
-        (filled_since_each_by_holds i (subst (IsOneOf (Frees i owner)) same was))
+        (filled_since i (subst (IsOneOf (Frees i owner)) same was))
 
     pub unlocked_later : (events es : List (Event T)) → BeginsNone p es
         → set_acts_of p (events ++ es) ≡ set_acts_of p events → UnlockedAtLast p events → UnlockedAtLast p (events ++ es)

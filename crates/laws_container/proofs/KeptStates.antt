@@ -123,6 +123,7 @@ module _ {T : Type 0} (shown : Shown T) (terms : Terms) (code : Coding T) (t : T
   next_moves q p none None found = refl
   next_moves q p none (Some x) found = go x.doing refl
     where
+      -- the cases are whether the party's call is over or under way
       go : (doing : Doing T) → x.doing ≡ doing
           → state_in (after_answer t.world q x (ask_of_doing t.world.coding doing)
           (old_of t.world.words (ask_of_doing t.world.coding doing)) doing).kept
@@ -141,6 +142,7 @@ module _ {T : Type 0} (shown : Shown T) (terms : Terms) (code : Coding T) (t : T
   decision_moves q p said due None found = refl
   decision_moves q p said due (Some x) found = go x.doing refl
     where
+      -- the cases are whether the party's call is over or under way
       go : (doing : Doing T) → x.doing ≡ doing → state_in (after_answer t.world q x None (number_of said) doing).kept p ≡ state_in t.world.kept p
       go (Over others) same_doing = refl
       go (Going flight since) same_doing =

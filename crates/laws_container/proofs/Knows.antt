@@ -92,8 +92,7 @@ module _ {T : Type 0} where
 
   -- ---- an add that was granted an index, and a replace that has found its owner
 
-  -- it has the right to the index, and its owner holds it, in a calm run while its owner is not
-  -- gone
+  -- it has the right to the index, and its owner holds it, in a calm run while its owner is not gone
   pub record AddOwns (c owner index : ℕ) (v : View T) : Type 0 where
     pub paid : IsPaid v
     pub within : index < c
@@ -135,7 +134,7 @@ module _ {T : Type 0} (code : Coding T) (c : ℕ) where
   HasPlaced index value v =
       WellFormed (now v) → places (acts_of v.party v.events) ≡ (index, value) ∷ []
 
-  -- and it stands there
+  -- the value that the call placed stands at its index
   abbrev pub Stood : ℕ → ℕ → View T → Type 0
   Stood owner index v =
       WellFormed (now v) → Lives owner v
@@ -156,8 +155,7 @@ module _ {T : Type 0} (code : Coding T) (c : ℕ) where
   AddKnows value owner (adds.AddsChange index) v =
       AddOwns c owner index v × HasPlaced index value v × Stood owner index v
 
-  -- a replace knows that its right stands, and once it has found its owner how far its value is
-  -- stored
+  -- a replace knows that its right stands, and once it has found its owner how far its value is stored
   abbrev pub ReplacesKnow : ℕ → T → ℕ → ReplaceStage → View T → Type 0
   ReplacesKnow index value owner replaces.Refuses v = IsPaid v
   ReplacesKnow index value owner replaces.LoadsCell v =
@@ -198,15 +196,14 @@ module _ {T : Type 0} (code : Coding T) (c : ℕ) where
       (index < c) × HasCome index count v
   ReleaseLeft index count stage v = HasLeft index count v
 
-  -- and of what stood there
+  -- what a release in a remove knows of what stood at its index
   abbrev pub ReleaseHides : ℕ → ℕ → ℕ → ReleaseStage → View T → Type 0
   ReleaseHides index owner count releases.EmptiesCell v =
       RemoveCovers code c v.party owner index count (now v)
   ReleaseHides index owner count stage v =
       HasHidden code c v.party owner (StillStands code c index count (now v)) (now v)
 
-  -- a remove knows what the release of the set knows, what it has left at the index, and what
-  -- its state will say
+  -- a remove knows what the release of the set knows, what it has left at the index, and what its state will say
   abbrev pub RemoveKnows : ℕ → ℕ → ReleaseMode → RemoveStage → View T → Type 0
   RemoveKnows index owner mode removes.Refuses v = IsPaid v
   RemoveKnows index owner mode removes.LoadsCount v =
@@ -290,6 +287,7 @@ module _ {T : Type 0} (code : Coding T) (c : ℕ) where
       → (i : ℕ) → IsOneOf (Yes i owner) (set_acts_of v.party v.events) ⊎ WasShown v.party i v.events
       → (filled_of i v.events ≢ Some owner) ⊎ Now i
 
+  -- in an honest run no index that it was told to free, or was shown, has its owner
   abbrev pub Gone : ℕ → View T → Type 0
   Gone owner v = GoneBut owner (λ i. ⊥) v
 
@@ -302,8 +300,7 @@ module _ {T : Type 0} (code : Coding T) (c : ℕ) where
     pub gone : GoneBut owner Now v
     pub hidden : HasHidden code c v.party owner But (now v)
 
-  -- what the state says with which a recovery will end: that all is locked, or that the owner's
-  -- indices are recovered
+  -- what the state says with which a recovery will end: that all is locked, or that the owner's indices are recovered
   abbrev pub RecoverSays : ℕ → ReleaseMode → ReleaseState → View T → Type 0
   RecoverSays owner mode states.Locked v = is_locked v.events ≡ true
   RecoverSays owner mode states.Unlocked v =
@@ -311,8 +308,7 @@ module _ {T : Type 0} (code : Coding T) (c : ℕ) where
       × HasRecoveredBy v.terms.by v.party owner v.events
       × FilledSinceEachBy (Worn v) mode v.party owner v.events
 
-  -- a recovery knows what it has asked about, freed and hidden below its index, and what it
-  -- knows of the element there
+  -- a recovery knows what it has asked about, freed and hidden below its index, and what it knows of the element there
   abbrev pub RecoverKnows : ℕ → ReleaseMode → buffers.Buffer 128 → RecoverStage → View T → Type 0
   RecoverKnows owner mode room recovers.LoadsCounter v =
       IsPaid v × IsGone owner v × Gone owner v
@@ -377,7 +373,7 @@ module _ {T : Type 0} (code : Coding T) (c : ℕ) where
 
   -- ---- a look
 
-  -- its party's state, which it has gone over below k
+  -- the state of the look's party, which the look has gone over below k
   pub record Looks (k copying : ℕ) (v : View T) : Type 0 where
     pub state : ContainerState T
     pub found : state_of v.party v.states ≡ Some state
@@ -396,8 +392,7 @@ module _ {T : Type 0} (code : Coding T) (c : ℕ) where
     pub rests : Rests code c (now v) v.party state
     pub own : ShowsOwn v.party state c v.events
 
-  -- a look knows its party's state, how far it has gone over it, and how far the copy at its
-  -- index is
+  -- a look knows its party's state, how far it has gone over it, and how far the copy at its index is
   abbrev pub LookKnows : LookStage → View T → Type 0
   LookKnows looks.TheVariants.LoadsChange v = IsPaid v × LookRests v
   LookKnows (looks.TheVariants.LoadsCount index) v = IsPaid v × Looks index c v

@@ -79,6 +79,7 @@ module _ {T : Type 0} (code : Coding T) (c : ℕ) where
       go false = tt
   first_stands (container_starts.Replace index value owner) such = (refl, go (nat_lt (place_of c index) c))
     where
+      -- the cases are whether the handle's index is within the capacity
       go : (t : Bool) → ReplaceStands (cond t replaces.LoadsCell replaces.Refuses)
       go true = tt
       go false = tt
@@ -109,7 +110,7 @@ module _ {T : Type 0} (code : Coding T) (c : ℕ) where
       there : q ≢ p → has_state q (with_state p state states)
       there ne = ap is_some (found_put_other q p state states ne) ∙ has
 
-  -- a party that has a state has one after that of a party that has one is changed
+  -- a party that has a state still has one after the state of a party that has one is changed
   set_has : (p q : ℕ) (state was : ContainerState T) (states : List (ℕ × ContainerState T)) → state_of p states ≡ Some was → has_state q states
       → has_state q (set_state p state states)
   set_has p q state was states found has = ⊎_elim here there (cases_eq q p)
@@ -141,7 +142,7 @@ module _ {T : Type 0} (code : Coding T) (c : ℕ) where
       go false = put_has p q (fresh code c) states has
   begins_has p q start states has = has
 
-  -- where a look begins
+  -- a party whose look begins has a state
   look_has : (p : ℕ) (states : List (ℕ × ContainerState T)) → has_state p (states_at_begin code c container_starts.UpdateState p states)
   look_has p states =
       on_bool (λ t. has_state p (cond t states (with_state p (fresh code c) states))) (is_some (state_of p states))
@@ -168,9 +169,9 @@ module _ {T : Type 0} (code : Coding T) (c : ℕ) where
       → KnownAfter outline p (in_states dead states) (any_call code c [] (after code o flight old))
   call_known = grind arith
 
-  -- ---- each step of a call falls
+  -- ---- the measure falls with each step of a call
 
-  -- each step of a call that does not lock falls
+  -- the measure falls with each step of a call that does not lock
   pub call_falls : (words : List ℕ) (p : ℕ) (dead : List ℕ) (states : List (ℕ × ContainerState T)) (flight : ContainerFlight T) → CallStands c flight
       → Known p (in_states dead states) (flights.Container flight) → ShownBy code c words (state_of p states) flight
   call_falls words p dead states (calls.Add run) at known =
@@ -192,6 +193,7 @@ module _ {T : Type 0} (code : Coding T) (c : ℕ) where
       (recover_falls code c words run.given.owner run.room run.call.stage at.2))
   call_falls words p dead states (calls.Look which call) at known = go (state_of p states) known
     where
+      -- the party has a state, since the look is known to run on one
       go : (o : Option (ContainerState T)) → is_some o ≡ true → ShownBy code c words o (calls.Look which call)
       go None none = absurd (cc)
       go (Some state) some =
@@ -200,7 +202,7 @@ module _ {T : Type 0} (code : Coding T) (c : ℕ) where
       subst (λ n. ShownBy code c words (state_of p states) (count_at which n run.call.count)) (sym at) (count_falls code c words which run.call.count)
   call_falls words p dead states (calls.IsLocked run) at known = tt
 
-  -- each step of a call that stands at its place on a container's registry falls
+  -- the measure falls with each step of a call that stands at its place on a container's registry
   falls : (words : List ℕ) (p : ℕ) (kept : Registry T) (start : Start T) (flight : Flight T) → At code c start flight → Kept kept → Known p kept flight
       → StepFallsBy (measure code.size c) code words p kept flight
   falls words p (registries.Container dead states) (starts.Container start) (flights.Container flight) at held known =
@@ -289,8 +291,7 @@ module _ {T : Type 0} (code : Coding T) (c : ℕ) where
       → At code c start flight → Kept kept → (step_of code words beside p start flight old kept).after ≡ goes_of code p flight old kept
   told = grind arith
 
-  -- after a step of such a call the registry is a container's, and each party that had a state
-  -- has one
+  -- after a step of such a call the registry is a container's, and each party that had a state has one
   stays : (words : List ℕ) (beside : Option (ℕ × ℕ)) (p : ℕ) (start : Start T) (flight : Flight T) (old : ℕ) (kept : Registry T)
       → At code c start flight → Kept kept
       → Kept (step_of code words beside p start flight old kept).kept × Lasts outline kept (step_of code words beside p start flight old kept).kept
@@ -324,8 +325,7 @@ module _ {T : Type 0} (code : Coding T) (c : ℕ) where
   is_first (starts.Container start) kept flight e = (start, refl, grind arith)
   is_first start kept flight e = absurd (grind arith)
 
-  -- the party of a call that has just begun has a state if the call looks, and no party loses
-  -- its own
+  -- the party of a call that has just begun has a state if the call looks, and no party loses its own
   pub knows : (start : Start T) (kept : Registry T) (flight : Flight T) (p : ℕ) → Kept kept
       → first_of kinds.Container c start kept ≡ Some flight
       → Known p (kept_after_begin code c start p kept) flight × Lasts outline kept (kept_after_begin code c start p kept)
@@ -346,8 +346,7 @@ module _ {T : Type 0} (code : Coding T) (c : ℕ) where
   dies (registries.Container dead states) owner held = (tt, lasts_by dead (dead_with owner dead) states states (λ q has. has))
   dies kept owner held = absurd held
 
-  -- all that is owed for this measure holds of the calls that do not lock, for each coding and
-  -- admitted capacity
+  -- all that is owed for this measure holds of the calls that do not lock, for each coding and admitted capacity
   laws : IsCoding code → capacity_error kinds.Container c ≡ None → OwnLaws outline code c
   laws coded admitted =
       record {

@@ -56,10 +56,11 @@ module _ {T : Type 0} where
         go : (o : Option (Element T)) → slice_get s.shown.elements i ≡ o → Stood
         go None e = none s.shown.elements i low e
           where
+            -- a list has an element at each index below its length
             none : (es : List (Element T)) (a : ℕ) → a < length es → slice_get es a ≡ None → Stood
             none [] a less e = absurd (omega arith)
-            none (x ∷ xs) a less e = let is : slice_get (x ∷ xs) a ≡ Some (get_or (x ∷ xs) a x) = slice_get-get_or (x ∷ xs) a x less in
-                let same : None ≡ Some (get_or (x ∷ xs) a x) = sym e ∙ is in
+            none (x ∷ xs) a less e = let stands_there : slice_get (x ∷ xs) a ≡ Some (get_or (x ∷ xs) a x) = slice_get-get_or (x ∷ xs) a x less in
+                let same : None ≡ Some (get_or (x ∷ xs) a x) = sym e ∙ stands_there in
                 absurd (cc)
         go (Some element) e = record { element = element; found = e }
 
@@ -128,8 +129,7 @@ module _ {T : Type 0} (code : Coding T) (c : ℕ) (m : Now T) (p : ℕ) where
 
   -- ---- at an index
 
-  -- the look has come to index `k`, its state `s` becomes `s'`, and `x` is the index that it
-  -- was copying, if any
+  -- the look has come to index `k`, its state `s` becomes `s'`, and `x` is the index that it was copying, if any
   module _ (s s' : ContainerState T) (k x : ℕ) (below : k < c) (h : Course code c m p s k x) (put : IsPut s s' k)
       (number : number_at s' k ≡ count_in code c m k) where
     number_there : (i : ℕ) → i ≢ k → number_at s' i ≡ number_at s i

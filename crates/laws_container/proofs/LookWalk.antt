@@ -186,8 +186,7 @@ module _ {T : Type 0} (scene : Scene T) (inv : Inv scene) where
               (inv.elements.whole (comes.well_formed well_formed) index below) (even_is n even)))
               (λ getting value is. some_none (shows s' index) value (counted_none s index low n even) is)
 
-          -- a look that finds at an index a number that it has not seen goes on to copy the
-          -- element, or comes past it
+          -- a look that finds at an index a number that it has not seen goes on to copy the element, or comes past it
           finds : Lead back [] s' (look_finds (call_at stage) index n)
           finds =
               on_bool (λ b. Lead back [] s' (if b then look_comes_to (call_at stage) (index + 1) else GoOn (call_at (stages.LoadsWord index n 0)))) (is_even n)
@@ -349,7 +348,7 @@ module _ {T : Type 0} (scene : Scene T) (inv : Inv scene) where
             )))
             (λ t.
             let last : code.size ≤ at + 1 = grind (arith, nat_tests) in
-            let is : at + 1 ≡ code.size = omega arith in
+            let is_last : at + 1 ≡ code.size = omega arith in
             walker.goes (stages.ChecksCount index count) false None with_it tt same_words
             (ap (λ d. d ++ []) none, (below, seen_still index (done scene) seen, odd)) (omega arith)
             (λ words' states' latest' es' comes found. (
@@ -368,7 +367,7 @@ module _ {T : Type 0} (scene : Scene T) (inv : Inv scene) where
                     subst (λ k. Copying code c index count with_it.shown.copy k
                     (view scene.terms words' states' latest' es' p (since_then scene word_ask)
                     (changes_then scene word_ask) (backs_then scene false)))
-                    is
+                    is_last
                     (copying_more code c (sees_now scene)
                     (view scene.terms words' states' latest' es' p (since_then scene word_ask)
                     (changes_then scene word_ask) (backs_then scene false))

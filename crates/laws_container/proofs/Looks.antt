@@ -59,15 +59,15 @@ module _ {X : Type 0} where
     where
       here : p ≡ e.0 → found_at q (set_value (is_at (nat_cmp p)) (e ∷ es) x) ≡ found_at q (e ∷ es)
       here same =
-          let t : is_eq (nat_cmp p e.0) ≡ true = subst (λ n. is_eq (nat_cmp p n) ≡ true) same (itself p) in
-          let o : is_eq (nat_cmp q e.0) ≡ false = apart q e.0 (λ h. ne (h ∙ sym same)) in
-          rw (t, o) refl
+          let is_same : is_eq (nat_cmp p e.0) ≡ true = subst (λ n. is_eq (nat_cmp p n) ≡ true) same (itself p) in
+          let is_other : is_eq (nat_cmp q e.0) ≡ false = apart q e.0 (λ h. ne (h ∙ sym same)) in
+          rw (is_same, is_other) refl
 
       there : found_at q (set_value (is_at (nat_cmp p)) es x) ≡ found_at q es → p ≢ e.0
           → found_at q (set_value (is_at (nat_cmp p)) (e ∷ es) x) ≡ found_at q (e ∷ es)
       there behind other =
-          let t : is_eq (nat_cmp p e.0) ≡ false = apart p e.0 other in
-          rw t (ap (cond (is_eq (nat_cmp q e.0)) (Some e.1)) behind)
+          let is_other : is_eq (nat_cmp p e.0) ≡ false = apart p e.0 other in
+          rw is_other (ap (cond (is_eq (nat_cmp q e.0)) (Some e.1)) behind)
 
 -- ---- the call of each kind of look
 
@@ -183,8 +183,7 @@ module _ {T : Type 0} (scene : Scene T) (inv : Inv scene) (which : LookOf) (stag
       Leads scene (looks_as which) ask back (set_state p (settled_if a st) scene.states) (did ++ []) (look_came which st a)
 
   module _ (ask : Option Ask) where
-    -- a look goes on to its next stage, with the state that it has made, where that stage's
-    -- conditions hold
+    -- a look goes on to its next stage, with the state that it has made, where that stage's conditions hold
     goes_with : (next : LookStage) (back : Bool) (what : Option (ℕ × T)) (st : ContainerState T) → IsRight scene inv what → words_after ws ask ≡ ws
         → LookAt c code.size (all scene ++ set_acts (copies_of p what)) (done scene ++ acts (copies_of p what)) next
         → steps + step_count ask ≤ look_number code.size next (backs_then scene back)
@@ -194,33 +193,33 @@ module _ {T : Type 0} (scene : Scene T) (inv : Inv scene) (which : LookOf) (stag
         → LookKnows code c next (view scene.terms words' states' latest' es' p (since_then scene ask) (changes_then scene ask) (backs_then scene back)))
         → Lead ask back (copies_of p what) st (GoOn (call_at scene inv next))
     goes_with next back None st right same at few known =
-        let y = party_then scene start ask back (GoOn (look_at which c next)) in
+        let party_after = party_then scene start ask back (GoOn (look_at which c next)) in
         let words' = words_after ws ask in
         let contents : (i : ℕ) → contents_of i (events ++ []) ≡ contents_of i events = λ i. fold-append (contents_after i) None events [] in
         goes_on scene start (look_at which c next) ask back (set_state p st scene.states) [] here.span none_lengthens
-        (does words' same y None [] tt tt tt contents (on_now None None) st
+        (does words' same party_after None [] tt tt tt contents (on_now None None) st
         (record { asks = tt; recovers = tt; answers = tt; contains = λ holds. tt; places = λ holds. tt })
         (λ idle. absurd (cc)))
         tt few (at_look T which c code.size _ _ next at)
-        (known words' (set_state p st scene.states) (put p y latest) (events ++ [])
-        (comes words' same y None [] tt tt tt contents (on_now None None)) (written_same p st s scene.states found))
+        (known words' (set_state p st scene.states) (put p party_after latest) (events ++ [])
+        (comes words' same party_after None [] tt tt tt contents (on_now None None)) (written_same p st s scene.states found))
     goes_with next back (Some copy) st right same at few known =
-        let y = party_then scene start ask back (GoOn (look_at which c next)) in
+        let party_after = party_then scene start ask back (GoOn (look_at which c next)) in
         let words' = words_after ws ask in
-        let es = Copied p copy.0 copy.1 ∷ [] in
-        let contents : (i : ℕ) → contents_of i (events ++ es) ≡ contents_of i events = λ i. fold-append (contents_after i) None events es in
-        goes_on scene start (look_at which c next) ask back (set_state p st scene.states) es here.span (λ start w. refl)
-        (does words' same y (Some copy) [] (tt, tt) (refl, tt) tt contents (on_now (Some copy) None) st
+        let written = Copied p copy.0 copy.1 ∷ [] in
+        let contents : (i : ℕ) → contents_of i (events ++ written) ≡ contents_of i events = λ i. fold-append (contents_after i) None events written in
+        goes_on scene start (look_at which c next) ask back (set_state p st scene.states) written here.span (λ start w. refl)
+        (does words' same party_after (Some copy) [] (tt, tt) (refl, tt) tt contents (on_now (Some copy) None) st
         (record {
           asks = (tt, tt);
           recovers = (tt, tt);
           answers = (tt, tt);
-          contains = λ holds. (right.1 (well_formed_of words' y es (refl, tt) holds), tt);
+          contains = λ holds. (right.1 (well_formed_of words' party_after written (refl, tt) holds), tt);
           places = λ holds. (tt, tt);
         }) (λ idle. absurd (cc)))
         (copy_stands T which p copy.0 copy.1 (wrote_of p events) right.0, tt) few (at_look T which c code.size _ _ next at)
-        (known words' (set_state p st scene.states) (put p y latest) (events ++ es)
-        (comes words' same y (Some copy) [] (tt, tt) (refl, tt) tt contents (on_now (Some copy) None))
+        (known words' (set_state p st scene.states) (put p party_after latest) (events ++ written)
+        (comes words' same party_after (Some copy) [] (tt, tt) (refl, tt) tt contents (on_now (Some copy) None))
         (written_same p st s scene.states found))
 
     -- a look that has gone over all indices ends with true
@@ -231,13 +230,13 @@ module _ {T : Type 0} (scene : Scene T) (inv : Inv scene) (which : LookOf) (stag
         → Lead ask back (copies_of p what) st (Done true)
     ends_with back None st right same none few paid course =
         let answer = looked which st true in
-        let y = party_then scene start ask back (Done answer) in
+        let party_after = party_then scene start ask back (Done answer) in
         let words' = words_after ws ask in
-        let es = Finished p (Container start) answer ∷ [] in
-        let contents : (i : ℕ) → contents_of i (events ++ es) ≡ contents_of i events = λ i. fold-append (contents_after i) None events es in
-        let m' = after scene words' y es in
+        let written = Finished p (Container start) answer ∷ [] in
+        let contents : (i : ℕ) → contents_of i (events ++ written) ≡ contents_of i events = λ i. fold-append (contents_after i) None events written in
+        let m' = after scene words' party_after written in
         ends scene start answer ask back (set_state p (settled st) scene.states) [] here.span none_lengthens
-        (does words' same y None es (silent_end T which, tt) (refl, tt) tt contents (on_now None (Some answer)) (settled st)
+        (does words' same party_after None written (silent_end T which, tt) (refl, tt) tt contents (on_now None (Some answer)) (settled st)
         (record {
           asks = (tt, tt);
           recovers = (tt, tt);
@@ -246,28 +245,29 @@ module _ {T : Type 0} (scene : Scene T) (inv : Inv scene) (which : LookOf) (stag
           places = λ holds. (places_look T which p st true events, tt);
         })
         (λ idle. rests_settled code c m' p st
-        (course m' (comes words' same y None es (silent_end T which, tt) (refl, tt) tt contents (on_now None (Some answer))))))
+        (course m' (comes words' same party_after None written (silent_end T which, tt) (refl, tt) tt contents (on_now None (Some answer))))))
         ((refl, does_look T which st true (all scene) (done scene) none), tt) (few_look T which c code.size _ (backs_then scene back) few) (omega arith)
     ends_with back (Some copy) st right same none few paid course =
         let answer = looked which st true in
-        let y = party_then scene start ask back (Done answer) in
+        let party_after = party_then scene start ask back (Done answer) in
         let words' = words_after ws ask in
         let did = Copied p copy.0 copy.1 ∷ [] in
         let finish = Finished p (Container start) answer ∷ [] in
-        let es = Copied p copy.0 copy.1 ∷ Finished p (Container start) answer ∷ [] in
-        let contents : (i : ℕ) → contents_of i (events ++ es) ≡ contents_of i events = λ i. fold-append (contents_after i) None events es in
-        let m' = after scene words' y es in
+        let written = Copied p copy.0 copy.1 ∷ Finished p (Container start) answer ∷ [] in
+        let contents : (i : ℕ) → contents_of i (events ++ written) ≡ contents_of i events = λ i. fold-append (contents_after i) None events written in
+        let m' = after scene words' party_after written in
         ends scene start answer ask back (set_state p (settled st) scene.states) did here.span (λ start w. refl)
-        (does words' same y (Some copy) finish (tt, (silent_end T which, tt)) (refl, (refl, tt)) tt contents (on_now (Some copy) (Some answer)) (settled st)
+        (does words' same party_after (Some copy) finish (tt, (silent_end T which, tt)) (refl, (refl, tt)) tt
+        contents (on_now (Some copy) (Some answer)) (settled st)
         (record {
           asks = (tt, (tt, tt));
           recovers = (tt, (tt, tt));
           answers = (tt, (answers_look T scene.terms.by (IsWorn scene.terms.by words') which c p st true (events ++ did), tt));
-          contains = λ holds. (right.1 (well_formed_of words' y es (refl, (refl, tt)) holds), (tt, tt));
+          contains = λ holds. (right.1 (well_formed_of words' party_after written (refl, (refl, tt)) holds), (tt, tt));
           places = λ holds. (tt, (places_look T which p st true (events ++ did), tt));
         })
         (λ idle. rests_settled code c m' p st
-        (course m' (comes words' same y (Some copy) finish (tt, (silent_end T which, tt)) (refl, (refl, tt)) tt contents
+        (course m' (comes words' same party_after (Some copy) finish (tt, (silent_end T which, tt)) (refl, (refl, tt)) tt contents
         (on_now (Some copy) (Some answer))))))
         (copy_stands T which p copy.0 copy.1 (wrote_of p events) right.0, ((refl, does_look T which st true _ _ (set_acts_one copy none)), tt))
         (few_look T which c code.size _ (backs_then scene back) few) (omega arith)
@@ -281,12 +281,12 @@ module _ {T : Type 0} (scene : Scene T) (inv : Inv scene) (which : LookOf) (stag
         → ShowsOwn p s c events → s.shown.change ≡ change_in code c m → Lead ask false [] s (Done false)
     stays_with same none few paid rests own is =
         let answer = looked which s false in
-        let y = party_then scene start ask false (Done answer) in
+        let party_after = party_then scene start ask false (Done answer) in
         let words' = words_after ws ask in
-        let es = Finished p (Container start) answer ∷ [] in
-        let contents : (i : ℕ) → contents_of i (events ++ es) ≡ contents_of i events = λ i. fold-append (contents_after i) None events es in
+        let written = Finished p (Container start) answer ∷ [] in
+        let contents : (i : ℕ) → contents_of i (events ++ written) ≡ contents_of i events = λ i. fold-append (contents_after i) None events written in
         ends scene start answer ask false (set_state p s scene.states) [] here.span none_lengthens
-        (does words' same y None es (silent_end T which, tt) (refl, tt) tt contents (on_now None (Some answer)) s
+        (does words' same party_after None written (silent_end T which, tt) (refl, tt) tt contents (on_now None (Some answer)) s
         (record {
           asks = (tt, tt);
           recovers = (tt, tt);
@@ -294,7 +294,7 @@ module _ {T : Type 0} (scene : Scene T) (inv : Inv scene) (which : LookOf) (stag
           contains = λ holds. (tt, tt);
           places = λ holds. (places_look T which p s false events, tt);
         })
-        (λ idle. (comes words' same y None es (silent_end T which, tt) (refl, tt) tt contents (on_now None (Some answer))).rests s rests))
+        (λ idle. (comes words' same party_after None written (silent_end T which, tt) (refl, tt) tt contents (on_now None (Some answer))).rests s rests))
         ((refl, does_look T which s false (all scene) (done scene) none), tt)
         (few_look T which c code.size _ (backs_then scene false) (omega arith)) (omega arith)
 
@@ -310,7 +310,7 @@ module _ {T : Type 0} (scene : Scene T) (inv : Inv scene) (which : LookOf) (stag
       (look_goes code which (call_at scene inv stage) o (old_of ws (ask_of (look_asks code.size c stage))))
 
   pub step_from : WalkAt scene inv s (Lead (ask_of (look_asks code.size c stage))) stage → StepOf scene (looks_as which) (look_at which c stage)
-  step_from walk_at_holds = subst StepFrom (sym found) walk_at_holds
+  step_from walked = subst StepFrom (sym found) walked
 
 -- ---- any stage
 
@@ -345,8 +345,7 @@ module _ {T : Type 0} (scene : Scene T) (inv : Inv scene) where
       let h = k.1 in
       walks_check scene inv h.looks.state _ at.0 index count at.1.0 at.1.2 few k.0 at.1.1 h.looks.course h.copying (walks_to _)
 
-  -- any step of a look that stands at a stage, and knows what the stage tells, shows what it
-  -- has to
+  -- any step of a look that stands at a stage, and knows what the stage tells, shows what it has to
   pub look_step : (which : LookOf) (stage : LookStage) → IsHere scene (looks_as which) (look_at which c stage)
       → LookAt c code.size (all scene) (done scene) stage → Knows code c (look_at which c stage) (sees_now scene)
       → steps ≤ look_number code.size stage backs

@@ -65,6 +65,7 @@ module _ {T : Type 0} (scene : Scene T) (inv : Inv scene) (which : LookOf) (stag
   abbrev old : ℕ
   old = old_of ws (ask_of (look_asks code.size c stage))
 
+  -- the call that the look belongs to
   abbrev start : ContainerStart T
   start = looks_as which
 
@@ -90,8 +91,7 @@ module _ {T : Type 0} (scene : Scene T) (inv : Inv scene) (which : LookOf) (stag
   EndsSo ask back did st (Done true) = HasPassed ask did st
   EndsSo ask back did st (Done false) = IsSame did st
 
-  -- a look that ends has gone over all indices if it says true, and nothing had changed if it
-  -- says false
+  -- a look that ends has gone over all indices if it says true, and nothing had changed if it says false
   ends_so : EndsSo ask_now (look_goes_back stage old) (look_effects p (copy_in code h.state) stage old)
       (look_shows code (call_at scene inv stage) h.state old)
       (look_after code.size (call_at scene inv stage) h.state.seen old)
@@ -123,15 +123,15 @@ module _ {T : Type 0} (scene : Scene T) (inv : Inv scene) (which : LookOf) (stag
       comes_end : (what : Option (ℕ × T))
           → Comes scene inv (after scene (words_after ws ask_now) y (copies_of p what ++ Finished p (Container start) answer ∷ [])) what
       comes_end None =
-          let es : List (Event T) = Finished p (Container start) answer ∷ [] in
-          comes scene inv which stage here h.state h.found (words_after ws ask_now) passed.same y None es
-          (silent_end T which, tt) (refl, tt) tt (λ i. fold-append (contents_after i) None events es)
+          let written : List (Event T) = Finished p (Container start) answer ∷ [] in
+          comes scene inv which stage here h.state h.found (words_after ws ask_now) passed.same y None written
+          (silent_end T which, tt) (refl, tt) tt (λ i. fold-append (contents_after i) None events written)
           (calls_on p events (Container start) (wrote_of p events) here.span None (Some answer))
       comes_end (Some copy) =
-          let es : List (Event T) = Copied p copy.0 copy.1 ∷ Finished p (Container start) answer ∷ [] in
+          let written : List (Event T) = Copied p copy.0 copy.1 ∷ Finished p (Container start) answer ∷ [] in
           comes scene inv which stage here h.state h.found (words_after ws ask_now) passed.same y (Some copy)
           (Finished p (Container start) answer ∷ []) (tt, (silent_end T which, tt)) (refl, (refl, tt)) tt
-          (λ i. fold-append (contents_after i) None events es)
+          (λ i. fold-append (contents_after i) None events written)
           (calls_on p events (Container start) (wrote_of p events) here.span (Some copy) (Some answer))
 
       abbrev Current : List (Event T) → Type 0
@@ -230,8 +230,8 @@ module _ {T : Type 0} (scene : Scene T) (inv : Inv scene) (which : LookOf) (stag
         → state_of p (set_state p (settled_if r st) scene.states) ≡ Some left → Tells answer did left (Some h.state)
     by_after (GoOn call) so e found = absurd (cc)
     by_after (Done true) so e found =
-        let is : looked which st true ≡ answer = cc in
-        subst (λ a. Tells a did left (Some h.state)) is
+        let answer_is : looked which st true ≡ answer = cc in
+        subst (λ a. Tells a did left (Some h.state)) answer_is
         (subst (λ l. Tells (looked which st true) did l (Some h.state)) (is_left (settled st) found)
         (record {
           answers = answers_passed which st (Some h.state);
@@ -241,8 +241,8 @@ module _ {T : Type 0} (scene : Scene T) (inv : Inv scene) (which : LookOf) (stag
               (now.0, moments_passed which p c st (events ++ (did ++ Finished p (Container start) (looked which st true) ∷ [])) now.1);
         }))
     by_after (Done false) so e found =
-        let is : looked which st false ≡ answer = cc in
-        subst (λ a. Tells a did left (Some h.state)) is
+        let answer_is : looked which st false ≡ answer = cc in
+        subst (λ a. Tells a did left (Some h.state)) answer_is
         (subst (λ l. Tells (looked which st false) did l (Some h.state)) (is_left st found)
         (record {
           answers = answers_same which st h.state so.is;
@@ -264,6 +264,7 @@ module _ {T : Type 0} (scene : Scene T) (inv : Inv scene) (which : LookOf) (stag
             (sym so.nothing)
             (was_well_formed scene start (no_replace T which) here.span ws y (Finished p (Container start) (looked which st false) ∷ []) (refl, tt))
 
+  -- a look that ends on this state tells of it, and of the state that it leaves
   abbrev From : Option (ContainerState T) → Type 0
   From o =
       (answer : Answer T) (left : ContainerState T)

@@ -58,8 +58,8 @@ module _ {T : Type 0} where
       let none : [] ≡ ws ++ Finished p b answer ∷ [] = cc in
       absurd (no_more ws (Finished p b answer) [] none)
   ends_last turn q p (x ∷ xs) a b outcome answer [] are e =
-      let is : x ≡ Finished p b answer = cc in
-      absurd (subst (IsEffectOf turn) is are.0)
+      let same_event : x ≡ Finished p b answer = cc in
+      absurd (subst (IsEffectOf turn) same_event are.0)
   ends_last turn q p (x ∷ xs) a b outcome answer (w ∷ ws) are e =
       let behind : xs ++ ending_of q a outcome ≡ ws ++ Finished p b answer ∷ [] = cc in
       ends_last turn q p xs a b outcome answer ws are.1 behind
@@ -113,8 +113,7 @@ look_counts size c stage = grind arith
 
 -- ---- a step in which a look ends
 
--- `c` is the capacity, `t` the run so far, `s` what is sound of it; the look of party `p` ends
--- with this answer
+-- `c` is the capacity, `t` the run so far, `s` what is sound of it; the look of party `p` ends with this answer
 module _ {T : Type 0} (shown : Shown T) (terms : Terms) (code : Coding T) (c : ℕ) (t : Trace T)
     (s : frame.Sound (family_by terms code c) t) (may : MayGoOn terms t) (p : ℕ) (start : ContainerStart T)
     (answer : Answer T) (look : IsLook start) (wrote : List (Event T)) where
@@ -154,8 +153,7 @@ module _ {T : Type 0} (shown : Shown T) (terms : Terms) (code : Coding T) (c : �
         → Ended (events_of_step q a (stepping n y kept a flight))
         → LookTurn q (stepping n y kept a flight).kept (put q next t.world.latest) (events_of_step q a (stepping n y kept a flight))
 
-    -- a step of this call, from where it stands by the events, is the end of the look if it
-    -- wrote that end last
+    -- a step of this call, from where it stands by the events, is the end of the look if it wrote that end last
     abbrev Case : ContainerStart T → ContainerFlight T → Type 0
     Case a flight =
         (n : ℕ) → StandsThere (family_by terms code c) t s q x since (Container a) (flights.Container flight)
@@ -168,14 +166,13 @@ module _ {T : Type 0} (shown : Shown T) (terms : Terms) (code : Coding T) (c : �
         → Ended (events_of_step q (Container a)
         (stepping n code (kept_now shown terms code c t s) (Container a) (flights.Container flight)))
         → IsLast q p (Container a) (Container start) (answer_in (any_call (goes_after code (state_of q s.state.states) flight n))) answer
-    last_of n a flight ended_holds =
+    last_of n a flight ended =
         ends_last turn q p (effects code q (state_of q s.state.states) flight n ++ questions q flight n)
         (Container a) (Container start)
         (answer_in (any_call (goes_after code (state_of q s.state.states) flight n))) answer wrote
-        (all_effects turn q mine code (state_of q s.state.states) flight n) ended_holds
+        (all_effects turn q mine code (state_of q s.state.states) flight n) ended
 
-    -- a step of a look that wrote this end last is the step in which the look ends, with what
-    -- it leaves and writes
+    -- a step of a look that wrote this end last is the step in which the look ends, with what it leaves and writes
     look_case : (which : LookOf) (stage : LookStage) → Case (looks_as which) (look_at which c stage)
     look_case which stage n stands is =
         subst (λ k. StepFrom k code (kept_now shown terms code c t s) (Container (looks_as which))
@@ -210,7 +207,7 @@ module _ {T : Type 0} (shown : Shown T) (terms : Terms) (code : Coding T) (c : �
         → StepFrom n code (kept_now shown terms code c t s) a flight
     step_look = grind (arith, last_of, container_is, is_there, look_flight, all, done, look_case)
 
-    -- by the words, and what is kept beside them
+    -- this is so of a step of any call that is decided by the words and by what is kept beside them
     pub any_look : (n : ℕ) (flight : Flight T) → x.doing ≡ Going flight since
         → (is_question (want_of t.world.coding flight) ≡ false → n ≡ old_of t.world.words (ask_of (want_of t.world.coding flight)))
         → StepFrom n t.world.coding t.world.kept x.start flight
@@ -227,36 +224,38 @@ module _ {T : Type 0} (shown : Shown T) (terms : Terms) (code : Coding T) (c : �
   -- a step that wrote this end last is one of a look that ends so
   next_look : (q : ℕ) → (o : Option (Party T)) → party_of q t.world.latest ≡ o → Ended (events_of_next t.world q o)
       → LookTurn q (after_next t.world q o).kept (after_next t.world q o).latest (events_of_next t.world q o)
-  next_look q None found ended_holds = absurd (no_more wrote (Finished p (Container start) answer) [] ended_holds)
-  next_look q (Some x) found ended_holds = go x.doing refl ended_holds
+  next_look q None found ended = absurd (no_more wrote (Finished p (Container start) answer) [] ended)
+  next_look q (Some x) found ended = go x.doing refl ended
     where
+      -- the cases are whether the party's call is over or under way
       go : (doing : Doing T) → x.doing ≡ doing → Ended (events_of_answer t.world q x (old_of t.world.words (ask_of_doing t.world.coding doing)) doing)
           → LookTurn q (after_answer t.world q x (ask_of_doing t.world.coding doing) (old_of t.world.words (ask_of_doing t.world.coding doing)) doing).kept
           (after_answer t.world q x (ask_of_doing t.world.coding doing) (old_of t.world.words (ask_of_doing t.world.coding doing)) doing).latest
           (events_of_answer t.world q x (old_of t.world.words (ask_of_doing t.world.coding doing)) doing)
-      go (Over others) same_doing ended_holds = absurd (no_more wrote (Finished p (Container start) answer) [] ended_holds)
-      go (Going flight since) same_doing ended_holds =
+      go (Over others) same_doing ended = absurd (no_more wrote (Finished p (Container start) answer) [] ended)
+      go (Going flight since) same_doing ended =
           any_look q x since found (Next q) refl (old_of t.world.words (ask_of (want_of t.world.coding flight))) flight
-          same_doing (λ no. refl) _ (λ no. refl) ended_holds
+          same_doing (λ no. refl) _ (λ no. refl) ended
 
   -- a decision that wrote this end last is one of a look that ends so
   decision_look : (q : ℕ) (said : Bool) → is_due t.world.coding (flight_in t.world q) ≡ true
       → (o : Option (Party T)) → party_of q t.world.latest ≡ o → Ended (events_of_decision t.world q said o)
       → LookTurn q (after_decision t.world q said o).kept (after_decision t.world q said o).latest (events_of_decision t.world q said o)
-  decision_look q said due None found ended_holds = absurd (no_more wrote (Finished p (Container start) answer) [] ended_holds)
-  decision_look q said due (Some x) found ended_holds = go x.doing refl ended_holds
+  decision_look q said due None found ended = absurd (no_more wrote (Finished p (Container start) answer) [] ended)
+  decision_look q said due (Some x) found ended = go x.doing refl ended
     where
+      -- the cases are whether the party's call is over or under way
       go : (doing : Doing T) → x.doing ≡ doing → Ended (events_of_answer t.world q x (number_of said) doing)
           → LookTurn q (after_answer t.world q x None (number_of said) doing).kept
           (after_answer t.world q x None (number_of said) doing).latest
           (events_of_answer t.world q x (number_of said) doing)
-      go (Over others) same_doing ended_holds = absurd (no_more wrote (Finished p (Container start) answer) [] ended_holds)
-      go (Going flight since) same_doing ended_holds =
-          let here : flight_in t.world q ≡ Some flight = ap (λ o. flight_of (doing_of o)) found ∙ ap (λ same_doing. flight_of (Some same_doing)) same_doing in
+      go (Over others) same_doing ended = absurd (no_more wrote (Finished p (Container start) answer) [] ended)
+      go (Going flight since) same_doing ended =
+          let here : flight_in t.world q ≡ Some flight = ap (λ o. flight_of (doing_of o)) found ∙ ap (λ d. flight_of (Some d)) same_doing in
           let asks : is_question (want_of t.world.coding flight) ≡ true = rw here at due in
           any_look q x since found (Decide q said) refl (number_of said) flight same_doing
           (λ no. both_ways (is_question (want_of t.world.coding flight)) no asks) _
-          (λ no. both_ways (is_question (want_of t.world.coding flight)) no asks) ended_holds
+          (λ no. both_ways (is_question (want_of t.world.coding flight)) no asks) ended
 
   -- the turn of a look that ends
   pub record LookEnd (new : Trace T) : Type 0 where
@@ -267,17 +266,17 @@ module _ {T : Type 0} (shown : Shown T) (terms : Terms) (code : Coding T) (c : �
 
   -- a turn that wrote this end last is the turn of a look that ends
   pub look_end : (turn : Turn T) → IsAllowed t.world turn → Ended (events_of t.world turn) → LookEnd (after_turn t turn)
-  look_end (Begin q a) allowed ended_holds = absurd (no_end (Begun q a) p (Container start) answer wrote (λ h. cc) ended_holds)
-  look_end (Next q) allowed ended_holds =
-      record { party = q; events = events_of t.world (Next q); is = refl; turn = next_look q (party_of q t.world.latest) refl ended_holds }
-  look_end (Decide q said) allowed ended_holds =
+  look_end (Begin q a) allowed ended = absurd (no_end (Begun q a) p (Container start) answer wrote (λ h. cc) ended)
+  look_end (Next q) allowed ended =
+      record { party = q; events = events_of t.world (Next q); is = refl; turn = next_look q (party_of q t.world.latest) refl ended }
+  look_end (Decide q said) allowed ended =
       record {
         party = q;
         events = events_of t.world (Decide q said);
         is = refl;
-        turn = decision_look q said allowed (party_of q t.world.latest) refl ended_holds;
+        turn = decision_look q said allowed (party_of q t.world.latest) refl ended;
       }
-  look_end (Die o) allowed ended_holds = absurd (no_end (Died o) p (Container start) answer wrote (λ h. cc) ended_holds)
+  look_end (Die o) allowed ended = absurd (no_end (Died o) p (Container start) answer wrote (λ h. cc) ended)
 
   -- ---- what it tells
 
@@ -305,8 +304,7 @@ module _ {T : Type 0} (shown : Shown T) (terms : Terms) (code : Coding T) (c : �
         → AnswersOfState a answer (state_in t.world.kept n) state
         × (well_formed → IsCurrent n c state new.events × MomentsOfState n c a answer state new.events)
 
-    -- what the look leaves answers as it said, and in a well-formed run it is current and shows
-    -- what stood
+    -- what the look leaves answers as it said, and in a well-formed run it is current and shows what stood
     here_right : Right end.party (looks_as l.which)
     here_right state is =
         let left : state_of end.party (states_after code end.party (look_at l.which c l.stage) (old l.stage) s.state.states)

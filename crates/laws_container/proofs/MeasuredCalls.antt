@@ -267,8 +267,7 @@ module _ (size c : ℕ) (old new : List ℕ) (same : get_or new 0 0 ≡ get_or o
   look_fewer (looks.LoadsWord index count at) = let here = fewer index count in omega arith
   look_fewer (looks.ChecksCount index count) = let here = fewer index count in omega arith
 
-  -- words with the same counter, in which no copy takes more steps to be made again, leave no
-  -- call more steps
+  -- words with the same counter, in which no copy takes more steps to be made again, leave no call more steps
   pub leaves : {T : Type 0} → LeavesAll (measure {T = T} size c) old new
   leaves (flights.Container (calls.Add run)) = rw same (omega arith)
   leaves (flights.Container (calls.Remove run)) = rw same (omega arith)
@@ -303,8 +302,7 @@ module _ (size c : ℕ) (words : List ℕ) where
   apart_leaves word new some apart =
       leaves size c words (set words word new) (get_or-set_other words word 0 new 0 (λ e. absurd (omega arith))) fewer
     where
-      -- after a store to a word that is no number of an element no copy takes more steps to be
-      -- made again
+      -- after a store to a word that is no number of an element no copy takes more steps to be made again
       fewer : (index count : ℕ) → again_at size c (set words word new) index count ≤ again_at size c words index count
       fewer index count =
           by_bool (nat_lt index c)
@@ -354,8 +352,7 @@ module _ (size c : ℕ) (words : List ℕ) where
             let stays = get_or-set_other words (count_word c index) (count_word c i) (one_more count) 0 (λ e. ne (omega arith)) in
             rw stays (omega arith)
 
-    -- the exchange by which an element goes leaves no call more steps, whether it finds the
-    -- number or another
+    -- the exchange by which an element goes leaves no call more steps, whether it finds the number or another
     pub hide_leaves : {T : Type 0} → LeavesAll (measure {T = T} size c) words (set words (count_word c index) (cond (stood == count) (one_more count) stood))
     hide_leaves {T} =
         on_bool (λ t. LeavesAll (measure {T = T} size c) words (set words (count_word c index) (cond t (one_more count) stood))) (stood == count)

@@ -1,4 +1,4 @@
--- Each step of a call of a container that does not lock falls.
+-- The measure falls with each step of a call of a container that does not lock.
 use Rattle.std.proofs.Common.{◌≡◌, ℕ, ◌+◌, ◌-◌, ◌*◌, ◌<◌, ◌≤◌, ◌==◌, inl, inr, nat_lt, Bool, true, false, cond}
 use Rattle.std.proofs.Common.{Option, List, get_or, set, refl, sym, subst, arith}
 use Rattle.std.proofs.lemmas.Bool.Decides.{nat_tests}
@@ -91,6 +91,7 @@ module _ {T : Type 0} (code : Coding T) (c : ℕ) (words : List ℕ) where
         (add_acquired (record { capacity = c; stage = adds.Acquires stage; of = record {} }) (acquire_sees (inner_acquire c stage) now)))))
     acquire_sees_falls new value owner stage same enough = go (now == locked) refl (now == greatest) refl (nat_lt 0 c) refl
       where
+        -- the cases are whether the counter is locked, whether the counter is at its end and whether there is a place
         go : (t : Bool) → (now == locked) ≡ t → (u : Bool) → (now == greatest) ≡ u → (v : Bool) → nat_lt 0 c ≡ v
             → FallsIn M words new 1 (flights.Container (add_at c value owner (adds.Acquires stage)))
             (any_call (as_call calls.Add added (went_on as_it_is (record { value = value; owner = owner }) tt
@@ -100,7 +101,7 @@ module _ {T : Type 0} (code : Coding T) (c : ℕ) (words : List ℕ) where
         go false t false u true v = let self = same_is now in rw (t, u, v) (inl (same, rw self (omega arith), omega arith))
         go false t false u false v = let self = same_is now in rw (t, u, v) (inl (same, rw self (omega arith), omega arith))
 
-    -- each step of an add that still acquires its index falls
+    -- the measure falls with each step of an add that still acquires its index
     acquire_falls : (value : T) (owner : ℕ) (stage : AcquireStage) → AcquireStands c stage
         → Shown (add_at c value owner (adds.Acquires stage))
     acquire_falls value owner acquires.LoadsCounter at =
@@ -111,6 +112,7 @@ module _ {T : Type 0} (code : Coding T) (c : ℕ) (words : List ℕ) where
         call : ContainerFlight T
         call = add_at c value owner (adds.Acquires (acquires.FillsCell counter index))
 
+        -- the cases are whether the cell is empty, whether a further index follows and whether the counter is still what was read
         go : (t : Bool) → (get_or words (cell_word index) 0 == empty) ≡ t → (u : Bool) → nat_lt (index + 1) c ≡ u
             → (v : Bool) → (now == counter) ≡ v → Shown call
         go true t u e true v = rw t (inr (rw v (omega arith), inl (cell_leaves code.size c words index owner (omega arith), omega arith)))
@@ -130,6 +132,7 @@ module _ {T : Type 0} (code : Coding T) (c : ℕ) (words : List ℕ) where
         rw t (acquire_sees_falls _ value owner (acquires.ChecksCounter counter) (load_leaves words 0) (rw t (omega arith))))
     acquire_falls value owner (acquires.Raises index raises.LoadsCounter) at = go (now == locked) refl (now == greatest) refl
       where
+        -- the cases are whether the counter is locked and whether the counter is at its end
         go : (t : Bool) → (now == locked) ≡ t → (u : Bool) → (now == greatest) ≡ u
             → Shown (add_at c value owner (adds.Acquires (acquires.Raises index raises.LoadsCounter)))
         go true t u e = rw t tt
@@ -138,6 +141,7 @@ module _ {T : Type 0} (code : Coding T) (c : ℕ) (words : List ℕ) where
     acquire_falls value owner (acquires.Raises index (raises.ExchangesCounter counter)) at =
         go (now == counter) refl (now == locked) refl (now == greatest) refl
       where
+        -- the cases are whether the counter is still what was read, whether the counter is locked and whether the counter is at its end
         go : (s : Bool) → (now == counter) ≡ s → (t : Bool) → (now == locked) ≡ t → (u : Bool) → (now == greatest) ≡ u
             → Shown (add_at c value owner (adds.Acquires (acquires.Raises index (raises.ExchangesCounter counter))))
         go true s t e u f = rw s (inr (rw s (omega arith), inr (omega arith)))
@@ -145,7 +149,7 @@ module _ {T : Type 0} (code : Coding T) (c : ℕ) (words : List ℕ) where
         go false s false t true u = rw (s, t, u) (inl (load_leaves words 0, rw s (omega arith), omega arith))
         go false s false t false u = let self = same_is now in rw (s, t, u) (inl (load_leaves words 0, rw (self, s) (omega arith), omega arith))
 
-    -- each step of an add falls
+    -- the measure falls with each step of an add
     pub add_falls : (value : T) (owner : ℕ) (stage : AddStage) → AddStands c stage → Shown (add_at c value owner stage)
     add_falls value owner (adds.Acquires stage) at = acquire_falls value owner stage at
     add_falls value owner (adds.LoadsCount index) at =
@@ -166,7 +170,7 @@ module _ {T : Type 0} (code : Coding T) (c : ℕ) (words : List ℕ) where
 
     -- ---- a remove
 
-    -- each step of a remove in its release falls
+    -- the measure falls with each step of a remove in its release
     release_falls : (index owner count : ℕ) (stage : ReleaseStage) → index ≤ c → RemoveStands (removes.Releases count stage)
         → Shown (remove_at c index owner Default (removes.Releases count stage))
     release_falls index owner count releases.EmptiesCell within at =
@@ -176,6 +180,7 @@ module _ {T : Type 0} (code : Coding T) (c : ℕ) (words : List ℕ) where
     release_falls index owner count (releases.Raises raises.LoadsCounter) within at =
         go (now == locked) refl (now == greatest) refl (is_even count) refl
       where
+        -- the cases are whether the counter is locked, whether the counter is at its end and whether the count is even (nothing stands there)
         go : (t : Bool) → (now == locked) ≡ t → (u : Bool) → (now == greatest) ≡ u → (v : Bool) → is_even count ≡ v
             → Shown (remove_at c index owner Default (removes.Releases count (releases.Raises raises.LoadsCounter)))
         go true t u e true v = rw (t, v) (inl (load_leaves words 0, omega arith, omega arith))
@@ -186,6 +191,8 @@ module _ {T : Type 0} (code : Coding T) (c : ℕ) (words : List ℕ) where
     release_falls index owner count (releases.Raises (raises.ExchangesCounter counter)) within at =
         go (now == counter) refl (now == locked) refl (now == greatest) refl (is_even count) refl
       where
+        -- the cases are whether the counter is still what was read, whether the counter is locked, whether the counter
+        -- is at its end and whether the count is even (nothing stands there)
         go : (s : Bool) → (now == counter) ≡ s → (t : Bool) → (now == locked) ≡ t → (u : Bool) → (now == greatest) ≡ u → (v : Bool) → is_even count ≡ v
             → Shown (remove_at c index owner Default
             (removes.Releases count (releases.Raises (raises.ExchangesCounter counter))))
@@ -198,7 +205,7 @@ module _ {T : Type 0} (code : Coding T) (c : ℕ) (words : List ℕ) where
         go false s false t false u v e = let self = same_is now in rw (s, t, u) (inl (load_leaves words 0, rw (self, s) (omega arith), omega arith))
     release_falls index owner count (releases.Locks lock) within at = absurd at
 
-    -- each step of a remove that does not lock falls
+    -- the measure falls with each step of a remove that does not lock
     pub remove_falls : (index owner : ℕ) (stage : RemoveStage) → index ≤ c → RemoveStands stage → Shown (remove_at c index owner Default stage)
     remove_falls index owner removes.Refuses within at = tt
     remove_falls index owner removes.LoadsCount within at = inl (load_leaves words (count_word c index), omega arith, omega arith)
@@ -209,7 +216,7 @@ module _ {T : Type 0} (code : Coding T) (c : ℕ) (words : List ℕ) where
 
     -- ---- a replace
 
-    -- each step of a replace falls
+    -- the measure falls with each step of a replace
     pub replace_falls : (index : ℕ) (value : T) (owner : ℕ) (stage : ReplaceStage) → ReplaceStands stage → Shown (replace_at c index value owner stage)
     replace_falls index value owner replaces.Refuses at = tt
     replace_falls index value owner replaces.LoadsCell at =

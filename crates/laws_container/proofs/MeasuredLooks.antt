@@ -59,11 +59,11 @@ module _ {T : Type 0} (code : Coding T) (c : ℕ) (words : List ℕ) where
       by_bool (nat_lt (index + 1) c)
       (λ u.
       let less : index + 1 < c = grind (arith, nat_tests) in
-      let on = behind_next c (code.size - 1 + 4) index less in
+      let fewer_behind = behind_next c (code.size - 1 + 4) index less in
       rw u (inl (same, omega arith, omega arith)))
       (λ u. rw u tt)
 
-  -- each step of a find falls
+  -- the measure falls with each step of a find
   pub find_falls : (owner : ℕ) (room : buffers.Buffer 128) (stage : FindStage) → There (find_at c owner room stage)
   find_falls owner room (finds.LoadsCell index found) =
       by_bool (get_or words (cell_word index) 0 == owner)
@@ -107,14 +107,15 @@ module _ {T : Type 0} (code : Coding T) (c : ℕ) (words : List ℕ) where
       by_bool (nat_lt (index + 1) c)
       (λ u.
       let less : index + 1 < c = grind (arith, nat_tests) in
-      let on = behind_next c (code.size - 1 + 8) index less in
+      let fewer_behind = behind_next c (code.size - 1 + 8) index less in
       rw u (inl (same, omega arith, omega arith)))
       (λ u. rw u (inl (same, omega arith, omega arith)))
 
-  -- each step of a recovery that does not lock falls
+  -- the measure falls with each step of a recovery that does not lock
   pub recover_falls : (owner : ℕ) (room : buffers.Buffer 128) (stage : RecoverStage) → RecoverStands c stage → There (recovering owner room stage)
   recover_falls owner room recovers.LoadsCounter at = go (now == locked) refl (nat_lt 0 c) refl
     where
+      -- the cases are whether the counter is locked and whether there is a place
       go : (t : Bool) → (now == locked) ≡ t → (u : Bool) → nat_lt 0 c ≡ u → There (recovering owner room recovers.LoadsCounter)
       go true t u e = rw t (inl (load_leaves words 0, omega arith, omega arith))
       go false t true u = rw (t, u) (inl (load_leaves words 0, omega arith, omega arith))
@@ -127,6 +128,7 @@ module _ {T : Type 0} (code : Coding T) (c : ℕ) (words : List ℕ) where
       (omega arith) (omega arith)))
   recover_falls owner room (recovers.LoadsCount index) at = go (is_even (stands_at index)) refl (nat_lt index c) refl
     where
+      -- the cases are whether the count that stands there is even and whether the index is within the capacity
       go : (t : Bool) → is_even (stands_at index) ≡ t → (u : Bool) → nat_lt index c ≡ u → There (recovering owner room (recovers.LoadsCount index))
       go true t u e = rw t (inl (load_leaves words (count_word c index), omega arith, omega arith))
       go false t true u =
@@ -148,6 +150,7 @@ module _ {T : Type 0} (code : Coding T) (c : ℕ) (words : List ℕ) where
       inside : nat_lt index c ≡ true
       inside = grind (arith, nat_tests)
 
+      -- the cases are whether the count is still what was read and whether the count that stands there is even
       go : (t : Bool) → (stands_at index == count) ≡ t → (u : Bool) → is_even (stands_at index) ≡ u → There (recovering owner room stage)
       go true t u e =
           let same = check_leaves words (count_word c index) count in
@@ -161,6 +164,7 @@ module _ {T : Type 0} (code : Coding T) (c : ℕ) (words : List ℕ) where
   recover_falls owner room (recovers.EmptiesCell index count) at =
       go (get_or words (cell_word index) 0 == owner) refl (is_even count) refl
     where
+      -- the cases are whether the cell has the owner and whether the count is even (nothing stands there)
       go : (t : Bool) → (get_or words (cell_word index) 0 == owner) ≡ t → (u : Bool) → is_even count ≡ u
           → There (recovering owner room (recovers.EmptiesCell index count))
       go true t true u = rw (t, u) (inr (omega arith, inl (cell_leaves code.size c words index empty (omega arith), omega arith)))
@@ -175,6 +179,7 @@ module _ {T : Type 0} (code : Coding T) (c : ℕ) (words : List ℕ) where
       stage : RecoverStage
       stage = recovers.Raises index raises.LoadsCounter
 
+      -- the cases are whether the counter is locked and whether the counter is at its end
       go : (t : Bool) → (now == locked) ≡ t → (u : Bool) → (now == greatest) ≡ u → There (recovering owner room stage)
       go true t u e = rw t (inl (load_leaves words 0, omega arith, omega arith))
       go false t true u = rw (t, u) (recover_comes _ 1 index owner room room stage (load_leaves words 0) (omega arith) (omega arith))
@@ -185,11 +190,13 @@ module _ {T : Type 0} (code : Coding T) (c : ℕ) (words : List ℕ) where
       stage : RecoverStage
       stage = recovers.Raises index (raises.ExchangesCounter counter)
 
+      -- the cases are whether the counter is still what was read, whether the counter is locked, whether the counter is
+      -- at its end and whether a further index follows
       go : (s : Bool) → (now == counter) ≡ s → (t : Bool) → (now == locked) ≡ t → (u : Bool) → (now == greatest) ≡ u
           → (v : Bool) → nat_lt (index + 1) c ≡ v → There (recovering owner room stage)
       go true s t e u f true v =
           let less : index + 1 < c = grind (arith, nat_tests) in
-          let on = behind_next c (code.size - 1 + 8) index less in
+          let fewer_behind = behind_next c (code.size - 1 + 8) index less in
           rw (s, v) (inr (rw s (omega arith), inr (omega arith)))
       go true s t e u f false v = rw (s, v) (inr (rw s (omega arith), inr (omega arith)))
       go false s true t u e v f = rw (s, t) (inl (load_leaves words 0, rw s (omega arith), omega arith))
@@ -218,14 +225,15 @@ module _ {T : Type 0} (code : Coding T) (c : ℕ) (words : List ℕ) where
         by_bool (nat_lt (index + 1) c)
         (λ u.
         let less : index + 1 < c = grind (arith, nat_tests) in
-        let on = behind_next c (code.size - 1 + 3) index less in
+        let fewer_behind = behind_next c (code.size - 1 + 3) index less in
         rw u (inl (same, omega arith, omega arith)))
         (λ u. rw u tt)
 
-    -- each step of a look whose party has a state falls
+    -- the measure falls with each step of a look whose party has a state
     pub look_falls : (stage : LookStage) → LookStands c stage → Sees stage
     look_falls looks.LoadsChange at = go (get_or words (1 + c) 0 == state.seen.change) refl (nat_lt 0 c) refl
       where
+        -- the cases are whether the change counter is what the last look saw and whether there is a place
         go : (t : Bool) → (get_or words (1 + c) 0 == state.seen.change) ≡ t → (u : Bool) → nat_lt 0 c ≡ u → Sees looks.LoadsChange
         go true t u e = rw t tt
         go false t true u = rw (t, u) (inl (load_leaves words (1 + c), omega arith, omega arith))
@@ -239,6 +247,7 @@ module _ {T : Type 0} (code : Coding T) (c : ℕ) (words : List ℕ) where
         inside : nat_lt index c ≡ true
         inside = grind (arith, nat_tests)
 
+        -- the cases are whether the count is what the last look saw and whether the count that stands there is even
         go : (t : Bool) → (stands_at index == slice_index_or state.seen.counts index 0) ≡ t → (u : Bool) → is_even (stands_at index) ≡ u → Sees stage
         go true t u e = rw t (look_comes _ 1 index _ stage (load_leaves words (count_word c index)) (omega arith))
         go false t true u = rw (t, u) (look_comes _ 1 index _ stage (load_leaves words (count_word c index)) (omega arith))
@@ -259,6 +268,7 @@ module _ {T : Type 0} (code : Coding T) (c : ℕ) (words : List ℕ) where
         inside : nat_lt index c ≡ true
         inside = grind (arith, nat_tests)
 
+        -- the cases are whether the count is still what was read and whether the count that stands there is even
         go : (t : Bool) → (stands_at index == count) ≡ t → (u : Bool) → is_even (stands_at index) ≡ u → Sees stage
         go true t u e =
             let same = check_leaves words (count_word c index) count in
@@ -270,10 +280,11 @@ module _ {T : Type 0} (code : Coding T) (c : ℕ) (words : List ℕ) where
 
   -- ---- a number of elements
 
-  -- each step of a count of elements falls
+  -- the measure falls with each step of a count of elements
   pub count_falls : (which : CountOf) (count : Count) → There (count_at which c count)
   count_falls which counts.LoadsCounter = go (now == locked) refl (nat_lt 0 c) refl (now == greatest) refl
     where
+      -- the cases are whether the counter is locked, whether there is a place and whether the counter is at its end
       go : (t : Bool) → (now == locked) ≡ t → (u : Bool) → nat_lt 0 c ≡ u → (v : Bool) → (now == greatest) ≡ v
           → There (count_at which c counts.LoadsCounter)
       go true t u e v f = rw t tt
@@ -283,6 +294,7 @@ module _ {T : Type 0} (code : Coding T) (c : ℕ) (words : List ℕ) where
   count_falls which (counts.LoadsCell counter index filled) =
       go (nat_lt (index + 1) c) refl (counter == greatest) refl (now == counter) refl
     where
+      -- the cases are whether a further index follows, whether the counter that was read is at its end and whether the counter is still what was read
       go : (u : Bool) → nat_lt (index + 1) c ≡ u → (v : Bool) → (counter == greatest) ≡ v → (t : Bool) → (now == counter) ≡ t
           → There (count_at which c (counts.LoadsCell counter index filled))
       go true u v e true t =

@@ -116,8 +116,7 @@ module _ {T : Type 0} (scene : Scene T) (inv : Inv scene) (shown : CallSteps sce
       → steps ≤ number_of c code.size flight backs → Knows code c flight (sees_now scene)
       → StepOf scene start flight
 
-  -- each step of any call that stands at its place, and acts for nobody who is gone, shows what
-  -- it has to
+  -- each step of any call that stands at its place, and acts for nobody who is gone, shows what it has to
   pub step_moves : (start : ContainerStart T) (flight : ContainerFlight T) → At c code.size (all scene) (done scene) start flight → Moves start flight
   step_moves (starts.Add value owner) (calls.Add run) at =
       subst (Moves (starts.Add value owner))

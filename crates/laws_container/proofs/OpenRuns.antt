@@ -51,8 +51,8 @@ module _ {T : Type 0} (kept : Bool) (code : Coding T) (c : ℕ) where
     rightly : (p : ℕ) (x : Party T) (since : ℕ) (found : party_of p t.world.latest ≡ Some x) (flight : Flight T)
         → (kept ≡ true → is_for_gone t.events (Some flight) ≡ false)
         → IsRightly shown terms code c t s p x since found flight
-    rightly p x since found (flights.Container flight) is_for_gone_false = is_for_gone_false
-    rightly p x since found flight is_for_gone_false = tt
+    rightly p x since found (flights.Container flight) owner_lives = owner_lives
+    rightly p x since found flight owner_lives = tt
 
     -- a begin
     begun : (p : ℕ) (start : Start T) (flight : Flight T) → MayRecoverIn shown terms code c t s p start → flight_in t.world p ≡ None
@@ -61,12 +61,12 @@ module _ {T : Type 0} (kept : Bool) (code : Coding T) (c : ℕ) where
         (party_at_begin start flight t.world.changes) (Begun p start ∷ []) t.world.changes
     begun p start flight recovers free e =
         let now = kept_now shown terms code c t s in
-        let y = party_at_begin start flight t.world.changes in
+        let party_after = party_at_begin start flight t.world.changes in
         let named : first_of kinds.Container c start now ≡ Some flight = rw (s.kind, s.capacity, s.fit.kept) at e in
         let kept_same : kept_after_begin t.world.coding t.world.capacity start p t.world.kept ≡ kept_after_begin code c start p now =
         rw (s.coding, s.capacity, s.fit.kept) refl in
-        subst (λ kept. frame.Comes (family_by terms code c) t p kept t.world.words y (Begun p start ∷ []) t.world.changes) (sym kept_same)
-        (subst (λ words. frame.Comes (family_by terms code c) t p (kept_after_begin code c start p now) words y (Begun p start ∷ []) t.world.changes)
+        subst (λ kept. frame.Comes (family_by terms code c) t p kept t.world.words party_after (Begun p start ∷ []) t.world.changes) (sym kept_same)
+        (subst (λ words. frame.Comes (family_by terms code c) t p (kept_after_begin code c start p now) words party_after (Begun p start ∷ []) t.world.changes)
         (sym s.fit.words) (begin_comes shown terms code c t s p start flight recovers free named))
 
     -- a begin that is not refused leaves the machine sound
@@ -83,8 +83,8 @@ module _ {T : Type 0} (kept : Bool) (code : Coding T) (c : ℕ) where
         begins p start (recovers_by shown terms code c t s p start b) b.free b.call
 
     free_by : (o : Option (Flight T)) → is_some o ≡ false → o ≡ None
-    free_by None is_some_false = refl
-    free_by (Some flight) is_some_false = absurd (cc)
+    free_by None nothing = refl
+    free_by (Some flight) nothing = absurd (cc)
 
     -- a turn that an open run does not refuse leaves the machine sound, if it takes no step for
     -- one who is gone where the run keeps to that
@@ -157,8 +157,7 @@ module _ {T : Type 0} (kept : Bool) (code : Coding T) (c : ℕ) where
   attempted t turn None e s few faithful = open_turn_sound kept code c t s few turn e faithful
   attempted t turn (Some refusal) e s few faithful = s
 
-  -- a run from a sound machine, faithful and of few turns where the run keeps to that, leads to
-  -- a sound machine
+  -- a run from a sound machine, faithful and of few turns where the run keeps to that, leads to a sound machine
   run_sound : (turns : List (Turn T)) (t : Trace T) → Holds t → (kept ≡ true → is_faithful turns t ≡ true)
       → (kept ≡ true → (run_open turns t).world.turns < 2 ^ 64 - 2) → Holds (run_open turns t)
   run_sound [] t s faithful few = s
@@ -174,8 +173,7 @@ module _ {T : Type 0} (code : Coding T) (c : ℕ) where
   abbrev Any : Trace T → Type 0
   Any t = Holds false code c t
 
-  -- an attempted turn that takes no step for one who is gone leaves an honest machine honest,
-  -- and sound
+  -- an attempted turn that takes no step for one who is gone leaves an honest machine honest, and sound
   attempt_honest : (t : Trace T) (turn : Turn T) (o : Option Refusal) → open_refusal t.world turn ≡ o → Any t → IsHonest t.events
       → steps_for_gone t turn ≡ false → Any (unless_refused t (after_turn t turn) o) × IsHonest (unless_refused t (after_turn t turn) o).events
   attempt_honest t turn None e any honest steps =
@@ -199,22 +197,21 @@ module _ {T : Type 0} (t : Trace T) (is : t.world.kind ≡ kinds.Container) (r :
   -- the machine of an open run is sound as it opens
   open_at_first : (kept : Bool) → Holds kept t.world.coding t.world.capacity first
   open_at_first kept =
-      let w = t.world in
-      let may = admitted_is w.capacity (subst (λ kind. capacity_error kind w.capacity ≡ None) is r.admitted) in
-      subst (λ kind. Holds kept w.coding w.capacity (opening w.coding kind w.capacity w.parties)) (sym is)
-      (opening_sound shown (terms kept w.coding w.capacity) w.coding w.capacity w.parties r.coded may.0 may.1)
+      let world = t.world in
+      let may = admitted_is world.capacity (subst (λ kind. capacity_error kind world.capacity ≡ None) is r.admitted) in
+      subst (λ kind. Holds kept world.coding world.capacity (opening world.coding kind world.capacity world.parties)) (sym is)
+      (opening_sound shown (terms kept world.coding world.capacity) world.coding world.capacity world.parties r.coded may.0 may.1)
 
-  -- where an open run has led is sound, on terms that are kept only if the run is faithful and
-  -- has few turns
+  -- where an open run has led is sound, on terms that are kept only if the run is faithful and has few turns
   reached_sound : (kept : Bool) → (kept ≡ true → is_faithful r.turns first ≡ true) → (kept ≡ true → t.world.turns < 2 ^ 64 - 2)
       → Holds kept t.world.coding t.world.capacity t
   reached_sound kept faithful few =
-      let w = t.world in
-      subst (Holds kept w.coding w.capacity) (sym r.is)
-      (run_sound kept w.coding w.capacity r.turns first (open_at_first kept) faithful
+      let world = t.world in
+      subst (Holds kept world.coding world.capacity) (sym r.is)
+      (run_sound kept world.coding world.capacity r.turns first (open_at_first kept) faithful
       (λ keeps. subst (λ (u : Trace T). u.world.turns < 2 ^ 64 - 2) r.is (few keeps)))
 
-  -- of any run
+  -- the terms of any run
   abbrev pub any : Terms
   any = terms false t.world.coding t.world.capacity
 
@@ -240,32 +237,32 @@ module _ {T : Type 0} (t : Trace T) (is : t.world.kind ≡ kinds.Container) (r :
   -- no turn changes how many words it has
   pub reached_open_wide : length t.world.words ≡ total_words t.world.capacity t.world.coding.size
   reached_open_wide =
-      let s = reached_open_sound in
-      ap length s.fit.words ∙ s.holds.elements.wide
+      let sound_there = reached_open_sound in
+      ap length sound_there.fit.words ∙ sound_there.holds.elements.wide
 
   -- what is promised of each open run of a container holds of this one
   pub reached_open_kept : IsOpenContainer t r
   reached_open_kept =
-      let w = t.world in
-      let s = reached_open_sound in
+      let world = t.world in
+      let sound_there = reached_open_sound in
       record {
-        does = s.holds.good.does;
-        asks = s.holds.elements.asks;
-        recovers = s.holds.elements.recovers;
+        does = sound_there.holds.good.does;
+        asks = sound_there.holds.elements.asks;
+        recovers = sound_there.holds.elements.recovers;
         answers =
-            subst (λ ws. Each (AnswersBy Word (counter_of ws ≡ greatest) w.capacity) t.events)
-            (sym s.fit.words) s.holds.elements.answers;
-        cells = cells any w.coding t s;
-        lock = lock any w.coding t s;
+            subst (λ ws. Each (AnswersBy Word (counter_of ws ≡ greatest) world.capacity) t.events)
+            (sym sound_there.fit.words) sound_there.holds.elements.answers;
+        cells = cells any world.coding t sound_there;
+        lock = lock any world.coding t sound_there;
         lives = reached_open_lives;
-        dead = dead any w.coding t s;
-        questions = questions any w.coding t s;
-        states = states any w.coding t s;
-        holds = λ well_formed honest. s.holds.good.holds (well_formed, honest);
+        dead = dead any world.coding t sound_there;
+        questions = questions any world.coding t sound_there;
+        states = states any world.coding t sound_there;
+        holds = λ well_formed honest. sound_there.holds.good.holds (well_formed, honest);
         honest = reached_open_honest;
         contained = λ well_formed run.
-            let keeping = terms true w.coding w.capacity in
-            contained keeping w.coding t (reached_sound true (λ keeps. run.faithful) (λ keeps. run.few))
+            let keeping = terms true world.coding world.capacity in
+            contained keeping world.coding t (reached_sound true (λ keeps. run.faithful) (λ keeps. run.few))
             (well_formed_on keeping t refl (reached_open_honest run.faithful) well_formed);
       }
 
@@ -286,22 +283,22 @@ module _ {T : Type 0} (t : Trace T) (is : t.world.kind ≡ kinds.Container) (r :
   pub reached_open_tells : (turn : Turn T) → open_refusal t.world turn ≡ None
       → TellsIf (IsFaithfulRun t r × IsWellFormedRun (after_turn t turn) × IsHonest (after_turn t turn).events) t turn (after_turn t turn)
   reached_open_tells turn e =
-      let w = t.world in
+      let world = t.world in
       let new = after_turn t turn in
       let faithful : Bool = is_faithful r.turns first in
-      let few : Bool = nat_lt w.turns (2 ^ 64 - 2) in
-      let on = terms (faithful && few) w.coding w.capacity in
-      let are_few : (faithful && few) ≡ true → w.turns < 2 ^ 64 - 2 = λ keeps. few_is w.turns (both_true faithful few keeps).1 in
-      let s = reached_sound (faithful && few) (λ keeps. (both_true faithful few keeps).0) are_few in
-      tells_if shown on w.coding t s (record { room = tt; few = are_few }) turn (allowed_open w turn e)
+      let few : Bool = nat_lt world.turns (2 ^ 64 - 2) in
+      let on = terms (faithful && few) world.coding world.capacity in
+      let are_few : (faithful && few) ≡ true → world.turns < 2 ^ 64 - 2 = λ keeps. few_is world.turns (both_true faithful few keeps).1 in
+      let sound_there = reached_sound (faithful && few) (λ keeps. (both_true faithful few keeps).0) are_few in
+      tells_if shown on world.coding t sound_there (record { room = tt; few = are_few }) turn (allowed_open world turn e)
       (IsFaithfulRun t r × IsWellFormedRun new × IsHonest new.events)
-      (λ run. well_formed_on on new (and_true faithful few run.0.faithful (is_few w.turns run.0.few)) run.2 run.1)
+      (λ run. well_formed_on on new (and_true faithful few run.0.faithful (is_few world.turns run.0.few)) run.2 run.1)
 
   -- where the turn is faithful too, the run with it is honest
   pub reached_turn_honest : (turn : Turn T) → open_refusal t.world turn ≡ None → IsFaithful t r → steps_for_gone t turn ≡ false
       → IsHonest (after_turn t turn).events
   reached_turn_honest turn e faithful steps =
-      let w = t.world in
-      let s = reached_open_sound in
-      turn_honest any w.coding w.capacity t s (reached_open_honest faithful) turn e steps
-      (open_turn_sound false w.coding w.capacity t s (λ keeps. absurd (cc)) turn e (λ keeps. absurd (cc)))
+      let world = t.world in
+      let sound_there = reached_open_sound in
+      turn_honest any world.coding world.capacity t sound_there (reached_open_honest faithful) turn e steps
+      (open_turn_sound false world.coding world.capacity t sound_there (λ keeps. absurd (cc)) turn e (λ keeps. absurd (cc)))

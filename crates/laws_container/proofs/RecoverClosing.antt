@@ -144,16 +144,16 @@ module _ {T : Type 0} (recovery : Recovery T) where
     -- the step in which a recovery counts the change ends it
     end_step : StepOf scene (Recover owner mode) (recover_at c owner mode room (recovers.AddsChange state))
     end_step =
-        let y = party_then scene (Recover owner mode) end_it false (Done (answers.State state)) in
-        let es = Finished p (Container (Recover owner mode)) (answers.State state) ∷ [] in
-        let well_formed = was_well_formed scene (Recover owner mode) tt here.span (words_after ws end_it) y es (refl, tt) in
+        let party_after = party_then scene (Recover owner mode) end_it false (Done (answers.State state)) in
+        let written = Finished p (Container (Recover owner mode)) (answers.State state) ∷ [] in
+        let well_formed = was_well_formed scene (Recover owner mode) tt here.span (words_after ws end_it) party_after written (refl, tt) in
         let new = adds_to_change scene inv in
         let most = most_is c z owner (backs_then scene false) T mode in
         ends scene (Recover owner mode) (answers.State state) end_it false scene.states [] here.span none_lengthens
         (ends_counted scene inv (Recover owner mode)
-        (recover_at c owner mode room (recovers.AddsChange state)) tt here y (words_after ws end_it)
+        (recover_at c owner mode room (recovers.AddsChange state)) tt here party_after (words_after ws end_it)
         (answers.State state)
-        (set_effects.quietly (of_set scene) (inv_of_set scene inv) (words_after ws end_it) es
+        (set_effects.quietly (of_set scene) (inv_of_set scene inv) (words_after ws end_it) written
         (leaves_behind (of_set scene) (inv_of_set scene inv) (words_after ws end_it) (change_word c) _ (omega arith) new)
         (quiet_end p (Container (Recover owner mode)) (answers.State state) (λ i o. refl) (λ i r. refl))
         (refl, tt) (tt, tt) (tt, tt))
@@ -172,8 +172,7 @@ module _ {T : Type 0} (recovery : Recovery T) where
       → steps ≤ recover_number c z mode stage backs
       → StepOf scene (Recover owner mode) (recover_at c owner mode room stage)
 
-  -- any step of a recovery that stands at a stage, and knows what the stage tells, shows what
-  -- it has to
+  -- any step of a recovery that stands at a stage, and knows what the stage tells, shows what it has to
   pub recover_step : (room : buffers.Buffer 128) (stage : RecoverStage) → Moves room stage
   recover_step room recovers.LoadsCounter at here k s = counter_step recovery room here k.0 at k.1 s
   recover_step room (recovers.LoadsCell index) at here k s = cell_step recovery room index here k.0 at k.1 s k.2

@@ -167,8 +167,7 @@ module _ {T : Type 0} (recovery : Recovery T) where
           index owner set_does (was_well_formed scene (Recover owner mode) tt here.span (words_after ws empty_it) y freeing (refl, tt)) (λ was. owe)
           (subst (FreedBy scene.terms.by p index owner events) (sym here.span) (refl, k.1.dead, was_known))
 
-      -- once the cell is empty the recovery has come past the index, and what stood there under
-      -- the number still stands
+      -- once the cell is empty the recovery has come past the index, and what stood there under the number still stands
       recs_freed : (y : Party T)
           → Recovers code c owner (index + 1) none
           (StillStands code c index count (after scene (words_after ws empty_it) y freeing))
@@ -191,12 +190,12 @@ module _ {T : Type 0} (recovery : Recovery T) where
       -- nothing stands there under an even number
       recs_empty : is_even count ≡ true → (y : Party T) → owes (flight_of (Some y.doing)) ≡ true
           → Recovers code c owner (index + 1) none none (then_sees scene empty_it false scene.states y freeing)
-      recs_empty is_even_true y owe =
+      recs_empty even y owe =
           rehidden code c owner (index + 1) none
           (StillStands code c index count (after scene (words_after ws empty_it) y freeing)) none
           (then_sees scene empty_it false scene.states y freeing) (recs_freed y)
           (hidden_even code c p owner index count (after scene (words_after ws empty_it) y freeing)
-          (does y owe).changes.whole stands.0.within (even_is count is_even_true) (recs_freed y).hidden)
+          (does y owe).changes.whole stands.0.within (even_is count even) (recs_freed y).hidden)
 
       -- once the cell is empty, what a call that may lock has to show of each index that it has
       -- freed is shown of all but this one
@@ -219,39 +218,37 @@ module _ {T : Type 0} (recovery : Recovery T) where
           (⊎_elim (λ yes. inl yes.1) (λ shown. inr (has_latest (Sees index) (done scene) shown)) stands.1)))
           (was_one (Frees j owner) (Frees index owner) (all scene) was))
 
-      -- the exchange that finds the owner leads on, to the hiding if the number is odd and else
-      -- to the counter
+      -- the exchange that finds the owner leads on, to the hiding if the number is odd and else to the counter
       empties : (b : Bool) → is_even count ≡ b
           → Leads scene (Recover owner mode) empty_it false scene.states freeing (as_recover recovery room
           (if b then recover_raises (first recovery) index else GoOn (record (first recovery) { stage = recovers.Hides index count })))
       empties true t =
-          let y = then_at recovery room (recovers.EmptiesCell index count) here room (recovers.Raises index raises.LoadsCounter) empty_it false in
+          let party_after = then_at recovery room (recovers.EmptiesCell index count) here room (recovers.Raises index raises.LoadsCounter) empty_it false in
           go_on recovery room (recovers.EmptiesCell index count) here room (recovers.Raises index raises.LoadsCounter) empty_it false freeing
-          (λ start w. refl) (does y refl)
+          (λ start w. refl) (does party_after refl)
           ((refl, ⊎_elim (λ yes. inl yes.0) (λ shown. inr shown) stands.1), tt) (omega arith)
           (course_freed, record { index = index; owner = owner; latest = record { before = all scene; is = refl } })
-          (long, (paid_now, recs_empty t y refl), fills_freed y)
+          (long, (paid_now, recs_empty t party_after refl), fills_freed party_after)
       empties false t =
-          let y = then_at recovery room (recovers.EmptiesCell index count) here room (recovers.Hides index count) empty_it false in
+          let party_after = then_at recovery room (recovers.EmptiesCell index count) here room (recovers.Hides index count) empty_it false in
           go_on recovery room (recovers.EmptiesCell index count) here room
-          (recovers.Hides index count) empty_it false freeing (λ start w. refl) (does y refl)
+          (recovers.Hides index count) empty_it false freeing (λ start w. refl) (does party_after refl)
           ((refl, ⊎_elim (λ yes. inl yes.0) (λ shown. inr shown) stands.1), tt) (omega arith)
           (course_freed, odd_is count t, record { before = all scene; is = refl }) (
             long,
             (
               paid_now,
-              recs_freed y,
+              recs_freed party_after,
               record {
                 within = stands.0.within;
                 below = λ kept. let low = k.3 kept in let same = stays_count in omega arith;
                 left = λ well_formed eq. fold-append (left_after index) true events freeing ∙ at_same index index true (left_of index events) refl;
               },
             ),
-            fills_freed y,
+            fills_freed party_after,
           )
 
-    -- the step in which a recovery empties the cell shows what it has to, whether it finds the
-    -- owner or another
+    -- the step in which a recovery empties the cell shows what it has to, whether it finds the owner or another
     pub empties_step : StepOf scene (Recover owner mode) (recover_at c owner mode room (recovers.EmptiesCell index count))
     empties_step =
         on_bool (λ b. Leads scene (Recover owner mode) (Some (exchanges (cell_word index) owner empty)) false scene.states
@@ -261,7 +258,7 @@ module _ {T : Type 0} (recovery : Recovery T) where
         (record (first recovery) { stage = recovers.Hides index count }))
         else recover_comes_to (first recovery) (index + 1))))
         (cell ws index == owner)
-        (λ t. let is : cell ws index ≡ owner = grind (arith, nat_tests) in empties is (is_even count) refl)
+        (λ t. let has_owner : cell ws index ≡ owner = grind (arith, nat_tests) in empties has_owner (is_even count) refl)
         (λ t. let other : cell ws index ≢ owner = grind (arith, nat_tests) in misses other)
 
   -- ---- what stands there is hidden
@@ -298,16 +295,16 @@ module _ {T : Type 0} (recovery : Recovery T) where
         (as_recover recovery room (recover_raises (first recovery) index)))
         (count_now == count)
         (λ t.
-        let is : count_now ≡ count = grind (arith, nat_tests) in
-        let y = then_at recovery room (recovers.Hides index count) here room next hide_it false in
-        let odd : count_now % 2 ≡ 1 = ap (λ n. n % 2) is ∙ stands.1 in
+        let same_count : count_now ≡ count = grind (arith, nat_tests) in
+        let party_after = then_at recovery room (recovers.Hides index count) here room next hide_it false in
+        let odd : count_now % 2 ≡ 1 = ap (λ n. n % 2) same_count ∙ stands.1 in
         let does =
         hides scene inv (Recover owner mode)
-        (recover_at c owner mode room (recovers.Hides index count)) tt here y
-        (words_after ws hide_it) index stands.0.within (hides_count scene inv index count stands.0.within is)
+        (recover_at c owner mode room (recovers.Hides index count)) tt here party_after
+        (words_after ws hide_it) index stands.0.within (hides_count scene inv index count stands.0.within same_count)
         refl odd
-        (λ holds q ne o theirs fresh. both_ways (left_of index events) fresh (k.2.left holds is))
-        (was_well_formed scene (Recover owner mode) tt here.span (words_after ws hide_it) y hiding (refl, tt)) in
+        (λ holds q ne o theirs fresh. both_ways (left_of index events) fresh (k.2.left holds same_count))
+        (was_well_formed scene (Recover owner mode) tt here.span (words_after ws hide_it) party_after hiding (refl, tt)) in
         go_on recovery room (recovers.Hides index count) here room next hide_it
         false hiding (λ start w. refl) does (stands.2, tt) (omega arith) (
           course_then c z (all scene) [] (done scene) (acts hiding) owner index (index + 1) index (index + 1)
@@ -318,17 +315,17 @@ module _ {T : Type 0} (recovery : Recovery T) where
           long,
           (
             paid_hide,
-            recs recovery room (recovers.Hides index count) here hide_it false y
+            recs recovery room (recovers.Hides index count) here hide_it false party_after
                 hiding (refl, tt) tt (λ start w. refl) does.set.goes (index + 1) (index + 1) none none none
                 (StillStands code c index count (before scene)) none k.1 (asked_on recovery room (recovers.Hides index count) here hide_it
-                false y hiding (refl, tt) tt (λ start w. refl) does.set.goes (index + 1) k.1.asked)
+                false party_after hiding (refl, tt) tt (λ start w. refl) does.set.goes (index + 1) k.1.asked)
                 (λ i said. inl (⊎_elim (λ yes. inl (one_of_none (Yes i owner) (all scene) yes))
                 (λ seen. ⊎_elim (λ had. inr had) (λ e. absurd (cc)) (was_act (Sees i) (HidesOne index) (done scene) seen))
                 said))
                 (λ i e. absurd e) (λ i e. absurd e)
-                (hides_it scene (Recover owner mode) tt here.span owner (words_after ws hide_it) y index count k.1.hidden),
+                (hides_it scene (Recover owner mode) tt here.span owner (words_after ws hide_it) party_after index count k.1.hidden),
           ),
-          fills_on recovery room (recovers.Hides index count) here hide_it false y
+          fills_on recovery room (recovers.Hides index count) here hide_it false party_after
               hiding (refl, tt) tt (λ start w. refl) does.set.goes (λ i. i ≡ index) (λ i. i ≡ index)
               (λ i was. inl (one_of_none (Frees i owner) (all scene) was)) (λ i e. e) f,
         ))

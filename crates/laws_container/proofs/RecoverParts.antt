@@ -94,8 +94,7 @@ module _ {T : Type 0} (recovery : Recovery T) where
 
     -- ---- what a step does
 
-    -- a step that leaves the words, and writes events that change nothing, keeps what holds of
-    -- the machine
+    -- a step that leaves the words, and writes events that change nothing, keeps what holds of the machine
     pub reads_does : (words' : List ℕ) → words' ≡ ws → (y : Party T) (es : List (Event T))
         → AllByRecursion Silent es → AreOwn p es → AreAllRight scene words' y es
         → owes (flight_of (Some y.doing)) ≡ true → Does scene words' scene.states y es
@@ -145,13 +144,13 @@ module _ {T : Type 0} (recovery : Recovery T) where
           → ((i : ℕ) → New i → (filled_of i (events ++ es) ≢ Some owner) ⊎ Now i)
           → HasHidden code c p owner But' (after scene (words_after ws ask) y es)
           → Recovers code c owner k' Now But' (then_sees scene ask back scene.states y es)
-      recs k k' Was Now New But But' recovers_holds asked told was new hidden =
+      recs k k' Was Now New But But' recovers_so_far asked told was new hidden =
           knowing.recovers_then code c owner (sees_now scene) (words_after ws ask) scene.states (put p y latest)
           (since_then scene ask) (changes_then scene ask) (backs_then scene back) es fresh
           (set_acts_more scene start here.span es own longer) (acts_more scene start here.span es own longer) goes
-          k k' Was Now New But But' recovers_holds asked told was new hidden
+          k k' Was Now New But But' recovers_so_far asked told was new hidden
 
-      -- of its locks
+      -- its locks still know what was filled after each index that it freed
       pub fills_on : (Was But : ℕ → Type 0)
           → ((i : ℕ) → IsOneOf (Frees i owner) (set_acts_of p events ++ set_acts es) → IsOneOf (Frees i owner) (set_acts_of p events) ⊎ But i)
           → ((i : ℕ) → Was i → But i) → FilledBut (IsWorn scene.terms.by ws) mode p owner Was events
@@ -168,8 +167,7 @@ module _ {T : Type 0} (recovery : Recovery T) where
           (since_then scene ask) (changes_then scene ask) (backs_then scene back) es fresh
           (set_acts_more scene start here.span es own longer) (acts_more scene start here.span es own longer) goes k asked_below
 
-      -- a recovery has come to one index more, if it need not free it, or has asked about it,
-      -- or was shown it
+      -- a recovery has come to one index more, if it need not free it, or has asked about it, or was shown it
       pub asked_more : (k : ℕ) → AskedBelow code c owner k (sees_now scene)
           → (HeldThroughout p (StillToFree p owner k) (events ++ es)
           → IsOneOf (Asks k owner) (set_acts_of p (events ++ es)) ⊎ WasShown p k (events ++ es))
@@ -180,7 +178,7 @@ module _ {T : Type 0} (recovery : Recovery T) where
           (set_acts_more scene start here.span es own longer) (acts_more scene start here.span es own longer) goes k asked_below
           now
 
-    -- by events that tell and show nothing
+    -- events that tell and show nothing add no index that it was told to free or was shown
     pub told_none : (i : ℕ) → IsOneOf (Yes i owner) (set_acts_of p events ++ []) ⊎ IsOneOf (Sees i) (acts_of p events ++ [])
         → (IsOneOf (Yes i owner) (set_acts_of p events) ⊎ WasShown p i events) ⊎ none i
     told_none = grind (arith, inl, one_of_none, inr, has_of_none)
@@ -203,8 +201,7 @@ module _ {T : Type 0} (recovery : Recovery T) where
         (paid : backs_then scene back + since_then scene ask ≤ changes_then scene ask)
         (rec : (y : Party T) → Recovers code c owner (index + 1) none none (then_sees scene ask back scene.states y es))
         (fill : FilledBut (IsWorn scene.terms.by (words_after ws ask)) mode p owner NoIndex (events ++ es)) where
-      -- a recovery that has come past an index goes on to the next one, or to the counter
-      -- behind the last
+      -- a recovery that has come past an index goes on to the next one, or to the counter behind the last
       pub comes_to_next : ShowsThen scene start ask back scene.states es (as_recover room (recover_comes_to first (index + 1)))
       comes_to_next =
           on_bool (λ b. ShowsThen scene start ask back scene.states es
@@ -212,17 +209,17 @@ module _ {T : Type 0} (recovery : Recovery T) where
           (nat_lt (index + 1) c)
           (λ t.
           let more : index + 1 < c = grind (arith, nat_tests) in
-          let y = then_at room (recovers.LoadsCell (index + 1)) ask back in
-          go_on room (recovers.LoadsCell (index + 1)) ask back es longer (does y refl) stands few
-          (course (index + 1) more) (long, (paid, rec y), fill))
+          let party_after = then_at room (recovers.LoadsCell (index + 1)) ask back in
+          go_on room (recovers.LoadsCell (index + 1)) ask back es longer (does party_after refl) stands few
+          (course (index + 1) more) (long, (paid, rec party_after), fill))
           (λ t.
           let last : c ≤ index + 1 = grind (arith, nat_tests) in
-          let is : index + 1 ≡ c = omega arith in
-          let times : (index + 1) * for_index c z mode ≡ c * for_index c z mode = ap (λ n. n * for_index c z mode) is in
-          let y = then_at room recovers.LoadsCounterAgain ask back in
-          go_on room recovers.LoadsCounterAgain ask back es longer (does y refl) stands
+          let is_last : index + 1 ≡ c = omega arith in
+          let times : (index + 1) * for_index c z mode ≡ c * for_index c z mode = ap (λ n. n * for_index c z mode) is_last in
+          let party_after = then_at room recovers.LoadsCounterAgain ask back in
+          go_on room recovers.LoadsCounterAgain ask back es longer (does party_after refl) stands
           (omega arith) ((course index below).freed) (
             long,
-            (paid, subst (λ n. Recovers code c owner n none none (then_sees scene ask back scene.states y es)) is (rec y)),
+            (paid, subst (λ n. Recovers code c owner n none none (then_sees scene ask back scene.states party_after es)) is_last (rec party_after)),
             fill,
           ))

@@ -37,8 +37,8 @@ use Rattle.laws_container.proofs.Writing.{even_is, odd_is}
 use Rattle.laws_robust.proofs.Cases.{on_bool}
 
 pub none_is : {T : Type 0} (o : Option T) → is_some o ≡ false → o ≡ None
-none_is None is_some_false = refl
-none_is (Some x) is_some_false = absurd (cc)
+none_is None nothing = refl
+none_is (Some x) nothing = absurd (cc)
 
 pub back_at_least : (c z : ℕ) (mode : ReleaseMode) → z + 1 ≤ for_back c z mode
 back_at_least c z Default = omega arith
@@ -75,11 +75,11 @@ module _ {T : Type 0} (recovery : Recovery T) where
   right_none : (words' : List ℕ) (y : Party T) → AreAllRight scene words' y []
   right_none = grind arith
 
-  -- its course, over a step that writes nothing
+  -- a recovery keeps its course over a step that writes nothing
   pub course_calm : (index bound index' bound' : ℕ) → Course index bound → index' < c → bound ≤ bound'
       → IsInCourse c z (all scene ++ []) (done scene ++ []) owner index' bound'
-  course_calm index bound index' bound' course_holds low more =
-      course_then c z (all scene) [] (done scene) [] owner index bound index' bound' course_holds low more tt tt
+  course_calm index bound index' bound' on_course low more =
+      course_then c z (all scene) [] (done scene) [] owner index bound index' bound' on_course low more tt tt
       (λ j was. inl (one_of_none (Frees j owner) (all scene) was))
 
   -- ---- any step that changes and writes nothing
@@ -90,26 +90,24 @@ module _ {T : Type 0} (recovery : Recovery T) where
     -- what it knows of what it has lost and asked about
     pub calm_recs : (y : Party T) (k : ℕ) → Recovers code c owner k none none (sees_now scene)
         → Recovers code c owner k none none (then_sees scene ask back scene.states y [])
-    calm_recs y k recovers_holds =
+    calm_recs y k recovers_so_far =
         let goes = (silent_set scene inv (words_after ws ask) same y [] tt tt).goes in
         recs recovery room stage here ask back y [] tt tt none_lengthens goes k k none none none
-        none none recovers_holds (asked_on recovery room stage here ask back y [] tt tt none_lengthens goes k recovers_holds.asked)
-        (told_none recovery room stage here) (λ i e. absurd e) (λ i e. absurd e) (hidden_still recovery room stage here ask y recovers_holds.hidden)
+        none none recovers_so_far (asked_on recovery room stage here ask back y [] tt tt none_lengthens goes k recovers_so_far.asked)
+        (told_none recovery room stage here) (λ i e. absurd e) (λ i e. absurd e) (hidden_still recovery room stage here ask y recovers_so_far.hidden)
 
-    -- a recovery that has asked about an index, or was shown it, or need not free it, has come
-    -- past it
+    -- a recovery that has asked about an index, or was shown it, or need not free it, has come past it
     calm_recs_more : (y : Party T) (k : ℕ) → Recovers code c owner k none none (sees_now scene)
         → (HeldThroughout p (StillToFree p owner k) (events ++ [])
         → IsOneOf (Asks k owner) (set_acts_of p (events ++ [])) ⊎ WasShown p k (events ++ []))
         → Recovers code c owner (k + 1) none none (then_sees scene ask back scene.states y [])
-    calm_recs_more y k recovers_holds now =
+    calm_recs_more y k recovers_so_far now =
         let goes = (silent_set scene inv (words_after ws ask) same y [] tt tt).goes in
         recs recovery room stage here ask back y [] tt tt none_lengthens goes k (k + 1) none none
-        none none none recovers_holds (asked_more recovery room stage here ask back y [] tt tt none_lengthens goes k recovers_holds.asked now)
-        (told_none recovery room stage here) (λ i e. absurd e) (λ i e. absurd e) (hidden_still recovery room stage here ask y recovers_holds.hidden)
+        none none none recovers_so_far (asked_more recovery room stage here ask back y [] tt tt none_lengthens goes k recovers_so_far.asked now)
+        (told_none recovery room stage here) (λ i e. absurd e) (λ i e. absurd e) (hidden_still recovery room stage here ask y recovers_so_far.hidden)
 
-    -- a recovery goes on from a step that changes and writes nothing, where the next stage's
-    -- conditions hold
+    -- a recovery goes on from a step that changes and writes nothing, where the next stage's conditions hold
     pub calm_on : (room' : buffers.Buffer 128) (next : RecoverStage)
         → steps + step_count ask ≤ recover_number c z mode next (backs_then scene back)
         → RecoverAt c z (all scene ++ []) (done scene ++ []) owner mode next
@@ -117,13 +115,12 @@ module _ {T : Type 0} (recovery : Recovery T) where
         (then_sees scene ask back scene.states (then_at recovery room stage here room' next ask back) [])
         → Goes ask back [] room' next
     calm_on room' next few at known =
-        let y = then_at recovery room stage here room' next ask back in
-        go_on recovery room stage here room' next ask back [] none_lengthens (reads_does recovery room stage here (words_after ws ask) same y [] tt tt
-        (right_none (words_after ws ask) y) refl)
+        let party_after = then_at recovery room stage here room' next ask back in
+        go_on recovery room stage here room' next ask back [] none_lengthens (reads_does recovery room stage here (words_after ws ask) same party_after [] tt tt
+        (right_none (words_after ws ask) party_after) refl)
         tt few at known
 
-    -- a step that changes and writes nothing brings a recovery to the next index, or to its
-    -- last steps
+    -- a step that changes and writes nothing brings a recovery to the next index, or to its last steps
     pub calm_next : (index : ℕ)
         → steps + step_count ask ≤ 1 + (index + 1) * for_index c z mode + backs_then scene back * for_back c z mode
         → Course index index ⊎ Course index (index + 1)
@@ -150,8 +147,7 @@ module _ {T : Type 0} (recovery : Recovery T) where
     nothing_freed : HasHidden code c p owner none (before scene)
     nothing_freed holds i was = absurd (no_more was.before (Frees i owner) was.after (sym at.0 ∙ was.is))
 
-    -- the step in which a recovery loads the counter leads on: it ends locked, or goes to the
-    -- first index
+    -- the step in which a recovery loads the counter leads on: it ends locked, or goes to the first index
     pub counter_step : StepOf scene (Recover owner mode) (recover_at c owner mode room recovers.LoadsCounter)
     counter_step =
         on_bool (λ b. Leads scene (Recover owner mode) (Some (set_stages.loads 0)) false scene.states []
@@ -178,15 +174,14 @@ module _ {T : Type 0} (recovery : Recovery T) where
         paid_on : backs_then scene false + since_then scene (Some (set_stages.loads 0)) ≤ changes_then scene (Some (set_stages.loads 0))
         paid_on = let paid = k.0 in omega arith
 
-        -- with an unlocked counter the recovery goes to the first index, or to its last steps
-        -- if there is none
+        -- with an unlocked counter the recovery goes to the first index, or to its last steps if there is none
         next : counter_of ws ≢ locked → (b : Bool) → nat_lt 0 c ≡ b
             → Becomes (Some (set_stages.loads 0)) false [] room (GoOn (record (first recovery) {
               stage = if b then recovers.LoadsCell 0 else recovers.LoadsCounterAgain;
             }))
         next open_now true t =
             let some = inv.good.some in
-            let y = then_at recovery room recovers.LoadsCounter here room (recovers.LoadsCell 0) load_counter false in
+            let party_after = then_at recovery room recovers.LoadsCounter here room (recovers.LoadsCell 0) load_counter false in
             let now : Recovers code c owner 0 none none (sees_now scene) =
             record {
               dead = k.1;
@@ -204,7 +199,7 @@ module _ {T : Type 0} (recovery : Recovery T) where
               freed = λ i was. let h = one_of_none (Frees i owner) (all scene) was in absurd (no_more h.before (Frees i owner) h.after (sym at.0 ∙ h.is));
             }) (
               long,
-              (paid_on, calm_recs room recovers.LoadsCounter here long load_counter (loads_same ws 0) false paid_on y 0 now),
+              (paid_on, calm_recs room recovers.LoadsCounter here long load_counter (loads_same ws 0) false paid_on party_after 0 now),
               fill_same recovery load_counter (loads_same ws 0) NoIndex (filled_none p owner (IsWorn scene.terms.by ws) mode NoIndex events at.0),
             )
         next open_now false t = let some = inv.good.some in let nothing : c ≤ 0 = grind (arith, nat_tests) in absurd (omega arith)
@@ -236,7 +231,7 @@ module _ {T : Type 0} (recovery : Recovery T) where
         (first recovery) (index + 1))))
         (cell ws index == owner)
         (λ t.
-        let is : cell ws index ≡ owner = grind (arith, nat_tests) in
+        let has_owner : cell ws index ≡ owner = grind (arith, nat_tests) in
         let y = then_at recovery room (recovers.LoadsCell index) here room (recovers.LoadsCount index) load_cell false in
         calm_on room (recovers.LoadsCell index) here long load_cell
         (loads_same ws (cell_word index)) false paid_cell room (recovers.LoadsCount index)
@@ -247,7 +242,7 @@ module _ {T : Type 0} (recovery : Recovery T) where
             calm_recs room (recovers.LoadsCell index) here long load_cell (loads_same ws (cell_word index)) false paid_cell y index k.1,
             held_later p (IsFilledWith owner index) events [] tt
                 (held_now p (IsFilledWith owner index) events
-                (filled_by (of_set scene) (inv_of_set scene inv) index course.within owner fits is)),
+                (filled_by (of_set scene) (inv_of_set scene inv) index course.within owner fits has_owner)),
           ),
           fill_same recovery load_cell (loads_same ws (cell_word index)) NoIndex f,
         ))
@@ -281,17 +276,17 @@ module _ {T : Type 0} (recovery : Recovery T) where
     -- nothing stands there
     is_shown : is_even number ≡ true → Goes ask back showing room (recovers.EmptiesCell index number)
     is_shown even =
-        let y = then_at recovery room stage here room (recovers.EmptiesCell index number) ask back in
-        let goes = (silent_set scene inv (words_after ws ask) same y showing (tt, tt) (refl, tt)).goes in
+        let party_after = then_at recovery room stage here room (recovers.EmptiesCell index number) ask back in
+        let goes = (silent_set scene inv (words_after ws ask) same party_after showing (tt, tt) (refl, tt)).goes in
         let acts_then : acts_of p (events ++ showing) ≡ done scene ++ Sees index ∷ [] =
         acts_more scene (Recover owner mode) here.span showing (refl, tt) (λ start w. refl) in
         go_on recovery room stage here room (recovers.EmptiesCell index number) ask back showing (λ start w. refl)
-        (reads_does recovery room stage here (words_after ws ask) same y showing (tt, tt) (refl, tt) (record {
+        (reads_does recovery room stage here (words_after ws ask) same party_after showing (tt, tt) (refl, tt) (record {
           asks = (tt, tt);
           recovers = (tt, tt);
           answers = (tt, tt);
           contains = λ holds.
-              let holds_before = was_well_formed scene (Recover owner mode) tt here.span (words_after ws ask) y showing (refl, tt) holds in (
+              let holds_before = was_well_formed scene (Recover owner mode) tt here.span (words_after ws ask) party_after showing (refl, tt) holds in (
                 none_is (contents_of index events)
                     (nothing_stands code c ws index (contents_of index events)
                     (inv.elements.whole holds_before index course.within) (even_is number even)),
@@ -309,22 +304,22 @@ module _ {T : Type 0} (recovery : Recovery T) where
           long,
           (
             paid,
-            recs recovery room stage here ask back y showing (refl, tt) tt (λ start w. refl) goes
+            recs recovery room stage here ask back party_after showing (refl, tt) tt (λ start w. refl) goes
                 index (index + 1) none (λ i. i ≡ index) (λ i. i ≡ index) none none rec
-                (asked_more recovery room stage here ask back y showing (refl, tt) tt (λ start w. refl) goes index rec.asked
+                (asked_more recovery room stage here ask back party_after showing (refl, tt) tt (λ start w. refl) goes index rec.asked
                 (λ through. inr (subst (IsOneOf (Sees index)) (sym acts_then) (has_last (Sees index) (done scene)))))
                 (λ i said. ⊎_elim (λ yes. inl (inl (one_of_none (Yes i owner) (all scene) yes)))
                 (λ seen. ⊎_elim (λ had. inl (inr had)) (λ e. let is : index ≡ i = cc in inr (sym is))
                 (was_act (Sees i) (Sees index) (done scene) seen))
                 said)
                 (λ i e. absurd e) (λ i e. inr e)
-                (hidden_on scene (Recover owner mode) tt here.span owner (words_after ws ask) y showing (refl, tt)
+                (hidden_on scene (Recover owner mode) tt here.span owner (words_after ws ask) party_after showing (refl, tt)
                 tt (λ start w. refl) (λ i was. one_of_none (Frees i owner) (all scene) was) rec.hidden),
             course.within,
-            λ kept. let eq = same_number in omega arith,
+            λ kept. omega (arith, same_number),
             λ holds filled. inl same_number,
           ),
-          fills_on recovery room stage here ask back y showing (refl, tt) tt (λ start w. refl) goes
+          fills_on recovery room stage here ask back party_after showing (refl, tt) tt (λ start w. refl) goes
               NoIndex NoIndex (λ i was. inl (one_of_none (Frees i owner) (all scene) was)) (λ i e. e) f,
         )
 
@@ -332,23 +327,23 @@ module _ {T : Type 0} (recovery : Recovery T) where
     is_copied : is_even number ≡ false → Goes ask back [] room (recovers.LoadsWord index number 0)
     is_copied odd =
         let some = inv.elements.coded.some in
-        let y = then_at recovery room stage here room (recovers.LoadsWord index number 0) ask back in
+        let party_after = then_at recovery room stage here room (recovers.LoadsWord index number 0) ask back in
         calm_on room stage here long ask same back paid room (recovers.LoadsWord index number 0)
         (omega arith)
         (course_calm index index index index course course.within (omega arith), odd_is number odd, omega arith) (
           long,
           (
             inl (same_number, paid),
-            calm_recs room stage here long ask same back paid y index rec,
+            calm_recs room stage here long ask same back paid party_after index rec,
             held_later p (IsFilledWith owner index) events [] tt filled,
-            copying_first code c (then_sees scene ask back scene.states y []) index number room.words course.within
-                long (odd_is number odd) (λ kept. let eq = same_number in omega arith),
+            copying_first code c (then_sees scene ask back scene.states party_after []) index number room.words course.within
+                long (odd_is number odd) (λ kept. omega (arith, same_number)),
             λ holds filled. inl same_number,
           ),
           fill_same recovery ask same NoIndex f,
         )
 
-    -- its step, by the number
+    -- the step in which it loads the number of an element leads on by whether that is even
     pub sees_number : Leads scene (Recover owner mode) ask back scene.states
         ((if is_even number then Shown p index ∷ [] else []) ++ []) (as_recover recovery room (recover_sees (first recovery) index number))
     sees_number = grind (arith, is_shown, is_copied)

@@ -95,21 +95,20 @@ module _ {T : Type 0} (recovery : Recovery T) where
         × RecoverCovers code c owner index count
         (after scene (words_after ws load_word) (then_at recovery room (recovers.LoadsWord index count at) here room' next load_word false) [])
     knows_word next n is =
-        let y = then_at recovery room (recovers.LoadsWord index count at) here room' next load_word false in
-        let v' = then_sees scene load_word false scene.states y [] in (
+        let party_after = then_at recovery room (recovers.LoadsWord index count at) here room' next load_word false in
+        let v' = then_sees scene load_word false scene.states party_after [] in (
           ⊎_elim (λ h. let paid = h.1 in inl (ap (λ w. count_at c w index) same_words ∙ h.0, omega arith)) (λ h. inr (omega arith)) k.0,
-          (calm_recs recovery) room (recovers.LoadsWord index count at) here long load_word same_words false paid_word y index k.1,
+          (calm_recs recovery) room (recovers.LoadsWord index count at) here long load_word same_words false paid_word party_after index k.1,
           held_later p (IsFilledWith owner index) events [] tt k.2,
           subst (λ m. Copying code c index count room'.words m v') (sym is)
               (copying_more code c (sees_now scene) v' index count room.words at stands.2 inv.elements.coded.few
               same_words (λ kept. kept)
-              (was_well_formed scene (Recover owner mode) tt here.span (words_after ws load_word) y [] tt) k.3),
-          covers_on scene (Recover owner mode) tt here.span owner (words_after ws load_word) y [] tt index count
+              (was_well_formed scene (Recover owner mode) tt here.span (words_after ws load_word) party_after [] tt) k.3),
+          covers_on scene (Recover owner mode) tt here.span owner (words_after ws load_word) party_after [] tt index count
               (ap (λ w. count_at c w index) same_words) (fold-append (filled_after index) None events []) k.4,
         )
 
-    -- the step in which a recovery loads a word leads on, to the next word or to the check of
-    -- the number
+    -- the step in which a recovery loads a word leads on, to the next word or to the check of the number
     pub word_step : StepOf scene (Recover owner mode) (recover_at c owner mode room (recovers.LoadsWord index count at))
     word_step =
         on_bool (λ b. Leads scene (Recover owner mode) (Some (set_stages.loads (element_word c z index at))) false
@@ -169,8 +168,8 @@ module _ {T : Type 0} (recovery : Recovery T) where
         let same : words_after ws check_it ≡ ws =
         exchange_sets ws (count_word c index) count count is
         ∙ (ap (set ws (count_word c index)) (sym is) ∙ set-get_or ws (count_word c index) 0) in
-        let y = then_at recovery room (recovers.ChecksCount index count) here room (recovers.Asks index count) check_it false in
-        let goes = (silent_set scene inv (words_after ws check_it) same y asking (tt, (tt, tt)) (refl, (refl, tt))).goes in
+        let party_after = then_at recovery room (recovers.ChecksCount index count) here room (recovers.Asks index count) check_it false in
+        let goes = (silent_set scene inv (words_after ws check_it) same party_after asking (tt, (tt, tt)) (refl, (refl, tt))).goes in
         let set_acts_then : set_acts_of p (events ++ asking) ≡ all scene ++ Asks index owner ∷ [] =
         set_acts_more scene (Recover owner mode) here.span asking (refl, (refl, tt)) asking_longer in
         let acts_then : acts_of p (events ++ asking) ≡ done scene ++ Copies index value ∷ [] =
@@ -180,7 +179,7 @@ module _ {T : Type 0} (recovery : Recovery T) where
         let copy_set_acts : set_acts (wrote_of p events ++ Copied p index value ∷ []) ≡ all scene =
         flat_map-append set_act (wrote_of p events) (Copied p index value ∷ []) ∙ append-nil (all scene) in
         go_on recovery room (recovers.ChecksCount index count) here room (recovers.Asks index count) check_it false asking asking_longer
-        (reads_does recovery room (recovers.ChecksCount index count) here (words_after ws check_it) same y asking (tt, (tt, tt)) (refl, (refl, tt))
+        (reads_does recovery room (recovers.ChecksCount index count) here (words_after ws check_it) same party_after asking (tt, (tt, tt)) (refl, (refl, tt))
         (record {
           asks = (
             tt,
@@ -198,7 +197,7 @@ module _ {T : Type 0} (recovery : Recovery T) where
           contains =
               λ holds. (
                 copied_value code c (sees_now scene) index count room.words inv.elements.coded inv.elements.whole k.3 is
-                    (was_well_formed scene (Recover owner mode) tt here.span (words_after ws check_it) y asking (refl, (refl, tt)) holds),
+                    (was_well_formed scene (Recover owner mode) tt here.span (words_after ws check_it) party_after asking (refl, (refl, tt)) holds),
                 (tt, tt),
               );
           places = λ holds. (tt, (tt, tt));
@@ -223,29 +222,29 @@ module _ {T : Type 0} (recovery : Recovery T) where
           long,
           (
             ⊎_elim (λ h. let paid = h.1 in omega arith) (λ h. omega arith) k.0,
-            recs recovery room (recovers.ChecksCount index count) here check_it false y
+            recs recovery room (recovers.ChecksCount index count) here check_it false party_after
                 asking (refl, (refl, tt)) tt asking_longer goes index (index + 1) none none none none none k.1
                 (asked_more recovery room (recovers.ChecksCount index count) here
-                check_it false y asking (refl, (refl, tt)) tt asking_longer goes index k.1.asked
+                check_it false party_after asking (refl, (refl, tt)) tt asking_longer goes index k.1.asked
                 (λ through. inl (subst (IsOneOf (Asks index owner)) (sym set_acts_then) (last_one (Asks index owner) (all scene)))))
                 (λ i said. inl
                 (⊎_elim (λ yes. ⊎_elim (λ had. inl had) (λ e. absurd (cc)) (was_one (Yes i owner) (Asks index owner) (all scene) yes))
                 (λ seen. ⊎_elim (λ had. inr had) (λ e. absurd (cc)) (was_act (Sees i) (Copies index value) (done scene) seen))
                 said))
                 (λ i e. absurd e) (λ i e. absurd e)
-                (hidden_on scene (Recover owner mode) tt here.span owner (words_after ws check_it) y asking
+                (hidden_on scene (Recover owner mode) tt here.span owner (words_after ws check_it) party_after asking
                 (refl, (refl, tt)) tt asking_longer
                 (λ i was. ⊎_elim (λ had. had) (λ e. absurd (cc)) (was_one (Frees i owner) (Asks index owner) (all scene) was))
                 k.1.hidden),
             stands.0.within,
             λ kept. let eq = ap (λ w. count_at c w index) same in let low = k.3.below kept in omega arith,
             record { before = done scene; is = acts_then },
-            covers_on scene (Recover owner mode) tt here.span owner (words_after ws check_it) y asking
+            covers_on scene (Recover owner mode) tt here.span owner (words_after ws check_it) party_after asking
                 (refl, (refl, tt)) index count (ap (λ w. count_at c w index) same)
                 (fold-append (filled_after index) None events asking) k.4,
           ),
           fills_on recovery room (recovers.ChecksCount index count) here check_it false
-              y asking (refl, (refl, tt)) tt asking_longer goes NoIndex NoIndex
+              party_after asking (refl, (refl, tt)) tt asking_longer goes NoIndex NoIndex
               (λ i was. ⊎_elim (λ had. inl had) (λ e. absurd (cc)) (was_one (Frees i owner) (Asks index owner) (all scene) was))
               (λ i e. e) f,
         )
@@ -262,7 +261,7 @@ module _ {T : Type 0} (recovery : Recovery T) where
         (if b then GoOn (record (first recovery) { stage = recovers.Asks index count }) else recover_sees
         (first recovery) index count_now)))
         (count_now == count)
-        (λ t. let is : count_now ≡ count = grind (arith, nat_tests) in asks is)
+        (λ t. let same_count : count_now ≡ count = grind (arith, nat_tests) in asks same_count)
         (λ t.
         let other : count_now ≢ count = grind (arith, nat_tests) in
         let wide = back_at_least c z mode in
@@ -287,10 +286,10 @@ module _ {T : Type 0} (recovery : Recovery T) where
     -- a recovery that is told yes goes on to empty the cell
     says_yes : Goes None false telling room (recovers.EmptiesCell index count)
     says_yes =
-        let y = then_at recovery room (recovers.Asks index count) here room (recovers.EmptiesCell index count) None false in
-        let goes = (silent_set scene inv ws refl y telling (tt, tt) (refl, tt)).goes in
+        let party_after = then_at recovery room (recovers.Asks index count) here room (recovers.EmptiesCell index count) None false in
+        let goes = (silent_set scene inv ws refl party_after telling (tt, tt) (refl, tt)).goes in
         go_on recovery room (recovers.Asks index count) here room (recovers.EmptiesCell index count) None false telling (λ start w. refl)
-        (reads_does recovery room (recovers.Asks index count) here ws refl y telling (tt, tt) (refl, tt)
+        (reads_does recovery room (recovers.Asks index count) here ws refl party_after telling (tt, tt) (refl, tt)
         (record { asks = (k.1.dead, tt); recovers = (tt, tt); answers = (tt, tt); contains = λ holds. (tt, tt); places = λ holds. (tt, tt) }) refl)
         ((refl, stands.2), tt) (omega arith) (
           course_then c z (all scene) (Yes index owner ∷ []) (done scene) [] owner index (index + 1) index
@@ -305,24 +304,24 @@ module _ {T : Type 0} (recovery : Recovery T) where
           long,
           (
             paid_now,
-            recs recovery room (recovers.Asks index count) here None false y telling
+            recs recovery room (recovers.Asks index count) here None false party_after telling
                 (refl, tt) tt (λ start w. refl) goes (index + 1) (index + 1) none (λ i. i ≡ index) (λ i. i ≡ index) none
-                none k.1 (asked_on recovery room (recovers.Asks index count) here None false y
+                none k.1 (asked_on recovery room (recovers.Asks index count) here None false party_after
                 telling (refl, tt) tt (λ start w. refl) goes (index + 1) k.1.asked)
                 (λ i said. ⊎_elim (λ yes. ⊎_elim (λ had. inl (inl had)) (λ e. let is : index ≡ i = cc in inr (sym is))
                 (was_one (Yes i owner) (Yes index owner) (all scene) yes))
                 (λ seen. inl (inr (has_of_none (Sees i) (done scene) seen))) said)
                 (λ i e. absurd e) (λ i e. inr e)
-                (hidden_on scene (Recover owner mode) tt here.span owner ws y telling (refl, tt) tt
+                (hidden_on scene (Recover owner mode) tt here.span owner ws party_after telling (refl, tt) tt
                 (λ start w. refl)
                 (λ i was. ⊎_elim (λ had. had) (λ e. absurd (cc)) (was_one (Frees i owner) (Yes index owner) (all scene) was))
                 k.1.hidden),
             k.2,
             k.3,
-            covers_on scene (Recover owner mode) tt here.span owner ws y telling (refl, tt) index count refl
+            covers_on scene (Recover owner mode) tt here.span owner ws party_after telling (refl, tt) index count refl
                 (fold-append (filled_after index) None events telling) k.5,
           ),
-          fills_on recovery room (recovers.Asks index count) here None false y telling (refl, tt) tt (λ start w. refl) goes NoIndex NoIndex
+          fills_on recovery room (recovers.Asks index count) here None false party_after telling (refl, tt) tt (λ start w. refl) goes NoIndex NoIndex
               (λ i was. ⊎_elim (λ had. inl had) (λ e. absurd (cc)) (was_one (Frees i owner) (Yes index owner) (all scene) was))
               (λ i e. e) f,
         )

@@ -18,19 +18,19 @@ one_more_of = grind (arith, append_assoc)
 
 -- nothing was done besides
 pub one_of_none : (one : SetAct) (all : List SetAct) → IsOneOf one (all ++ []) → IsOneOf one all
-one_of_none one all is_one_of_holds = subst (IsOneOf one) (append-nil all) is_one_of_holds
+one_of_none one all is_one = subst (IsOneOf one) (append-nil all) is_one
 
 module _ {T : Type 0} where
   pub has_of_none : (one : Act T) (all : List (Act T)) → IsOneOf one (all ++ []) → IsOneOf one all
-  has_of_none one all is_one_of_holds = subst (IsOneOf one) (append-nil all) is_one_of_holds
+  has_of_none one all is_one = subst (IsOneOf one) (append-nil all) is_one
 
   -- one of them is one of the earlier ones, or the last
   pub was_act : (one last : Act T) (all : List (Act T)) → IsOneOf one (all ++ last ∷ []) → IsOneOf one all ⊎ (last ≡ one)
-  was_act one last all is_one_of_holds = go (split_last all last is_one_of_holds.before one is_one_of_holds.after is_one_of_holds.is)
+  was_act one last all is_one = go (split_last all last is_one.before one is_one.after is_one.is)
     where
-      go : SplitAt all last is_one_of_holds.before one is_one_of_holds.after → IsOneOf one all ⊎ (last ≡ one)
+      go : SplitAt all last is_one.before one is_one.after → IsOneOf one all ⊎ (last ≡ one)
       go (Last p q) = inr q
-      go (Earlier rest p) = inl (record { before = is_one_of_holds.before; after = rest; is = p })
+      go (Earlier rest p) = inl (record { before = is_one.before; after = rest; is = p })
 
   pub has_latest : (one : Act T) (all : List (Act T)) → IsLatest one all → IsOneOf one all
   has_latest one all latest = record { before = latest.before; after = []; is = latest.is }
@@ -110,8 +110,7 @@ module _ {T : Type 0} (code : Coding T) (c owner : ℕ) (v : View T) (words' : L
       → ((i : ℕ) → New i → (filled_of i (v.events ++ es) ≢ Some owner) ⊎ Now i) → GoneBut code c owner Now then_view
   gone_then = grind (arith, inl, stays_lost, honest_less, inr)
 
-  -- what a recovery knows after a turn, from what it knew, how far it has come, and what it was
-  -- told or shown in it
+  -- what a recovery knows after a turn, from what it knew, how far it has come, and what it was told or shown in it
   pub recovers_then : (k k' : ℕ) (Was Now New But But' : ℕ → Type 0) → Recovers code c owner k Was But v
       → AskedBelow code c owner k' then_view → SplitsTold New
       → ((i : ℕ) → Was i → (filled_of i (v.events ++ es) ≢ Some owner) ⊎ Now i)

@@ -76,7 +76,7 @@ module _ {T : Type 0} (recovery : Recovery T) where
         stays_next recovery room this here long ask back stays paid index k.1 (omega arith) course
         (subst (λ m. FilledBut (IsWorn scene.terms.by (words_after ws ask)) m p owner NoIndex (events ++ [])) (sym is) tt)
     by_mode LockIfLastIndex is ask back stays paid few =
-        let y = then_at recovery room this here room (recovers.Locks index first_lock) ask back in
+        let party_after = then_at recovery room this here room (recovers.Locks index first_lock) ask back in
         stays_on recovery room this here long ask back stays paid index k.1 (recovers.Locks index first_lock) (omega arith) (
           course_calm recovery index (index + 1) index (index + 1) course course.within (omega arith),
           just_on recovery just,
@@ -84,12 +84,11 @@ module _ {T : Type 0} (recovery : Recovery T) where
           tt,
         ) (
           long,
-          (paid, stays_recs recovery room this here long ask back stays paid index k.1 y, tt),
+          (paid, stays_recs recovery room this here long ask back stays paid index k.1 party_after, tt),
           (fill_stays recovery ask stays (λ i. i ≡ index) f, tt),
         )
 
-    -- the step in which a recovery raises the counter leads on: to the lock in its mode, or to
-    -- the next index
+    -- the step in which a recovery raises the counter leads on: to the lock in its mode, or to the next index
     pub raises_step : raises_to (Some (raise_ask raise)) (raise_goes_back raise (counter_of ws)) (raise_after raise (counter_of ws))
     raises_step =
         let one = back_at_least c z mode in
@@ -98,13 +97,13 @@ module _ {T : Type 0} (recovery : Recovery T) where
         let low = few (6 + z + index * for_index c z mode) (for_back c z mode) (omega arith) (omega arith) in
         let stays = set_effects.stays_same (of_set scene) (inv_of_set scene inv) (words_after ws ask) same in
         let paid = held_is ask back number held in
-        let y = then_at recovery room this here room (recovers.Raises index (raises.ExchangesCounter number)) ask back in
+        let party_after = then_at recovery room this here room (recovers.Raises index (raises.ExchangesCounter number)) ask back in
         stays_on recovery room this here long ask back stays paid index k.1 (recovers.Raises index (raises.ExchangesCounter number)) (omega arith)
         (course_calm recovery index (index + 1) index (index + 1) course course.within (omega arith), just_on recovery just) (
           long,
           (
             subst (λ es. set_knows.Holding number (set_stages.seen (of_set scene) ask back es)) (sym (append-nil events)) held,
-            stays_recs recovery room this here long ask back stays paid index k.1 y,
+            stays_recs recovery room this here long ask back stays paid index k.1 party_after,
           ),
           fill_stays recovery ask stays (λ i. i ≡ index) f,
         ))
@@ -218,7 +217,7 @@ module _ {T : Type 0} (recovery : Recovery T) where
         (λ next ask back stays next_at held scanned says few.
         let low = few (8 + z + index * for_index c z mode) (for_back c z mode) (omega arith) (omega arith) in
         let paid = lock_paid next ask back held in
-        let y = then_at recovery room locks_at here room (recovers.Locks index next) ask back in
+        let party_after = then_at recovery room locks_at here room (recovers.Locks index next) ask back in
         stays_on recovery room locks_at here long ask back stays paid index k.1 (recovers.Locks index next) (omega arith) (
           course_calm recovery index (index + 1) index (index + 1) course course.within (omega arith),
           just_on recovery just,
@@ -228,7 +227,7 @@ module _ {T : Type 0} (recovery : Recovery T) where
           long,
           (
             paid_calm next ask back held,
-            stays_recs recovery room locks_at here long ask back stays paid index k.1 y,
+            stays_recs recovery room locks_at here long ask back stays paid index k.1 party_after,
             scanned_calm next ask back scanned,
           ),
           (
@@ -264,7 +263,7 @@ module _ {T : Type 0} (recovery : Recovery T) where
             → backs_then scene back + since_then scene ask ≤ changes_then scene ask
         lock_paid next ask back paid = held_paid (set_knows.lock_holds next) ask back paid
 
-        -- at the events that it sees
+        -- what a lock has paid is paid still at the events that it sees
         paid_calm : (next : Lock) (ask : Option Ask) (back : Bool)
             → set_knows.Paid (set_knows.lock_holds next) (set_stages.sees (of_set scene) ask back)
             → set_knows.Paid (set_knows.lock_holds next) (set_stages.seen (of_set scene) ask back (events ++ []))

@@ -81,13 +81,13 @@ module _ {T : Type 0} (scene : Scene T) (inv : Inv scene) (index owner : ℕ) (m
   past : (at : ℕ) → c ≤ index → all scene ≡ [] → Moves removes.Refuses at
   past at beyond none here paid s =
       let start = Remove index owner mode in
-      let y = party_then scene start None false (Done (answers.NotRemoved ContainerHandleNotOwnedByContainer)) in
-      let es = Finished p (Container start) (answers.NotRemoved ContainerHandleNotOwnedByContainer) ∷ [] in
+      let party_after = party_then scene start None false (Done (answers.NotRemoved ContainerHandleNotOwnedByContainer)) in
+      let written = Finished p (Container start) (answers.NotRemoved ContainerHandleNotOwnedByContainer) ∷ [] in
       ends scene start (answers.NotRemoved ContainerHandleNotOwnedByContainer) None false scene.states [] here.span none_lengthens
-      (silently scene inv scene.words refl y es (tt, tt) (refl, tt) start
+      (silently scene inv scene.words refl party_after written (tt, tt) (refl, tt) start
       (remove_at c at owner mode removes.Refuses) tt here
-      (was_well_formed scene start tt here.span scene.words y es (refl, tt))
-      (owes_none scene start (remove_at c at owner mode removes.Refuses) y here refl)
+      (was_well_formed scene start tt here.span scene.words party_after written (refl, tt))
+      (owes_none scene start (remove_at c at owner mode removes.Refuses) party_after here refl)
       (record {
         asks = (tt, tt);
         recovers = (tt, tt);
@@ -113,8 +113,7 @@ module _ {T : Type 0} (scene : Scene T) (inv : Inv scene) (index owner : ℕ) (m
         below = below;
       }
 
-  -- any step of a remove that stands at a stage, and knows what the stage tells, shows what it
-  -- has to
+  -- any step of a remove that stands at a stage, and knows what the stage tells, shows what it has to
   pub remove_step : (stage : RemoveStage) → RemoveAt c code.size (all scene) (done scene) index owner mode stage → Moves stage (place_of c index)
   remove_step removes.Refuses at = past (place_of c index) at.0 at.1
   remove_step removes.LoadsCount at =

@@ -135,13 +135,13 @@ module _ {T : Type 0} (removing : Removing T) where
       → steps + step_count ask ≤ 1 + release_total c index owner mode (backs_then scene false)
       → Leads scene start ask false scene.states [] (Done (answers.NotRemoved ContainerHandleNotOwnedByContainer))
   refuses stage here owes ask same other none paid few =
-      let y = party_then scene start ask false (Done (answers.NotRemoved ContainerHandleNotOwnedByContainer)) in
-      let es = Finished p (Container start) (answers.NotRemoved ContainerHandleNotOwnedByContainer) ∷ [] in
+      let party_after = party_then scene start ask false (Done (answers.NotRemoved ContainerHandleNotOwnedByContainer)) in
+      let written = Finished p (Container start) (answers.NotRemoved ContainerHandleNotOwnedByContainer) ∷ [] in
       let most = total_is c z index owner mode (backs_then scene false) T in
       ends scene start (answers.NotRemoved ContainerHandleNotOwnedByContainer) ask false scene.states [] here.span none_lengthens
-      (silently scene inv (words_after ws ask) same y es (tt, tt) (refl, tt) start (at_stage stage) tt here
-      (was_well_formed scene start tt here.span (words_after ws ask) y es (refl, tt))
-      (owes_none scene start (at_stage stage) y here owes)
+      (silently scene inv (words_after ws ask) same party_after written (tt, tt) (refl, tt) start (at_stage stage) tt here
+      (was_well_formed scene start tt here.span (words_after ws ask) party_after written (refl, tt))
+      (owes_none scene start (at_stage stage) party_after here owes)
       (record {
         asks = (tt, tt);
         recovers = (tt, tt);
@@ -181,20 +181,19 @@ module _ {T : Type 0} (removing : Removing T) where
     left_calm : (next : RemoveStage) (ask : Option Ask) (back : Bool)
         → set_effects.Stays (of_set scene) (words_after ws ask) → HasLeft code c index count (sees_now scene)
         → HasLeft code c index count (SeesCalmly next ask back)
-    left_calm next ask back stays has_left_holds =
+    left_calm next ask back stays was_left =
         let same : count_at c (words_after ws ask) index ≡ count_in code c (before scene) index = stays.others (count_word c index) (omega arith) in
         record {
-          within = has_left_holds.within;
-          below = λ kept. let low = has_left_holds.below kept in omega arith;
-          left = λ holds is. has_left_holds.left (was_well_formed_calmly scene start tt here.span (then_at next ask back) holds) (sym same ∙ is);
+          within = was_left.within;
+          below = λ kept. let low = was_left.below kept in omega arith;
+          left = λ holds is. was_left.left (was_well_formed_calmly scene start tt here.span (then_at next ask back) holds) (sym same ∙ is);
         }
 
     -- a release that has freed
     has_left : all scene ≡ Frees index owner ∷ [] → HasLeft code c index count (sees_now scene)
     has_left freed = grind arith
 
-    -- over a step that leaves all words but the counter, the release knows at its next stage
-    -- what was left at the index
+    -- over a step that leaves all words but the counter, the release knows at its next stage what was left at the index
     left_next : (next : ReleaseStage) (ask : Option Ask) (back : Bool)
         → set_effects.Stays (of_set scene) (words_after ws ask) → ReleaseAt c index owner mode (all scene) next
         → ReleaseLeft code c index count next (SeesCalmly (removes.Releases count next) ask back)
@@ -207,9 +206,9 @@ module _ {T : Type 0} (removing : Removing T) where
         low : (s : ReleaseStage) → ReleaseAt c index owner mode (all scene) s
             → ReleaseLeft code c index count s (sees_now scene) → Keeps scene.terms
             → count ≤ count_at c (words_after ws ask) index
-        low releases.EmptiesCell at release_left kept = let was = release_left.1 kept in let eq = same in omega arith
-        low (releases.Raises raise) at release_left kept = let was = release_left.below kept in let eq = same in omega arith
-        low (releases.Locks lock) at release_left kept = let was = release_left.below kept in let eq = same in omega arith
+        low releases.EmptiesCell at release_left kept = omega (arith, release_left.1 kept, same)
+        low (releases.Raises raise) at release_left kept = omega (arith, release_left.below kept, same)
+        low (releases.Locks lock) at release_left kept = omega (arith, release_left.below kept, same)
     left_next (releases.Raises raise) ask back stays at =
         left_calm (removes.Releases count (releases.Raises raise)) ask back stays (has_left at)
     left_next (releases.Locks lock) ask back stays at =
@@ -296,7 +295,7 @@ module _ {T : Type 0} (removing : Removing T) where
               (stays.others (count_word c index) (omega arith)) (stands_still freed),
         ))
 
-    -- and with the lock
+    -- the release has ended and has locked the set
     locked_by : (ask : Option Ask) → mode ≡ LockIfLastIndex
         → (IsCalm scene.terms.by events → (i : ℕ) → holder_of i events ≡ None) → counter_of ws < greatest
         → words_after ws ask ≡ set ws 0 locked → all scene ≡ Frees index owner ∷ []
@@ -393,8 +392,7 @@ module _ {T : Type 0} (removing : Removing T) where
             (rest_set scene inv start (at_stage this) tt here y (words_after ws ask) 0 locked (omega arith) new (count_word c index) (omega arith))
             (fold-append (contents_after index) None events (Locked p ∷ [])) (stands_still freed)
 
-    -- what the release of the set leads to, in a remove that goes on: each of its steps, and
-    -- each of its ends
+    -- what the release of the set leads to, in a remove that goes on: each of its steps, and each of its ends
     caller : Caller (of_set scene) (inv_of_set scene inv) index owner mode fits below lives began 1 Lead
     caller =
         record {
@@ -403,16 +401,16 @@ module _ {T : Type 0} (removing : Removing T) where
               (below, at, nothing) (known, left_next next ask back stays at, hides_next next ask back stays at);
           freed = λ ask new does none known few.
               let next = removes.Releases count (releases.Raises raises.LoadsCounter) in
-              let y = then_at next ask false in
-              let es : List (Event T) = FreedOf p index owner ∷ [] in
-              let rest = rest_set scene inv start (at_stage this) tt here y (words_after ws ask) (cell_word index) empty (omega arith) new in
+              let party_after = then_at next ask false in
+              let written : List (Event T) = FreedOf p index owner ∷ [] in
+              let rest = rest_set scene inv start (at_stage this) tt here party_after (words_after ws ask) (cell_word index) empty (omega arith) new in
               let same : count_at c (words_after ws ask) index ≡ count_in code c (before scene) index = rest (count_word c index) (omega arith) in
-              goes_on scene start (at_stage next) ask false scene.states es here.span (λ start w. refl)
-              (frees scene inv start (at_stage this) tt here y (words_after ws ask) rest
-              (wide_set scene inv start (at_stage this) tt here y (words_after ws ask) (cell_word index) empty new)
+              goes_on scene start (at_stage next) ask false scene.states written here.span (λ start w. refl)
+              (frees scene inv start (at_stage this) tt here party_after (words_after ws ask) rest
+              (wide_set scene inv start (at_stage this) tt here party_after (words_after ws ask) (cell_word index) empty new)
               index owner does
-              (was_well_formed scene start tt here.span (words_after ws ask) y es (refl, tt))
-              (owes_none scene start (at_stage this) y here refl)
+              (was_well_formed scene start tt here.span (words_after ws ask) party_after written (refl, tt))
+              (owes_none scene start (at_stage this) party_after here refl)
               (subst (FreedBy scene.terms.by p index owner events) (sym here.span) tt))
               ((refl, refl, none), tt) (omega arith)
               (refl, given_is, fits, (below, ap (λ d. d ++ Frees index owner ∷ []) none, ap (λ (d : List (Act T)). d ++ []) nothing)) (
@@ -420,9 +418,9 @@ module _ {T : Type 0} (removing : Removing T) where
                 record {
                   within = below;
                   below = low same;
-                  left = λ holds is. fold-append (left_after index) true events es ∙ set_effects.at_same index index true (left_of index events) refl;
+                  left = λ holds is. fold-append (left_after index) true events written ∙ set_effects.at_same index index true (left_of index events) refl;
                 },
-                hidden_freed scene start tt here.span owner inv index count below (words_after ws ask) y same
+                hidden_freed scene start tt here.span owner inv index count below (words_after ws ask) party_after same
                     (λ holds i was. absurd (no_more was.before (Frees i owner) was.after (sym none ∙ was.is)))
                     (λ earlier holds. covers none earlier (acts.stays earlier.kept) (began holds.calm).1),
               );

@@ -124,8 +124,7 @@ module _ {T : Type 0} (replacing : Replacing T) where
             filled = held_later p (IsFilledWith owner index) events es none k.filled;
           }
 
-    -- before its first word a replace has written none of its value, if the number of the
-    -- element is even by then
+    -- before its first word a replace has written none of its value, if the number of the element is even by then
     first_word : (stage next : ReplaceStage) → Here stage → (ask : Ask) → words_after ws (Some ask) ≡ ws
         → (WellFormed (before scene) → count_in code c (before scene) i % 2 ≡ 0)
         → Writes code c owner i value 0 (SeesCalmly next ask)
@@ -190,20 +189,20 @@ module _ {T : Type 0} (replacing : Replacing T) where
           ((if b then Hidden p i ∷ [] else []) ++ []) (GoOn (at_stage (replaces.Stores 0))))
           (now_at == count)
           (λ t.
-          let is : now_at ≡ count = grind (arith, nat_tests) in
+          let same_count : now_at ≡ count = grind (arith, nat_tests) in
           let some = inv.elements.coded.some in
           let wide = inv.elements.wide in
-          let y = then_at (replaces.Stores 0) (Some hide_it) in
-          let es = Hidden p i ∷ [] in
-          let new = hides_count scene inv i count below is in
-          let now_odd : now_at % 2 ≡ 1 = ap (λ n. n % 2) is ∙ odd in
+          let party_after = then_at (replaces.Stores 0) (Some hide_it) in
+          let told_now = Hidden p i ∷ [] in
+          let new = hides_count scene inv i count below same_count in
+          let now_odd : now_at % 2 ≡ 1 = ap (λ n. n % 2) same_count ∙ odd in
           let well_formed =
-          was_going replacing (replaces.Hides count) here k.filled (words_after ws (Some hide_it)) y es
+          was_going replacing (replaces.Hides count) here k.filled (words_after ws (Some hide_it)) party_after told_now
           (refl, tt) tt (λ start w. refl) (omega arith) in
           let after : count_at c (words_after ws (Some hide_it)) i ≡ one_more now_at =
           ap (λ w. count_at c w i) new ∙ count_set c code.size ws i (one_more now_at) (omega arith) in
-          goes_on scene start (at_stage (replaces.Stores 0)) (Some hide_it) false scene.states es here.span (λ start w. refl)
-          (hides scene inv start (at_stage (replaces.Hides count)) tt here y
+          goes_on scene start (at_stage (replaces.Stores 0)) (Some hide_it) false scene.states told_now here.span (λ start w. refl)
+          (hides scene inv start (at_stage (replaces.Hides count)) tt here party_after
           (words_after ws (Some hide_it)) i below new refl now_odd
           (λ holds q ne o theirs fresh. nobody_else holds q ne o theirs) well_formed)
           ((refl, nothing), tt) (omega arith) (
@@ -212,7 +211,7 @@ module _ {T : Type 0} (replacing : Replacing T) where
             fits,
             (below, ap (λ (d : List SetAct). d ++ []) none_done, inr (ap (λ d. d ++ Hides i ∷ []) nothing), omega arith),
           ) (
-            knows_then es (refl, tt) tt (λ start w. refl) (λ o. refl) (λ o. refl)
+            knows_then told_now (refl, tt) tt (λ start w. refl) (λ o. refl) (λ o. refl)
                 (replaces.Hides count) (replaces.Stores 0) here hide_it,
             record {
               few = omega arith;
@@ -238,8 +237,7 @@ module _ {T : Type 0} (replacing : Replacing T) where
       abbrev store_it : Ask
       store_it = stores_to (element_word c code.size i at) (get_or (code.words_of value) at 0)
 
-      -- a store of a word leads to the stage behind it, where the replace knows there what that
-      -- stage asks
+      -- a store of a word leads to the stage behind it, where the replace knows there what that stage asks
       store_to : (next : ReplaceStage) → replace_owes next ≡ true → steps + 1 ≤ replace_number code.size next
           → ReplaceAt c code.size (all scene) (done scene) index next
           → Knows code c (at_stage next) (SeesCalmly next store_it)
@@ -279,10 +277,10 @@ module _ {T : Type 0} (replacing : Replacing T) where
           ))
           (λ t.
           let last : code.size ≤ at + 1 = grind (arith, nat_tests) in
-          let is : at + 1 ≡ code.size = omega arith in
+          let is_last : at + 1 ≡ code.size = omega arith in
           store_to replaces.AddsCount refl (omega arith) (below, none_done, hidden) (
             knows_calm (replaces.Stores at) replaces.AddsCount here store_it,
-            subst (λ n. Writes code c owner i value n (SeesCalmly replaces.AddsCount store_it)) is
+            subst (λ n. Writes code c owner i value n (SeesCalmly replaces.AddsCount store_it)) is_last
                 (one_more_word replaces.AddsCount),
           ))
 
@@ -356,15 +354,15 @@ module _ {T : Type 0} (replacing : Replacing T) where
       -- the step in which a replace counts the change ends it
       end_step : StepOf scene start (at_stage replaces.AddsChange)
       end_step =
-          let y = party_then scene start (Some end_it) false (Done answers.Done) in
-          let es = Finished p (Container start) answers.Done ∷ [] in
+          let party_after = party_then scene start (Some end_it) false (Done answers.Done) in
+          let written = Finished p (Container start) answers.Done ∷ [] in
           let well_formed =
-          well_formed_before scene.terms p y latest events es (refl, tt) (λ h. stands_if replacing replaces.AddsChange here
+          well_formed_before scene.terms p party_after latest events written (refl, tt) (λ h. stands_if replacing replaces.AddsChange here
           (λ few. h.replaced events [] (Finished p (Container start) answers.Done) refl)) in
           let new = adds_to_change scene inv in
           ends scene start answers.Done (Some end_it) false scene.states [] here.span none_lengthens
-          (ends_counted scene inv start (at_stage replaces.AddsChange) tt here y (words_after ws (Some end_it)) answers.Done
-          (set_effects.quietly (of_set scene) (inv_of_set scene inv) (words_after ws (Some end_it)) es
+          (ends_counted scene inv start (at_stage replaces.AddsChange) tt here party_after (words_after ws (Some end_it)) answers.Done
+          (set_effects.quietly (of_set scene) (inv_of_set scene inv) (words_after ws (Some end_it)) written
           (leaves_behind (of_set scene) (inv_of_set scene inv) (words_after ws (Some end_it)) (change_word c) _ (omega arith) new)
           (quiet_end p (Container start) answers.Done (λ i o. refl) (λ i r. refl))
           (refl, tt) (tt, tt) (tt, tt))
@@ -391,21 +389,21 @@ module _ {T : Type 0} (scene : Scene T) (inv : Inv scene) (index : ℕ) (value :
   refuses : (at : ℕ) → c ≤ index → all scene ≡ [] → done scene ≡ [] → Moves replaces.Refuses at
   refuses at past none_done nothing here paid s =
       let start = Replace index value owner in
-      let y = party_then scene start None false (Done (answers.NotRemoved ContainerHandleNotOwnedByContainer)) in
-      let es = Finished p (Container start) (answers.NotRemoved ContainerHandleNotOwnedByContainer) ∷ [] in
+      let party_after = party_then scene start None false (Done (answers.NotRemoved ContainerHandleNotOwnedByContainer)) in
+      let written = Finished p (Container start) (answers.NotRemoved ContainerHandleNotOwnedByContainer) ∷ [] in
       let well_formed =
-      well_formed_before scene.terms p y latest events es (refl, tt)
+      well_formed_before scene.terms p party_after latest events written (refl, tt)
       (λ h. subst (λ o. StandsWellFormed p o events) (sym here.found)
       (λ index' owner' value' wrote' span few found. let taken = here.taken in absurd (omega arith))) in
       ends scene start (answers.NotRemoved ContainerHandleNotOwnedByContainer) None false scene.states [] here.span none_lengthens
-      (ends_calmly scene inv start (replace_at c at value owner replaces.Refuses) tt here y scene.words
+      (ends_calmly scene inv start (replace_at c at value owner replaces.Refuses) tt here party_after scene.words
       (answers.NotRemoved ContainerHandleNotOwnedByContainer)
-      (set_effects.quietly (of_set scene) (inv_of_set scene inv) scene.words es
+      (set_effects.quietly (of_set scene) (inv_of_set scene inv) scene.words written
       (set_effects.stays_same (of_set scene) (inv_of_set scene inv) scene.words refl).leaves
       (quiet_end p (Container start) (answers.NotRemoved ContainerHandleNotOwnedByContainer)
       (λ i o. refl) (λ i r. refl))
       (refl, tt) (tt, tt) (tt, tt))
-      (inl past) well_formed (λ holds. tt) refl (λ i b. refl) (owes_none scene start (replace_at c at value owner replaces.Refuses) y here refl))
+      (inl past) well_formed (λ holds. tt) refl (λ i b. refl) (owes_none scene start (replace_at c at value owner replaces.Refuses) party_after here refl))
       ((refl, (none_done, nothing)), tt) (omega arith) (omega arith)
 
   -- the replace, where its index is one of the container and it has done nothing to the set
@@ -423,8 +421,7 @@ module _ {T : Type 0} (scene : Scene T) (inv : Inv scene) (index : ℕ) (value :
         none_done = none_done;
       }
 
-  -- any step of a replace that stands at a stage, and knows what the stage tells, shows what it
-  -- has to
+  -- any step of a replace that stands at a stage, and knows what the stage tells, shows what it has to
   pub replace_step : (stage : ReplaceStage) → ReplaceAt c code.size (all scene) (done scene) index stage → Moves stage (place_of c index)
   replace_step replaces.Refuses at = refuses (place_of c index) at.0 at.1 at.2
   replace_step replaces.LoadsCell at =

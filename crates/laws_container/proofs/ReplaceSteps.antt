@@ -119,8 +119,7 @@ module _ {T : Type 0} (replacing : Replacing T) where
         span = span_of-own p events es own ∙ (ap (λ s. fold own_after s es) here.span ∙ longer start (wrote_of p events));
       }
 
-  -- after a step that writes nothing the party's call is still this replace, which has taken a
-  -- step
+  -- after a step that writes nothing the party's call is still this replace, which has taken a step
   pub found_calm : (stage next : ReplaceStage) → Here stage → (ask : Ask)
       → HasFound index owner value
       (view scene.terms (words_after ws (Some ask)) scene.states (put p (then_at next (Some ask)) latest) events p
@@ -165,22 +164,22 @@ module _ {T : Type 0} (replacing : Replacing T) where
     -- a replace that does not find its owner in the cell ends with its refusal
     fails : cell ws index ≢ owner → Leads scene start (Some load_cell) false scene.states [] (Done (answers.NotRemoved ContainerHandleNotOwnedByContainer))
     fails other =
-        let y = party_then scene start (Some load_cell) false (Done (answers.NotRemoved ContainerHandleNotOwnedByContainer)) in
-        let es = Finished p (Container start) (answers.NotRemoved ContainerHandleNotOwnedByContainer) ∷ [] in
+        let party_after = party_then scene start (Some load_cell) false (Done (answers.NotRemoved ContainerHandleNotOwnedByContainer)) in
+        let written = Finished p (Container start) (answers.NotRemoved ContainerHandleNotOwnedByContainer) ∷ [] in
         let same = loads_same ws (cell_word index) in
         let well_formed =
-        well_formed_before scene.terms p y latest events es (refl, tt)
+        well_formed_before scene.terms p party_after latest events written (refl, tt)
         (λ h. stands_if replaces.LoadsCell here (λ few. absurd (omega arith))) in
         ends scene start (answers.NotRemoved ContainerHandleNotOwnedByContainer) (Some load_cell) false scene.states [] here.span none_lengthens
-        (ends_calmly scene inv start (at_stage replaces.LoadsCell) tt here y
+        (ends_calmly scene inv start (at_stage replaces.LoadsCell) tt here party_after
         (words_after ws (Some load_cell)) (answers.NotRemoved ContainerHandleNotOwnedByContainer)
-        (set_effects.quietly (of_set scene) (inv_of_set scene inv) (words_after ws (Some load_cell)) es
+        (set_effects.quietly (of_set scene) (inv_of_set scene inv) (words_after ws (Some load_cell)) written
         (set_effects.stays_same (of_set scene) (inv_of_set scene inv) (words_after ws (Some load_cell)) same).leaves
         (quiet_end p (Container start)
         (answers.NotRemoved ContainerHandleNotOwnedByContainer) (λ i o. refl) (λ i r. refl))
         (refl, tt) (tt, tt) (tt, tt))
         (inr (λ filled. other (inv.good.cells index below ∙ ap cell_of filled))) well_formed (λ holds. tt) same
-        (λ i b. refl) (owes_none scene start (at_stage replaces.LoadsCell) y here refl))
+        (λ i b. refl) (owes_none scene start (at_stage replaces.LoadsCell) party_after here refl))
         ((refl, (none_done, nothing)), tt) (omega arith) (omega arith)
 
     found_now : cell ws index ≡ owner → HeldSometime p (IsFilledWith owner index) events
@@ -199,12 +198,11 @@ module _ {T : Type 0} (replacing : Replacing T) where
           filled = found_now is;
         })
 
-    -- the step in which a replace loads the cell shows what it has to, whether it finds its
-    -- owner or not
+    -- the step in which a replace loads the cell shows what it has to, whether it finds its owner or not
     pub cell_step : StepOf scene start (at_stage replaces.LoadsCell)
     cell_step =
         on_bool (λ b. Leads scene start (Some (set_stages.loads (cell_word index))) false scene.states []
         (as_replace (if b then GoOn (at_replace first replaces.LoadsCount) else Done (Err ContainerHandleNotOwnedByContainer))))
         (cell ws index == owner)
-        (λ t. let is : cell ws index ≡ owner = grind (arith, nat_tests) in finds is)
+        (λ t. let has_owner : cell ws index ≡ owner = grind (arith, nat_tests) in finds has_owner)
         (λ t. let other : cell ws index ≢ owner = grind (arith, nat_tests) in fails other)

@@ -32,8 +32,7 @@ module _ {T : Type 0} where
 
   -- ---- another party takes a turn
 
-  -- where no event begins to give back or replace at the index for its owner, no later one of
-  -- them does
+  -- where no event begins to give back or replace at the index for its owner, no later one of them does
   none_takes_last : (i o : ℕ) (since es : List (Event T)) → NoneTakes i o (since ++ es) → NoneTakes i o es
   none_takes_last i o [] es h = h
   none_takes_last i o (e ∷ rest) es h = none_takes_last i o rest es h.1
@@ -91,7 +90,7 @@ module _ {T : Type 0} where
         latest = fold-append (replacer_after i o) None events es ∙ (replacers_stay i o (replacer_of i o events) es before.none ∙ own.latest);
       }
 
-  -- and any turn of another party an add its own
+  -- any turn of another party leaves an add its right
   pub add_later : (by : GoneBy) (events es : List (Event T)) (q i o : ℕ) → Spares by q events es
       → (IsCalm by events → is_gone by o events ≡ false → Adds q i o events) → IsCalm by (events ++ es)
       → is_gone by o (events ++ es) ≡ false → Adds q i o (events ++ es)

@@ -160,8 +160,7 @@ module _ {T : Type 0} (size c : ℕ) (old new : List ℕ) (same : get_or new 0 0
         let here = none (flights.Container (look_at look_of.GetState c (looks.ChecksCount index count))) in
         omega arith
 
-    -- where the counter stays and no copy takes more steps to be made again, a recovery has no
-    -- more own steps
+    -- where the counter stays and no copy takes more steps to be made again, a recovery has no more own steps
     recover_fewer : (stage : RecoverStage) → recover_own size c new stage ≤ recover_own size c old stage
     recover_fewer (recovers.LoadsWord index count at) = let here = fewer index count in omega arith
     recover_fewer (recovers.ChecksCount index count) = let here = fewer index count in omega arith
@@ -169,8 +168,7 @@ module _ {T : Type 0} (size c : ℕ) (old new : List ℕ) (same : get_or new 0 0
     recover_fewer (recovers.Locks index lock) = rw same (omega arith)
     recover_fewer stage = omega arith
 
-    -- where the counter stays and no copy takes more steps to be made again, no call has more
-    -- own steps
+    -- where the counter stays and no copy takes more steps to be made again, no call has more own steps
     own_fewer : (flight : ContainerFlight T) → call_own size c new flight ≤ call_own size c old flight
     own_fewer (calls.Remove run) = rw same (omega arith)
     own_fewer (calls.Recover run) = recover_fewer run.call.stage
@@ -246,4 +244,4 @@ module _ {T : Type 0} (size c : ℕ) (old new : List ℕ) where
     to_falls steps s was (GoOn next) low one none (inr h, pays) =
         let less = moves h (flights.Container was) (flights.Container next) in
         inr (omega (arith, less, low, one), inl (moved_by h, pays))
-    to_falls steps s was (Done answer) low one none call_to_holds = tt
+    to_falls steps s was (Done answer) low one none falls = tt

@@ -85,19 +85,20 @@ module _ {T : Type 0} (code : Coding T) (c : ℕ) (words : List ℕ) where
         (as_call calls.Remove removed
         (went_on as_it_is given tt
         (remove_released (record { capacity = c; stage = removes.Releases count stage }) count a)))
-    released n' was count (GoOn next) (inl h) moved new is stage e = (inl (is ∙ h.0, (let le = h.1 in omega arith)), omega arith)
+    released n' was count (GoOn next) (inl h) moved new is stage e = (inl (is ∙ h.0, omega (arith, h.1)), omega arith)
     released n' was count (GoOn next) (inr h) moved new is stage e = (inr (rw is h), omega arith)
-    released n' was count (Done (Ok state)) release_to_holds moved new is stage e = go (is_even count) refl moved
+    released n' was count (Done (Ok state)) release_falls moved new is stage e = go (is_even count) refl moved
       where
+        -- the cases are whether the count is even (nothing stands there)
         go : (t : Bool) → is_even count ≡ t → StaysOrMoves c n n'
             → CallTo code.size c words new 1 (remove (removes.Releases count stage))
             (as_call calls.Remove removed
             (went_on as_it_is given tt (remove_released (record { capacity = c; stage = removes.Releases count stage }) count (Done (Ok state)))))
-        go true t (inl release_to_holds) = rw t (inl (is ∙ release_to_holds, omega arith), omega arith)
-        go true t (inr release_to_holds) = rw t (inr (rw is release_to_holds), omega arith)
-        go false t (inl release_to_holds) = rw t (inl (is ∙ release_to_holds, omega arith), omega arith)
-        go false t (inr release_to_holds) = rw t (inr (rw is release_to_holds), omega arith)
-    released n' was count (Done (Err failure)) release_to_holds moved new is stage e = tt
+        go true t (inl same_counter) = rw t (inl (is ∙ same_counter, omega arith), omega arith)
+        go true t (inr less_room) = rw t (inr (rw is less_room), omega arith)
+        go false t (inl same_counter) = rw t (inl (is ∙ same_counter, omega arith), omega arith)
+        go false t (inr less_room) = rw t (inr (rw is less_room), omega arith)
+    released n' was count (Done (Err failure)) release_falls moved new is stage e = tt
 
     release_leaves_none : (stage : ReleaseStage) → get_or (words_after words (ask_of (release_asks stage given))) 0 0 ≡ n
         → LeavesAll (measure {T = T} code.size c) words (words_after words (ask_of (release_asks stage given)))
@@ -110,11 +111,11 @@ module _ {T : Type 0} (code : Coding T) (c : ℕ) (words : List ℕ) where
     pub remove_owes : (some : 0 < length words) (stage : RemoveStage) → RemoveAt stage → Owes None 1 (remove stage)
     remove_owes some removes.Refuses at = (tt, λ same other. omega arith)
     remove_owes some removes.LoadsCount at =
-        let is = container_leaves code words some (remove removes.LoadsCount) in
-        ((inl (is, omega arith), omega arith), λ same. load_none code.size c words (count_word c index))
+        let counter_same = container_leaves code words some (remove removes.LoadsCount) in
+        ((inl (counter_same, omega arith), omega arith), λ same. load_none code.size c words (count_word c index))
     remove_owes some (removes.Releases count stage) at =
         let flight = remove (removes.Releases count stage) in
-        let is = container_leaves code words some flight in
+        let counter_same = container_leaves code words some flight in
         let n' = get_or (then_words flight) 0 0 in
         let old = old_of words (ask_of (release_asks stage given)) in (
           subst (λ o. CallTo code.size c words (then_words flight) 1 flight
@@ -123,13 +124,13 @@ module _ {T : Type 0} (code : Coding T) (c : ℕ) (words : List ℕ) where
               (remove_released (record { capacity = c; stage = removes.Releases count stage }) count
               (release_takes (inner_release c stage) stage given o))))) (sym (release_finds words stage given))
               (released n' (release_left c n stage) count (release_takes (inner_release c stage) stage given (release_old stage n old))
-              (release_to c n n' (inner_release c stage) stage given old refl at is) (release_moves c n n' stage at is)
+              (release_to c n n' (inner_release c stage) stage given old refl at counter_same) (release_moves c n n' stage at counter_same)
               (then_words flight) refl stage refl),
           release_leaves_none stage,
         )
     remove_owes some (removes.Hides count state) at =
-        let is = container_leaves code words some (remove (removes.Hides count state)) in
-        ((inl (is, omega arith), omega arith), λ same. hide_leaves code.size c words index count at)
+        let counter_same = container_leaves code words some (remove (removes.Hides count state)) in
+        ((inl (counter_same, omega arith), omega arith), λ same. hide_leaves code.size c words index count at)
     remove_owes some (removes.AddsChange state) at = (tt, λ same. change_none)
       where
         change_none : LeavesAll (measure {T = T} code.size c) words (then_words (remove (removes.AddsChange state)))
@@ -157,11 +158,12 @@ module _ {T : Type 0} (code : Coding T) (c : ℕ) (words : List ℕ) where
         → To new steps stage (becomes kept (recover_comes_to (at_stage stage) (index + 1)))
     comes new steps index kept stage moved enough = go (nat_lt (index + 1) c) refl moved
       where
+        -- the cases are whether a further index follows
         go : (u : Bool) → nat_lt (index + 1) c ≡ u → StaysOrMoves c n (get_or new 0 0)
             → To new steps stage (becomes kept (recover_comes_to (at_stage stage) (index + 1)))
         go true u (inl same) =
             let less : index + 1 < c = grind (arith, nat_tests) in
-            let on = behind_next c (each code.size c) index less in
+            let fewer_behind = behind_next c (each code.size c) index less in
             rw u (inl (same, omega arith), omega arith)
         go true u (inr less) = rw u (inr less, omega arith)
         go false u (inl same) = rw u (inl (same, omega arith), omega arith)
@@ -179,32 +181,31 @@ module _ {T : Type 0} (code : Coding T) (c : ℕ) (words : List ℕ) where
         within : nat_lt index c ≡ true
         within = grind (arith, nat_tests)
 
-    -- a recovery whose raise of the counter has a step less has one less itself, or the counter
-    -- has less room
+    -- a recovery whose raise of the counter has a step less has one less itself, or the counter has less room
     raised : (n' index : ℕ) (raise : raises.Raise) (a : After raises.Raise ReleaseState) → RaiseTo c n n' raise a → (new : List ℕ) → get_or new 0 0 ≡ n'
         → To new 1 (recovers.Raises index raise) (becomes room (recover_raised (at_stage (recovers.Raises index raise)) index mode a))
-    raised n' index raise (GoOn next) raise_to_holds new is = (inl (is ∙ raise_to_holds.0, (let le = raise_to_holds.1 in omega arith)), omega arith)
+    raised n' index raise (GoOn next) raise_falls new is = (inl (is ∙ raise_falls.0, omega (arith, raise_falls.1)), omega arith)
     raised n' index raise (Done states.Locked) (inl h) new is = (inl (is ∙ h, omega arith), omega arith)
     raised n' index raise (Done states.Locked) (inr h) new is = (inr (rw is h), omega arith)
-    raised n' index raise (Done states.Unlocked) raise_to_holds new is = by_mode mode raise_to_holds
+    raised n' index raise (Done states.Unlocked) raise_falls new is = by_mode mode raise_falls
       where
         -- a recovery whose raise has ended, and that locks in the mode for that alone, has a
         -- step less, or the counter has less room
         by_mode : (m : ReleaseMode) → StaysOrMoves c n n'
             → To new 1 (recovers.Raises index raise)
             (becomes room (recover_raised (at_stage (recovers.Raises index raise)) index m (Done states.Unlocked)))
-        by_mode Default raise_to_holds =
-            comes new 1 index room (recovers.Raises index raise) (subst (StaysOrMoves c n) (sym is) raise_to_holds) (omega arith)
-        by_mode LockIfLastIndex (inl raise_to_holds) = (inl (is ∙ raise_to_holds, omega arith), omega arith)
-        by_mode LockIfLastIndex (inr raise_to_holds) = (inr (rw is raise_to_holds), omega arith)
+        by_mode Default stays_or_moves =
+            comes new 1 index room (recovers.Raises index raise) (subst (StaysOrMoves c n) (sym is) stays_or_moves) (omega arith)
+        by_mode LockIfLastIndex (inl same_counter) = (inl (is ∙ same_counter, omega arith), omega arith)
+        by_mode LockIfLastIndex (inr less_room) = (inr (rw is less_room), omega arith)
 
     -- a recovery whose lock has a step less has one less itself, or the counter has less room
     lock_goes : (n' index : ℕ) (lock : locks.Lock) (a : After locks.Lock ReleaseState) → LockTo c n n' lock a → (new : List ℕ) → get_or new 0 0 ≡ n'
         → To new 1 (recovers.Locks index lock) (becomes room (recover_locked (at_stage (recovers.Locks index lock)) index a))
-    lock_goes n' index lock (GoOn next) (inl h) new is = (inl (is ∙ h.0, (let le = h.1 in omega arith)), omega arith)
+    lock_goes n' index lock (GoOn next) (inl h) new is = (inl (is ∙ h.0, omega (arith, h.1)), omega arith)
     lock_goes n' index lock (GoOn next) (inr h) new is = (inr (rw is h), omega arith)
-    lock_goes n' index lock (Done state) lock_to_holds new is =
-        comes new 1 index room (recovers.Locks index lock) (subst (StaysOrMoves c n) (sym is) lock_to_holds) (omega arith)
+    lock_goes n' index lock (Done state) stays_or_moves new is =
+        comes new 1 index room (recovers.Locks index lock) (subst (StaysOrMoves c n) (sym is) stays_or_moves) (omega arith)
 
     -- what its step comes to, whatever words that leaves
     abbrev Steps : List ℕ → RecoverStage → Type 0
@@ -258,7 +259,7 @@ module _ {T : Type 0} (code : Coding T) (c : ℕ) (words : List ℕ) where
           go true t false u = rw (t, u) (inl (same, omega arith), omega arith)
           go false t u e = rw t (comes new 1 index room (recovers.EmptiesCell index count) (inl same) (omega arith))
 
-    -- where its words leave the counter
+    -- a step of a recovery leaves the counter as its stage says
     stays : (some : 0 < length words) (stage : RecoverStage) → get_or (then_words (recover stage)) 0 0 ≡ recover_then stage n
     stays some stage = container_leaves code words some (recover stage)
 

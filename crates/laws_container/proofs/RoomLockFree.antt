@@ -189,7 +189,7 @@ module _ {T : Type 0} where
       -- measure with room if it falls by the one without
       plain_falls : (s : ℕ) → s ≤ 1 → (was : ContainerFlight T) (a : After (ContainerFlight T) (Answer T)) → is_plain was ≡ true → PlainAfter a
           → StaysOrMoves c (get_or old 0 0) (get_or new 0 0) → Falls (measure size c) s was a → Falls (room_measure size c) s was a
-      plain_falls s one was (Done answer) plain then moved falls_holds = tt
+      plain_falls s one was (Done answer) plain then moved falls = tt
       plain_falls s one was (GoOn next) plain then (inl same) (inl (e, le, pays)) =
           let a = plain_is old was plain in let b = plain_is old next then in
           inl (e, omega (arith, le, a, b), omega (arith, pays, a, b))
@@ -199,10 +199,10 @@ module _ {T : Type 0} where
       plain_falls s one was (GoOn next) plain then (inl same) (inr (le, inr pays)) =
           let a = plain_is old was plain in let b = plain_is new next then in
           inr (rw same (omega (arith, le, a, b)), inr (omega (arith, pays, a, b)))
-      plain_falls s one was (GoOn next) plain then (inr less) falls_holds =
+      plain_falls s one was (GoOn next) plain then (inr less) falls =
           let down = moves size c old new most less (flights.Container was) (flights.Container next) in
           let a = plain_is old was plain in let b = plain_is old next then in
-          let fewer = no_more falls_holds in
+          let fewer = no_more falls in
           inr (omega (arith, down, one), inl (moved_by size c old new most less, omega (arith, fewer, a, b)))
         where
           no_more : Falls (measure size c) s was (GoOn next) → call_pays c next ≤ call_pays c was
@@ -224,6 +224,7 @@ module _ {T : Type 0} (code : Coding T) (c : ℕ) (some : 1 ≤ c) (wide : 1 ≤
       → StaysOrMoves c (get_or words 0 0) (get_or (then_words code c words flight) 0 0)
   plain_moves words there (calls.Add run) at plain = go run.call.stage at.1 (container_leaves code words there (calls.Add run))
     where
+      -- at each stage of an add the counter stays or has less room
       go : (stage : AddStage) → AddAt stage
           → get_or (then_words code c words (calls.Add run)) 0 0 ≡ add_then stage (get_or words 0 0)
           → StaysOrMoves c (get_or words 0 0) (get_or (then_words code c words (calls.Add run)) 0 0)
@@ -242,7 +243,7 @@ module _ {T : Type 0} (code : Coding T) (c : ℕ) (some : 1 ≤ c) (wide : 1 ≤
   plain_moves words there (calls.Remove run) at plain = absurd (cc)
   plain_moves words there (calls.Recover run) at plain = absurd (cc)
 
-  -- where it stands by its own measure
+  -- a call that may not lock stands where its own measure needs it
   stands : (flight : ContainerFlight T) → CallAt c flight → is_plain flight ≡ true → CallStands c flight
   stands (calls.Add run) at plain = at.0
   stands (calls.Count which run) at plain = at.0
@@ -258,7 +259,7 @@ module _ {T : Type 0} (code : Coding T) (c : ℕ) (some : 1 ≤ c) (wide : 1 ≤
       FallsIn M words (words_after words (ask_of (want code flight))) (step_count (ask_of (want code flight))) (flights.Container flight)
       (as_call flights.Container (λ answer. answer) (after code state flight (old_of words (ask_of (want code flight)))))
 
-  -- each step of a call that may not lock falls by the measure with room
+  -- the measure with room falls with each step of a call that may not lock
   plain_shown : (words : List ℕ) → 0 < length words → (p : ℕ) (dead : List ℕ) (states : List (ℕ × ContainerState T)) (flight : ContainerFlight T)
       → CallAt c flight → is_plain flight ≡ true → Known p (in_states code c dead states) (flights.Container flight)
       → Shown words (state_of p states) flight
@@ -268,7 +269,7 @@ module _ {T : Type 0} (code : Coding T) (c : ℕ) (some : 1 ≤ c) (wide : 1 ≤
       (after code (state_of p states) flight (old_of words ask)) plain (after_plain code (state_of p states) flight (old_of words ask) plain)
       (plain_moves words there flight at plain) (call_falls code c words p dead states flight (stands flight at plain) known)
 
-  -- each step of any call of the container falls by the measure with room
+  -- the measure with room falls with each step of any call of the container
   step_falls : (words : List ℕ) → 0 < length words → (p : ℕ) (dead : List ℕ) (states : List (ℕ × ContainerState T)) (flight : ContainerFlight T)
       → CallAt c flight → Known p (in_states code c dead states) (flights.Container flight) → Shown words (state_of p states) flight
   step_falls words there p dead states (calls.Remove run) at known =
@@ -363,7 +364,7 @@ module _ {T : Type 0} (code : Coding T) (c : ℕ) (some : 1 ≤ c) (wide : 1 ≤
 
   -- ---- what it owes
 
-  -- each step of a call that stands at its place on a container's registry falls
+  -- the measure falls with each step of a call that stands at its place on a container's registry
   falls : (words : List ℕ) (p : ℕ) (kept : Registry T) (start : Start T) (flight : Flight T) → AtAny code c start flight → Kept kept → Known p kept flight
       → 0 < length words → StepFallsBy M code words p kept flight
   falls words p (registries.Container dead states) (starts.Container start) (flights.Container flight) at held known there =
@@ -383,8 +384,7 @@ module _ {T : Type 0} (code : Coding T) (c : ℕ) (some : 1 ≤ c) (wide : 1 ≤
       → AtAny code c start flight → Kept kept → (step_of code words beside p start flight old kept).after ≡ goes_of code p flight old kept
   told = grind arith
 
-  -- after a step of such a call the registry is a container's, and each party that had a state
-  -- has one
+  -- after a step of such a call the registry is a container's, and each party that had a state has one
   stays : (words : List ℕ) (beside : Option (ℕ × ℕ)) (p : ℕ) (start : Start T) (flight : Flight T) (old : ℕ) (kept : Registry T)
       → AtAny code c start flight → Kept kept
       → Kept (step_of code words beside p start flight old kept).kept
@@ -414,8 +414,7 @@ module _ {T : Type 0} (code : Coding T) (c : ℕ) (some : 1 ≤ c) (wide : 1 ≤
       → AtAny code c start flight × ((p : ℕ) → Kept (kept_after_begin code c start p kept))
   begins = grind (arith, first_at)
 
-  -- a call has at most so many steps left as the counter's room allows for, and two places at
-  -- most
+  -- a call has at most so many steps left as the counter's room allows for, and two places at most
   most : (words : List ℕ) (start : Start T) (flight : Flight T) → AtAny code c start flight
       → (room_left code.size c words flight ≤ (2 ^ 64 + 1) * (owns code.size c + 1)) × (places c flight ≤ 2)
   most words start flight at =

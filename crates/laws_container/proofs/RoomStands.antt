@@ -187,6 +187,7 @@ module _ {T : Type 0} (code : Coding T) (c : ℕ) where
       go false = tt
   first_at (container_starts.Replace index value owner) = (refl, go (nat_lt (place_of c index) c))
     where
+      -- the cases are whether the handle's index is within the capacity
       go : (t : Bool) → ReplaceStands (cond t replaces.LoadsCell replaces.Refuses)
       go true = tt
       go false = tt

@@ -30,8 +30,7 @@ module _ {T : Type 0} (scene : Scene T) (inv : Inv scene) (start : ContainerStar
     abbrev finish : List (Event T)
     finish = Finished p (Container start) answer ∷ []
 
-    -- a call that ends so, in a step that leaves cells and elements, keeps what holds of the
-    -- machine
+    -- a call that ends so, in a step that leaves cells and elements, keeps what holds of the machine
     pub ends_there : set_effects.Quiet (Finished p (Container start) answer ∷ [])
         → ((i : ℕ) (b : Bool) → announced_after i b (Finished p (Container start) answer) ≡ b)
         → AnswersBy scene.terms.by (IsWorn scene.terms.by words') c events (Finished p (Container start) answer)

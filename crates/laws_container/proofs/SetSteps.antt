@@ -92,8 +92,7 @@ module _ {T : Type 0} (scene : Scene T) (inv : Inv scene) (start : ContainerStar
       left_on : (j : ℕ) → left_of j events ≡ true → left_of j (events ++ free) ≡ true
       left_on j was = let left = fold-append (left_after j) true events free in grind arith
 
-      -- where another party may write, and nothing is left, nothing is left after the index is
-      -- freed
+      -- where another party may write, and nothing is left, nothing is left after the index is freed
       spared : WellFormed (after scene words' y free) → (q : ℕ) → q ≢ p → (j o : ℕ)
           → is_gone scene.terms.by o events ≡ false → IsWriter q j o events → left_of j events ≡ false
           → left_of j (events ++ free) ≡ false

@@ -36,40 +36,40 @@ module _ {T : Type 0} where
     fold_stays (e ∷ es) h a = ap (λ b. fold f b es) (stays e h.0 a) ∙ fold_stays es h.1 a
 
   filled_stays : (i : ℕ) (e : Event T) → Silent e → (o : Option ℕ) → filled_after i o e ≡ o
-  filled_stays i e silent_holds o = grind arith
+  filled_stays i e silent o = grind arith
 
   holder_stays : (i : ℕ) (e : Event T) → Silent e → (o : Option ℕ) → holder_after i o e ≡ o
-  holder_stays i e silent_holds o = grind arith
+  holder_stays i e silent o = grind arith
 
   locked_stays : (e : Event T) → Silent e → (b : Bool) → locked_after b e ≡ b
-  locked_stays e silent_holds b = grind arith
+  locked_stays e silent b = grind arith
 
   dead_stays : (owner : ℕ) (e : Event T) → Silent e → (b : Bool) → dead_after owner b e ≡ b
-  dead_stays o e silent_holds b = grind arith
+  dead_stays o e silent b = grind arith
 
   contents_stay : (i : ℕ) (e : Event T) → Silent e → (o : Option T) → contents_after i o e ≡ o
-  contents_stay i e silent_holds o = grind arith
+  contents_stay i e silent o = grind arith
 
   left_stays : (i : ℕ) (e : Event T) → Silent e → (b : Bool) → left_after i b e ≡ b
-  left_stays i e silent_holds b = grind arith
+  left_stays i e silent b = grind arith
 
   settled_stays : (i : ℕ) (e : Event T) → Silent e → (o : Option ℕ) → settled_after i o e ≡ o
-  settled_stays i e silent_holds o = grind arith
+  settled_stays i e silent o = grind arith
 
   right_stays : (i : ℕ) (e : Event T) → Silent e → (r : Right) → right_after i r e ≡ r
-  right_stays i e silent_holds r = grind arith
+  right_stays i e silent r = grind arith
 
   announced_stays : (i : ℕ) (e : Event T) → Silent e → (b : Bool) → announced_after i b e ≡ b
-  announced_stays i e silent_holds b = grind arith
+  announced_stays i e silent b = grind arith
 
   does_right : (c : ℕ) (earlier : List (Event T)) (e : Event T) → Silent e → SetDoes c earlier e
-  does_right c earlier e silent_holds = grind arith
+  does_right c earlier e silent = grind arith
 
   holds_right : (earlier : List (Event T)) (e : Event T) → Silent e → HoldsRight earlier e
-  holds_right earlier e silent_holds = grind arith
+  holds_right earlier e silent = grind arith
 
   answers_right : (by : GoneBy) (worn : Type 0) (c : ℕ) (earlier : List (Event T)) (e : Event T) → Silent e → AnswersBy by worn c earlier e
-  answers_right by worn c earlier e silent_holds = grind arith
+  answers_right by worn c earlier e silent = grind arith
 
   all_right : (P : List (Event T) → Event T → Type 0)
       → ((earlier : List (Event T)) (e : Event T) → Silent e → P earlier e) → (earlier es : List (Event T))
@@ -84,7 +84,7 @@ module _ {T : Type 0} (scene : Scene T) (inv : Inv scene) (words' : List ℕ) (s
     (y : Party T) (es : List (Event T)) (silent : AllByRecursion Silent es) (own : AreOwn scene.party es) where
   open scene use {capacity as c, events as events}
 
-  -- of the set
+  -- over such events the set stays as it was
   pub silent_set : set_invariant.Does (of_set scene) words' es
   silent_set =
       quietly (of_set scene) (inv_of_set scene inv) words' es
@@ -93,7 +93,7 @@ module _ {T : Type 0} (scene : Scene T) (inv : Inv scene) (words' : List ℕ) (s
       (all_right (AnswersBy scene.terms.by (IsWorn scene.terms.by words') c)
       (answers_right scene.terms.by (IsWorn scene.terms.by words') c) events es silent)
 
-  -- of the elements
+  -- over such events the elements stay as they were
   pub silent_changes : (well_formed : WellFormed (after scene words' y es) → WellFormed (before scene))
       → OwesStill scene inv words' y es well_formed → Changes scene words' y es
   silent_changes well_formed still =
@@ -102,7 +102,7 @@ module _ {T : Type 0} (scene : Scene T) (inv : Inv scene) (words' : List ℕ) (s
       (λ i. fold_stays (announced_after i) (announced_stays i) es silent) (λ i. fold_stays (left_after i) (left_stays i) es silent))
       still
 
-  -- in a call that is no look
+  -- a step of a call that is no look, which writes such events, shows what it has to
   pub silently : (start : ContainerStart T) (flight : ContainerFlight T) (none : NoLook flight) (here : IsHere scene start flight)
       → (well_formed : WellFormed (after scene words' y es) → WellFormed (before scene))
       → OwesStill scene inv words' y es well_formed → AreAllRight scene words' y es

@@ -119,7 +119,7 @@ pub record MayGoOn {T : Type 0} (terms : Terms) (t : Trace T) : Type 0 where
 module _ {T : Type 0} where
   few_room : (by : GoneBy) (c : ℕ) (words dead : List ℕ) (events : List (Event T)) (turns : ℕ)
       → set.Good by c words dead events turns → turns < 2 ^ 64 - 2 → set.HasRoom by words
-  few_room by c words dead events turns good_holds small = grind arith
+  few_room by c words dead events turns good small = grind arith
 
   pub may_go_on : (terms : Terms) (code : Coding T) (c : ℕ) (t : Trace T) → frame.Sound (family_by terms code c) t
       → t.world.turns < 2 ^ 64 - 2 → MayGoOn terms t
@@ -232,20 +232,19 @@ module _ {T : Type 0} (shown : Shown T) (terms : Terms) (code : Coding T) (c : �
     span_begun : (start : ContainerStart T) → span_of p (t.events ++ Begun p (Container start) ∷ []) ≡ Open (Container start) []
     span_begun start = span_of-own p t.events (Begun p (Container start) ∷ []) (refl, tt)
 
-    -- a call that begins on the container comes to a sound machine, with its begin as the one
-    -- event
+    -- a call that begins on the container comes to a sound machine, with its begin as the one event
     begins_now : (start : ContainerStart T) → names_owner start ≡ true → MayRecover terms.by t.events start
         → flight_of (doing_of (party_of p t.world.latest)) ≡ None
         → frame.Comes (family_by terms code c) t p (kept_after_begin code c (Container start) p kept_now) s.state.words
         (first_party c t.world.changes start) (Begun p (Container start) ∷ []) t.world.changes
     begins_now start named may free =
-        let y : Party T = first_party c t.world.changes start in
-        let scene : Scene T = scene_of p y t.world.changes in
+        let party_after : Party T = first_party c t.world.changes start in
+        let scene : Scene T = scene_of p party_after t.world.changes in
         let shut : IsShut (span_of p t.events) =
         frame.shut (family_by terms code c) s.state p (party_of p t.world.latest) (span_of p t.events) free (s.inv.calls p) in
         let b = shown.begins scene s.holds.good s.holds.elements free shut start named may in
         let states' : List (ℕ × ContainerState T) = states_at_begin code c start p s.state.states in
-        let shows : Shows scene s.state.words states' (span_of p t.events) y (Begun p (Container start) ∷ []) t.world.changes =
+        let shows : Shows scene s.state.words states' (span_of p t.events) party_after (Begun p (Container start) ∷ []) t.world.changes =
         record {
           does = b.does;
           stands = (shut, tt);
@@ -263,13 +262,13 @@ module _ {T : Type 0} (shown : Shown T) (terms : Terms) (code : Coding T) (c : �
         }
         in
         record {
-          state = then_is scene s.state.words states' y (Begun p (Container start) ∷ []);
+          state = then_is scene s.state.words states' party_after (Begun p (Container start) ∷ []);
           fit = record { kept = refl; words = refl };
           holds =
-              holds_more scene s.state.words states' (span_of p t.events) y (Begun p (Container start) ∷ [])
+              holds_more scene s.state.words states' (span_of p t.events) party_after (Begun p (Container start) ∷ [])
               t.world.changes shows s.state state_is s.holds s.inv;
           owes =
-              owes scene s.state.words states' (span_of p t.events) y (Begun p (Container start) ∷ []) t.world.changes
+              owes scene s.state.words states' (span_of p t.events) party_after (Begun p (Container start) ∷ []) t.world.changes
               shows s.state state_is s.holds s.inv refl;
         }
 
@@ -305,9 +304,9 @@ module _ {T : Type 0} (shown : Shown T) (terms : Terms) (code : Coding T) (c : �
   -- the death of an owner who may die comes to a sound machine
   death_comes : (o : ℕ) → MayDie t.world o → frame.ComesByDeath (family_by terms code c) t s o
   death_comes o may =
-      let g = s.holds.good in
-      let alive : is_dead o t.events ≡ false = sym (g.died o) ∙ subst (λ kept. families.is_dead kept o ≡ false) s.fit.kept may.lives in
-      let d = shown.dies terms code c s.state.words s.state.dead s.state.states t.world.latest t.events t.world.turns o g s.holds.elements alive in
+      let set_good = s.holds.good in
+      let alive : is_dead o t.events ≡ false = sym (set_good.died o) ∙ subst (λ kept. families.is_dead kept o ≡ false) s.fit.kept may.lives in
+      let d = shown.dies terms code c s.state.words s.state.dead s.state.states t.world.latest t.events t.world.turns o set_good s.holds.elements alive in
       record {
         state = died_now o;
         fit = record { kept = ap (λ kept. kept_after_death kept o) s.fit.kept; words = s.fit.words };

@@ -251,7 +251,7 @@ module _ {T : Type 0} (scene : Scene T) where
   -- ---- the states of the parties, where the call is no look
 
   no_look : (flight : ContainerFlight T) → NoLook flight → is_looking (Some (flights.Container flight)) ≡ false
-  no_look flight no_look_holds = grind arith
+  no_look flight is_no_look = grind arith
 
   module _ (inv : Inv scene) (start : ContainerStart T) (flight : ContainerFlight T) (none : NoLook flight) (here : IsHere start flight) where
     pub is_idle_now : is_looking (flight_of (doing_of (party_of p latest))) ≡ false

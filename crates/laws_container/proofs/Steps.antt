@@ -40,8 +40,7 @@ module _ {T : Type 0} (scene : Scene T) (inv : Inv scene) (start : ContainerStar
 
   -- ---- it changes nothing, and writes nothing
 
-  -- a step that leaves the words and writes nothing keeps what holds of the machine, if what is
-  -- owed is owed still
+  -- a step that leaves the words and writes nothing keeps what holds of the machine, if what is owed is owed still
   pub loads : (words' : List ℕ) → words' ≡ ws → (well_formed : WellFormedBefore words' [])
       → OwesStill scene inv words' y [] well_formed → Does scene words' scene.states y []
   loads words' same well_formed still =
@@ -54,8 +53,7 @@ module _ {T : Type 0} (scene : Scene T) (inv : Inv scene) (start : ContainerStar
 
   -- ---- a writer stores a word
 
-  -- a store of the next word of a value by the one who may write there keeps what holds of the
-  -- machine
+  -- a store of the next word of a value by the one who may write there keeps what holds of the machine
   pub stores_word :
       (words' : List ℕ) (i : ℕ) (below : i < c) (k : ℕ) (ks : k < code.size) (value : T) (owner : ℕ)
       → (WellFormed (before scene) → IsWriter p i owner events)
@@ -190,8 +188,7 @@ module _ {T : Type 0} (scene : Scene T) (inv : Inv scene) (start : ContainerStar
       miscounted : IsCounted scene inv words' y [] well_formed i below new tt (Container start) (wrote_of p events) here.span owed
       miscounted = grind (arith, fold-append, left_after)
 
-      -- in an ill-formed run a number that is counted up with nothing written keeps what holds
-      -- of the machine
+      -- in an ill-formed run a number that is counted up with nothing written keeps what holds of the machine
       pub misplaces : Does scene words' scene.states y []
       misplaces =
           does_with scene inv start flight none here words' y []
@@ -217,7 +214,7 @@ module _ {T : Type 0} (scene : Scene T) (inv : Inv scene) (start : ContainerStar
     right_end : AreAllRight scene words' y finish
     right_end = grind arith
 
-    -- and has counted a change
+    -- an end that counts a change does what it should
     pub ends_counted : words' ≡ changed_words
         → (WellFormed (before scene) → (i : ℕ)
         → announced_after i (announced_of i events) (Finished p (Container start) answer) ≡ true
@@ -231,7 +228,7 @@ module _ {T : Type 0} (scene : Scene T) (inv : Inv scene) (start : ContainerStar
         (λ holds i said. says (well_formed holds) i (sym (fold-append (announced_after i) false events finish) ∙ said)))
         set_does right_end
 
-    -- or has changed nothing
+    -- an end that changes no word does what it should
     pub ends_calmly : words' ≡ ws
         → ((i : ℕ) (b : Bool) → announced_after i b (Finished p (Container start) answer) ≡ b)
         → OwesStill scene inv words' y finish well_formed → Does scene words' scene.states y finish

@@ -39,6 +39,7 @@ module _ {T : Type 0} where
   flight_owes (calls.Recover run) = true
   flight_owes flight = false
 
+  -- the call of a party, if one is under way, owes the changes a raise
   abbrev pub owes : Option (Flight T) → Bool
   owes (Some (flights.Container flight)) = flight_owes flight
   owes flight = false
@@ -97,15 +98,15 @@ module _ {T : Type 0} (code : Coding T) (c : ℕ) where
     pub lost : WellFormed m' → (i o : ℕ) → i < c → is_gone m.terms.by o m.events ≡ true → filled_of i m.events ≡ Some o
         → (count_in m' i ≡ count_in m i) ⊎ ((count_in m i % 2 ≡ 1) × (count_in m' i % 2 ≡ 0))
 
-  -- and to another party
+  -- what the turn leaves another party
   pub record Leaves (q : ℕ) (m m' : Now T) : Type 0 where
-    -- where it writes under an even number
+    -- under an even number, which it writes under, number and words stay
     pub under : WellFormed m' → (i o : ℕ) → i < c → is_gone m.terms.by o m.events ≡ false → IsWriter q i o m.events → count_in m i % 2 ≡ 0
         → (count_in m' i ≡ count_in m i) × ((j : ℕ) → j < code.size → datum_in m' i j ≡ datum_in m i j)
-    -- and where it is about to
+    -- its number stays, or is made even, where it is about to write
     pub over : WellFormed m' → (i o : ℕ) → i < c → is_gone m.terms.by o m.events ≡ false → IsWriter q i o m.events
         → (count_in m' i ≡ count_in m i) ⊎ (count_in m' i % 2 ≡ 0)
-    -- and where it has placed a value, that stands
+    -- a value that it has placed stands
     pub placed : WellFormed m' → (i o : ℕ) → i < c → is_gone m.terms.by o m.events ≡ false → IsWriter q i o m.events
         → left_of i m.events ≡ false → is_some (contents_of i m.events) ≡ true
         → (left_of i m'.events ≡ false) × (is_some (contents_of i m'.events) ≡ true)

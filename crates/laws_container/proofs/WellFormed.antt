@@ -21,7 +21,7 @@ module _ {T : Type 0} where
       → IsWellFormedRun t → IsWellFormedSoFar terms t.world.latest t.events
   well_formed_on = grind arith
 
-  -- where owners die
+  -- where owners die a well-formed run is well-formed so far
   pub well_formed_so_far : (t : Trace T) → IsWellFormedRun t → IsWellFormedSoFar dying t.world.latest t.events
   well_formed_so_far t well_formed_run = well_formed_on dying t refl tt well_formed_run
 
@@ -44,12 +44,12 @@ module _ {T : Type 0} where
 
     -- a turn of a party of which this is so
     pub well_formed_before : (IsWellFormedThen → StandsWellFormed p (party_of p latest) events) → IsWellFormedThen → IsWellFormedSoFar terms latest events
-    well_formed_before mine is_well_formed_then_holds =
+    well_formed_before mine well_formed_then =
         record {
-          kept = is_well_formed_then_holds.kept;
-          calm = calm_less terms.by events es is_well_formed_then_holds.calm;
-          replaced = Each-less ReplacesRight events es is_well_formed_then_holds.replaced;
+          kept = well_formed_then.kept;
+          calm = calm_less terms.by events es well_formed_then.calm;
+          replaced = Each-less ReplacesRight events es well_formed_then.replaced;
           replaces =
-              λ q. ⊎_elim (λ e. subst (λ n. StandsWellFormed n (party_of n latest) events) (sym e) (mine is_well_formed_then_holds))
-              (λ ne. others_less is_well_formed_then_holds q ne) (cases_eq q p);
+              λ q. ⊎_elim (λ e. subst (λ n. StandsWellFormed n (party_of n latest) events) (sym e) (mine well_formed_then))
+              (λ ne. others_less well_formed_then q ne) (cases_eq q p);
         }

@@ -14,10 +14,10 @@ abbrev pub stores_to : ℕ → ℕ → Ask
 stores_to word new = record { word = word; op = Store new }
 
 pub even_is : (n : ℕ) → is_even n ≡ true → n % 2 ≡ 0
-even_is n is_even_true = grind (arith, nat_tests)
+even_is n even = grind (arith, nat_tests)
 
 pub odd_is : (n : ℕ) → is_even n ≡ false → n % 2 ≡ 1
-odd_is n is_even_false = grind arith
+odd_is n odd = grind arith
 
 module _ {T : Type 0} (scene : Scene T) (inv : Inv scene) where
   open scene use {coding as code, capacity as c}

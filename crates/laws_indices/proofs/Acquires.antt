@@ -68,13 +68,12 @@ module _ {T : Type 0} (scene : Scene T IndexSet) (inv : Inv outline scene) where
     -- as many indices are in use as there are, without this call, and the set is not locked
     out_of : borrowed (head_of ws) ≢ locked → borrowed (head_of ws) ≡ c → (c + 1 ≤ in_use (tally_of events)) × (is_locked events ≡ false)
     out_of unlocked full =
-        let is = counts_right c ws hs (busy scene) g unlocked in
-        let number = is.0 in
+        let count_right = counts_right c ws hs (busy scene) g unlocked in
+        let number = count_right.0 in
         let all = all_in_use scene (acquire_at c stage) here in
         (rw inv.holds.tally (omega arith), inv.holds.lock ∙ open_says (head_of ws) unlocked)
 
-    -- an acquire that has found a head fails if that is locked or counts the capacity, and else
-    -- goes on from it
+    -- an acquire that has found a head fails if that is locked or counts the capacity, and else goes on from it
     pub sees : Does stage ask back (acquire_sees (call_at stage) (head_of ws))
     sees =
         by_test (Does stage ask back) (says_locked (head_of ws)) (Done (Err failures.IsLocked)) _
@@ -139,8 +138,7 @@ module _ {T : Type 0} (scene : Scene T IndexSet) (inv : Inv outline scene) where
           → Does exchanging exchange false (GoOn (at_acquire (call_at exchanging) stage))
       goes_to_claim = grind (arith, goes_on, false, good_taken, lock_same)
 
-      -- the exchange of the head leads to the claim of the index that it proposed, or to a scan
-      -- from the first on
+      -- the exchange of the head leads to the claim of the index that it proposed, or to a scan from the first on
       exchange_succeeds : Does exchanging exchange false (GoOn (at_acquire (call_at exchanging) (first_claim c head)))
       exchange_succeeds =
           by_test (λ stage. Does exchanging exchange false (GoOn (at_acquire (call_at exchanging) stage)))
@@ -151,21 +149,21 @@ module _ {T : Type 0} (scene : Scene T IndexSet) (inv : Inv outline scene) where
           goes_to_claim (acquires.Scans 0) refl (omega arith) (omega arith)
           (inl (λ i below. absurd (omega arith), omega arith)))
 
-    -- the step in which an acquire exchanges the head leads to its claim, or back to the head
-    -- that it finds
+    -- the step in which an acquire exchanges the head leads to its claim, or back to the head that it finds
     pub exchanges : IsHere scene (acquire_at c exchanging) → StepOf scene Acquire (acquire_at c exchanging)
     exchanges here = go (head_of ws == head) refl
       where
         -- a head that is as it was found is exchanged, and another one is looked at anew
         go : (b : Bool) → (head_of ws == head) ≡ b → StepOf scene Acquire (acquire_at c exchanging)
         go true t =
-            let is : head_of ws ≡ head = grind (arith, nat_tests) in
+            let same_head : head_of ws ≡ head = grind (arith, nat_tests) in
             let goes : after {T = T} (acquire_at c exchanging) (head_of ws) ≡ GoOn (acquire_at c (first_claim c head)) = rw t refl in
             let back : goes_back (acquire_at c exchanging) (head_of ws) ≡ false = rw t refl in
-            let new : words_after ws (Some exchange) ≡ set ws 0 (head_taken (head_of ws) next) = rw t (ap (λ h. set ws 0 (head_taken h next)) (sym is)) in
+            let new : words_after ws (Some exchange) ≡ set ws 0 (head_taken (head_of ws) next) =
+            rw t (ap (λ h. set ws 0 (head_taken h next)) (sym same_head)) in
             subst (λ a. Comes scene Acquire (acquire_at c exchanging) (Some exchange) (goes_back (acquire_at c exchanging) (head_of ws)) a) (sym goes)
             (subst (λ b. Comes scene Acquire (acquire_at c exchanging) (Some exchange) b (GoOn (acquire_at c (first_claim c head))))
-            (sym back) (exchange_succeeds is new))
+            (sym back) (exchange_succeeds same_head new))
         go false t =
             let other : head_of ws ≢ head = grind (arith, nat_tests) in
             let more : backs + since + 1 ≤ changes = ⊎_elim (λ k. absurd (other k.0)) (λ k. k) knows in
@@ -199,7 +197,7 @@ module _ {T : Type 0} (scene : Scene T IndexSet) (inv : Inv outline scene) where
     claim_succeeds clear low =
         claims_index scene inv i (acquire_at c stage) (Some claim) below
         (was_free c ws hs i below (busy scene) clear g) (unlocked_for c ws hs (busy scene) g at_work)
-        (λ busy' e. let is : busy scene ≡ busy' + 1 = omega arith in claims c ws hs i below p busy' clear (subst (λ n. Good c ws hs n) is g))
+        (λ busy' e. let busy_is : busy scene ≡ busy' + 1 = omega arith in claims c ws hs i below p busy' clear (subst (λ n. Good c ws hs n) busy_is g))
         refl refl refl head_same low paid
 
     -- it stood
@@ -210,11 +208,10 @@ module _ {T : Type 0} (scene : Scene T IndexSet) (inv : Inv outline scene) where
         → Does stage claim back (GoOn (at_acquire (call_at stage) stage'))
     tries_on stood back stage' heavy' at low knows =
         goes_on scene inv Acquire (acquire_at c stage) (acquire_at c stage') (Some claim) back
-        (λ busy' e. let is : busy scene ≡ busy' = omega arith in claims_again c ws hs i below busy' stood (subst (λ n. Good c ws hs n) is g))
+        (λ busy' e. let busy_is : busy scene ≡ busy' = omega arith in claims_again c ws hs i below busy' stood (subst (λ n. Good c ws hs n) busy_is g))
         refl refl refl (ap says_locked head_same) tt low (refl, at) knows
 
-  -- the claim of the proposed index ends the acquire, or leads to a scan from the first on
-  -- where that flag stands
+  -- the claim of the proposed index ends the acquire, or leads to a scan from the first on where that flag stands
   claims_proposed : (i : ℕ) → i < c → IsHere scene (acquire_at c (acquires.Claims i))
       → IsPaid since changes backs → steps ≤ 3 + backs * max 2 c
       → StepOf scene Acquire (acquire_at c (acquires.Claims i))
@@ -262,8 +259,7 @@ module _ {T : Type 0} (scene : Scene T IndexSet) (inv : Inv outline scene) where
         tries_on scanning i below here refl scan_paid stood true (acquires.Scans 0) refl (omega arith)
         (omega arith) (inl (λ j less. absurd (omega arith), omega arith))
 
-    -- the step in which an acquire scans a flag leads to its end, to the next flag, or back to
-    -- the first one
+    -- the step in which an acquire scans a flag leads to its end, to the next flag, or back to the first one
     pub scans : StepOf scene Acquire (acquire_at c scanning)
     scans = go (has_flag (get_or ws (flag_word c i) 0) i) refl (nat_lt (i + 1) c) refl
       where
@@ -298,8 +294,7 @@ module _ {T : Type 0} (scene : Scene T IndexSet) (inv : Inv outline scene) where
 
   -- ---- any step
 
-  -- any step of an acquire that stands at a stage, and knows what the stage tells, shows what
-  -- it has to
+  -- any step of an acquire that stands at a stage, and knows what the stage tells, shows what it has to
   pub acquire_step : (stage : AcquireStage) → IsHere scene (acquire_at c stage) → AcquireAt c stage
       → AcquireKnows c ws since changes backs stage → steps ≤ acquire_number c stage backs
       → StepOf scene Acquire (acquire_at c stage)

@@ -103,7 +103,7 @@ module _ (c : ℕ) where
 
   -- ---- what holds of both
 
-  -- so many calls take an index or give one back
+  -- so many calls are taking an index or giving one back
   pub record Good (words : List ℕ) (holders : List (Option ℕ)) (busy : ℕ) : Type 0 where
     pub some : 1 ≤ c
     pub few : c < locked

@@ -171,10 +171,11 @@ module _ {T : Type 0} where
         → (q : ℕ) (x : Party T) → party_of q latest' ≡ Some x → P q x
     of_each P mine theirs q x found = ⊎_elim here there (cases_eq q p)
       where
+        -- the party of the turn has the call that was put for it
         here : q ≡ p → P q x
         here e =
-            let at : party_of p latest' ≡ Some x = subst (λ n. party_of n latest' ≡ Some x) e found in
-            let both : Some y ≡ Some x = sym (party_put_same p y latest) ∙ at in
+            let found_there : party_of p latest' ≡ Some x = subst (λ n. party_of n latest' ≡ Some x) e found in
+            let both : Some y ≡ Some x = sym (party_put_same p y latest) ∙ found_there in
             let same : y ≡ x = cc in
             subst (λ n. P n x) (sym e) (subst (P p) same mine)
 

@@ -69,6 +69,7 @@ takes (ReleaseLock run) = 0
 takes (BorrowedIndices run) = 0
 takes (IsLocked run) = 0
 
+-- a release gives its index back once it has cleared the flag
 abbrev pub gives : IndexFlight → ℕ
 gives (Acquire run) = 0
 gives (ReleaseDefault run) = release_counts run.call.stage
@@ -161,7 +162,7 @@ At c holders p start flight = ⊥
 abbrev pub IsPaid : ℕ → ℕ → ℕ → Type 0
 IsPaid since changes backs = backs + since ≤ changes
 
--- and so is one more, unless this is so
+-- a turn back more is paid too, unless this is so
 abbrev pub PaidUnless : Type 0 → ℕ → ℕ → ℕ → Type 0
 PaidUnless P since changes backs = (P × IsPaid since changes backs) ⊎ (backs + since + 1 ≤ changes)
 
@@ -182,8 +183,7 @@ AcquireKnows c words since changes backs (acquires.Claims index) =
 AcquireKnows c words since changes backs (acquires.Scans index) =
     PaidUnless (AllClaimed c words index) since changes backs
 
--- a release that may lock knows that its turns back are paid, and one more if the head has
--- moved
+-- a release that may lock knows that its turns back are paid, and one more if the head has moved
 abbrev pub LockKnows : List ℕ → ℕ → ℕ → ℕ → ReleaseStage → Type 0
 LockKnows words since changes backs releases.ClearsFlag = IsPaid since changes backs
 LockKnows words since changes backs releases.LoadsHead = IsPaid since changes backs

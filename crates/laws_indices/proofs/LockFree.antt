@@ -115,6 +115,7 @@ module _ (c : ℕ) (old new : List ℕ) (same : head_of new ≡ head_of old) (fe
   acquire_fewer (acquires.ExchangesHead head next) = rw same (omega arith)
   acquire_fewer (acquires.Claims i) = go (is_claimed c new i) refl
     where
+      -- the cases are whether the index is claimed
       go : (t : Bool) → is_claimed c new i ≡ t → cond t (scans c new 0 + 1) 0 ≤ acquire_left c old (acquires.Claims i)
       go true t =
           let stood = fewer i t in
@@ -132,7 +133,7 @@ module _ (c : ℕ) (old new : List ℕ) (same : head_of new ≡ head_of old) (fe
   leaves (flights.Indices (calls.IsLocked run)) = omega arith
   leaves flight = omega arith
 
--- ---- each step falls
+-- ---- the measure falls with each step
 
 module _ {T : Type 0} (code : Coding T) (c : ℕ) (words : List ℕ) where
   abbrev M : WordMeasure T
@@ -156,6 +157,7 @@ module _ {T : Type 0} (code : Coding T) (c : ℕ) (words : List ℕ) where
       → FallsIn M words new 1 was (as_acquire (acquire_sees (record { capacity = c; stage = stage }) now))
   sees_falls new was stage same enough one = go (says_locked now) refl (borrowed now == c) refl (nat_lt (proposed now) c) refl
     where
+      -- the cases are whether the head is locked, whether all indices are borrowed and whether the head proposes an index within the capacity
       go : (t : Bool) → says_locked now ≡ t → (u : Bool) → (borrowed now == c) ≡ u → (v : Bool) → nat_lt (proposed now) c ≡ v
           → FallsIn M words new 1 was (as_acquire (acquire_sees (record { capacity = c; stage = stage }) now))
       go true t u e v f = rw t tt
@@ -181,6 +183,7 @@ module _ {T : Type 0} (code : Coding T) (c : ℕ) (words : List ℕ) where
       stage : AcquireStage
       stage = acquires.ExchangesHead head next
 
+      -- the cases are whether the head is still what was read and whether the head proposes an index within the capacity
       go : (t : Bool) → (now == head) ≡ t → (u : Bool) → nat_lt (proposed head) c ≡ u → Shown (acquire_at c stage)
       go true t true u = let most = claims_most some (set words 0 (head_taken head next)) (proposed head) in
           rw (t, u) (inr (rw t (omega arith), inr (omega arith)))
@@ -199,7 +202,7 @@ module _ {T : Type 0} (code : Coding T) (c : ℕ) (words : List ℕ) where
 
     -- after a claim of a flag that stood no flag more stands
     tried_fewer : (j : ℕ) → is_claimed c tried j ≡ true → is_claimed c words j ≡ true
-    tried_fewer j is_claimed_true = ⊎_elim here there (cases_eq j i)
+    tried_fewer j claimed = ⊎_elim here there (cases_eq j i)
       where
         here : j ≡ i → is_claimed c words j ≡ true
         here e = subst (λ k. is_claimed c words k ≡ true) (sym e) stood
@@ -208,7 +211,7 @@ module _ {T : Type 0} (code : Coding T) (c : ℕ) (words : List ℕ) where
         there ne =
             let wide = g.wide in
             let within = flag_within c i below in
-            sym (claim_leaves c words i (omega arith) j ne) ∙ is_claimed_true
+            sym (claim_leaves c words i (omega arith) j ne) ∙ claimed
 
     claims_fall : Shown (acquire_at c (acquires.Claims i))
     claims_fall =
@@ -219,13 +222,14 @@ module _ {T : Type 0} (code : Coding T) (c : ℕ) (words : List ℕ) where
       one_on : (next here : ℕ) → next + 1 ≤ here → here ≤ c - 1 → min (c - 1) next + 1 ≤ min (c - 1) here
       one_on = grind arith
 
-      -- each step of a scan falls, while a flag is free
+      -- the measure falls with each step of a scan, while a flag is free
       scans_fall : Shown (acquire_at c (acquires.Scans i))
       scans_fall = go (nat_lt (i + 1) c) refl
         where
           most : scan c words i ≤ c - 1
           most = scan_few c words free i below
 
+          -- the cases are whether a further index follows
           go : (t : Bool) → nat_lt (i + 1) c ≡ t → Shown (acquire_at c (acquires.Scans i))
           go true t =
               let more : i + 1 < c = grind (arith, nat_tests) in
@@ -238,27 +242,28 @@ module _ {T : Type 0} (code : Coding T) (c : ℕ) (words : List ℕ) where
               let on = one_on (scan c words 0) (scan c words i) (scan_wraps c words free i below last stood) most in
               rw (stood, t) (inr (omega arith, inl (leaves c words tried tried_head tried_fewer, omega arith)))
 
-  -- each step of an acquire falls
+  -- the measure falls with each step of an acquire
   acquire_falls : (holders : List (Option ℕ)) (busy_calls : ℕ) → Good c words holders busy_calls → (stage : AcquireStage) → AcquireAt c stage
       → counts (acquire_at c stage) ≤ busy_calls → Shown (acquire_at c stage)
-  acquire_falls holders busy_calls good_holds acquires.LoadsHead at heavy =
+  acquire_falls holders busy_calls good acquires.LoadsHead at heavy =
       sees_falls _ (flights.Indices (acquire_at c acquires.LoadsHead)) acquires.LoadsHead (load_leaves words 0)
       (omega arith) (omega arith)
-  acquire_falls holders busy_calls good_holds (acquires.LoadsNext head) at heavy = go (now == head) refl
+  acquire_falls holders busy_calls good (acquires.LoadsNext head) at heavy = go (now == head) refl
     where
+      -- the cases are whether the head is still what was read
       go : (t : Bool) → (now == head) ≡ t → Shown (acquire_at c (acquires.LoadsNext head))
       go true t = inl (load_leaves words (next_word (proposed head)), rw t (omega arith), omega arith)
       go false t = inl (load_leaves words (next_word (proposed head)), rw t (omega arith), omega arith)
-  acquire_falls holders busy_calls good_holds (acquires.ExchangesHead head next) at heavy = exchange_falls good_holds.some head next
-  acquire_falls holders busy_calls good_holds (acquires.Claims i) at heavy = go (is_claimed c words i) refl
+  acquire_falls holders busy_calls good (acquires.ExchangesHead head next) at heavy = exchange_falls good.some head next
+  acquire_falls holders busy_calls good (acquires.Claims i) at heavy = go (is_claimed c words i) refl
     where
       go : (t : Bool) → is_claimed c words i ≡ t → Shown (acquire_at c (acquires.Claims i))
-      go true t = claims_fall holders busy_calls good_holds i at t
+      go true t = claims_fall holders busy_calls good i at t
       go false t = rw t tt
-  acquire_falls holders busy_calls good_holds (acquires.Scans i) at heavy = go (is_claimed c words i) refl
+  acquire_falls holders busy_calls good (acquires.Scans i) at heavy = go (is_claimed c words i) refl
     where
       go : (t : Bool) → is_claimed c words i ≡ t → Shown (acquire_at c (acquires.Scans i))
-      go true t = scans_fall holders busy_calls good_holds i at t (some_free c words holders busy_calls good_holds heavy)
+      go true t = scans_fall holders busy_calls good i at t (some_free c words holders busy_calls good heavy)
       go false t = rw t tt
 
   -- ---- a release
@@ -272,7 +277,7 @@ module _ {T : Type 0} (code : Coding T) (c : ℕ) (words : List ℕ) where
 
     -- after a flag is cleared no flag more stands
     cleared_fewer : (j : ℕ) → is_claimed c cleared j ≡ true → is_claimed c words j ≡ true
-    cleared_fewer j is_claimed_true = ⊎_elim here there (cases_eq j index)
+    cleared_fewer j claimed = ⊎_elim here there (cases_eq j index)
       where
         within : flag_word c index < length words
         within = let wide = g.wide in let low = flag_within c index below in omega arith
@@ -280,11 +285,11 @@ module _ {T : Type 0} (code : Coding T) (c : ℕ) (words : List ℕ) where
         here : j ≡ index → is_claimed c words j ≡ true
         here e =
             let clear = clear_clears c words index within in
-            let stood : is_claimed c cleared index ≡ true = subst (λ k. is_claimed c cleared k ≡ true) e is_claimed_true in
+            let stood : is_claimed c cleared index ≡ true = subst (λ k. is_claimed c cleared k ≡ true) e claimed in
             absurd (cc)
 
         there : j ≢ index → is_claimed c words j ≡ true
-        there ne = sym (clear_leaves c words index within j ne) ∙ is_claimed_true
+        there ne = sym (clear_leaves c words index within j ne) ∙ claimed
 
     abbrev stored : ℕ → List ℕ
     stored head = set words (next_word index) (proposed head)
@@ -293,9 +298,9 @@ module _ {T : Type 0} (code : Coding T) (c : ℕ) (words : List ℕ) where
     stored_head head = head_stays c words (next_word index) (proposed head) (omega arith)
 
     stored_fewer : (head j : ℕ) → is_claimed c (stored head) j ≡ true → is_claimed c words j ≡ true
-    stored_fewer head j is_claimed_true = sym (claims_stay c words (next_word index) (proposed head) j (omega arith)) ∙ is_claimed_true
+    stored_fewer head j claimed = sym (claims_stay c words (next_word index) (proposed head) j (omega arith)) ∙ claimed
 
-    -- each step of a release in mode Default falls
+    -- the measure falls with each step of a release in mode Default
     default_falls : (stage : ReleaseStage) → Shown (default_at c index stage)
     default_falls releases.ClearsFlag = inr (omega arith, inl (leaves c words cleared cleared_head cleared_fewer, omega arith))
     default_falls releases.LoadsHead = inl (load_leaves words 0, omega arith, omega arith)
@@ -308,12 +313,13 @@ module _ {T : Type 0} (code : Coding T) (c : ℕ) (words : List ℕ) where
         go false t = rw t (inl (load_leaves words 0, omega arith, omega arith))
     default_falls releases.Subtracts = tt
 
-    -- each step of a release that may lock falls
+    -- the measure falls with each step of a release that may lock
     lock_falls : (stage : ReleaseStage) → Shown (lock_at c index stage)
     lock_falls releases.ClearsFlag = inr (omega arith, inl (leaves c words cleared cleared_head cleared_fewer, omega arith))
     lock_falls releases.LoadsHead = let self = same_is now in inl (load_leaves words 0, rw self (omega arith), omega arith)
     lock_falls (releases.StoresNext head) = go (now == head) refl
       where
+        -- the cases are whether the head is still what was read
         go : (t : Bool) → (now == head) ≡ t → Shown (lock_at c index (releases.StoresNext head))
         go true t =
             let same = stored_head head in
@@ -328,21 +334,21 @@ module _ {T : Type 0} (code : Coding T) (c : ℕ) (words : List ℕ) where
         go false t = let self = same_is now in rw t (inl (load_leaves words 0, rw (self, t) (omega arith), omega arith))
     lock_falls releases.Subtracts = tt
 
-  -- each step of any call of the set falls
+  -- the measure falls with each step of any call of the set
   call_falls : (holders : List (Option ℕ)) (busy_calls p : ℕ) → Good c words holders busy_calls → (start : IndexStart) (flight : IndexFlight)
       → At c holders p start flight → counts flight ≤ busy_calls → Shown flight
-  call_falls holders busy_calls p good_holds starts.Acquire (calls.Acquire run) at heavy =
+  call_falls holders busy_calls p good starts.Acquire (calls.Acquire run) at heavy =
       subst (λ n. counts (acquire_at n run.call.stage) ≤ busy_calls → Shown (acquire_at n run.call.stage)) (sym at.0)
-      (λ h. acquire_falls holders busy_calls good_holds run.call.stage at.1 h) heavy
-  call_falls holders busy_calls p good_holds (starts.Release index Default) (calls.ReleaseDefault run) at heavy =
+      (λ h. acquire_falls holders busy_calls good run.call.stage at.1 h) heavy
+  call_falls holders busy_calls p good (starts.Release index Default) (calls.ReleaseDefault run) at heavy =
       subst (λ n. Shown (default_at n run.given run.call.stage)) (sym at.0)
-      (subst (λ i. Shown (default_at c i run.call.stage)) (sym at.1) (default_falls holders busy_calls good_holds index at.2 run.call.stage))
-  call_falls holders busy_calls p good_holds (starts.Release index LockIfLastIndex) (calls.ReleaseLock run) at heavy =
+      (subst (λ i. Shown (default_at c i run.call.stage)) (sym at.1) (default_falls holders busy_calls good index at.2 run.call.stage))
+  call_falls holders busy_calls p good (starts.Release index LockIfLastIndex) (calls.ReleaseLock run) at heavy =
       subst (λ n. Shown (lock_at n run.given run.call.stage)) (sym at.0)
-      (subst (λ i. Shown (lock_at c i run.call.stage)) (sym at.1) (lock_falls holders busy_calls good_holds index at.2 run.call.stage))
-  call_falls holders busy_calls p good_holds starts.BorrowedIndices (calls.BorrowedIndices run) at heavy = tt
-  call_falls holders busy_calls p good_holds starts.IsLocked (calls.IsLocked run) at heavy = tt
-  call_falls holders busy_calls p good_holds start flight at heavy = absurd at
+      (subst (λ i. Shown (lock_at c i run.call.stage)) (sym at.1) (lock_falls holders busy_calls good index at.2 run.call.stage))
+  call_falls holders busy_calls p good starts.BorrowedIndices (calls.BorrowedIndices run) at heavy = tt
+  call_falls holders busy_calls p good starts.IsLocked (calls.IsLocked run) at heavy = tt
+  call_falls holders busy_calls p good start flight at heavy = absurd at
 
 -- ---- no call has more left
 
@@ -380,22 +386,23 @@ module _ {T : Type 0} (t : Trace T) (s : Sound (family t.world.coding t.world.ca
       subst (λ ws. Good t.world.capacity ws s.state.holders (busy (scene_of outline t.world.coding t.world.capacity t s p x.steps x.backs since)))
       (sym s.fit.words) s.holds.good
 
-  -- each step of a call on a machine that turns have reached falls
+  -- the measure falls with each step of a call on a machine that turns have reached
   flight_falls : (start : Start T) (flight : Flight T) → FlightAt t.world.capacity s.state.holders p start flight
       → party_of p t.world.latest ≡ Some x → x.doing ≡ Going flight since → flight_of (doing_of (party_of p t.world.latest)) ≡ Some flight
       → FallsBy (of_words (measure t.world.capacity)) t.world p x flight (ask_of (want_of t.world.coding flight))
       (old_of t.world.words (ask_of (want_of t.world.coding flight)))
   flight_falls (Indices start) (flights.Indices flight) at found doing is next e =
-      let w = t.world in
+      let world = t.world in
       let any : Flight T = flights.Indices flight in
       let heavy =
-      busy_here (scene_of outline w.coding w.capacity t s p x.steps x.backs since) flight
+      busy_here (scene_of outline world.coding world.capacity t s p x.steps x.backs since) flight
       (record { seat = s.holds.bounded p x found; under = is }) in
-      let ask = ask_of (want_of w.coding any) in
-      let old = old_of w.words ask in
-      let goes = (orders_of w.coding w.capacity).after t p x any since old s found doing in
-      falls_by (measure w.capacity) w p (words_after w.words ask) (step_in w p x any old).kept (step_count ask) any (after_of w.coding any old)
-      (call_falls w.coding w.capacity w.words s.state.holders _ p good start flight at heavy) next (sym goes ∙ e)
+      let ask = ask_of (want_of world.coding any) in
+      let old = old_of world.words ask in
+      let goes = (orders_of world.coding world.capacity).after t p x any since old s found doing in
+      falls_by (measure world.capacity) world p (words_after world.words ask) (step_in world p x any old).kept
+      (step_count ask) any (after_of world.coding any old)
+      (call_falls world.coding world.capacity world.words s.state.holders _ p good start flight at heavy) next (sym goes ∙ e)
   flight_falls start flight at found doing is next e = absurd at
 
 module _ {T : Type 0} where

@@ -46,14 +46,13 @@ module _ {T : Type 0} (scene : Scene T IndexSet) (inv : Inv outline scene) (stra
       shut : is_locked events ≡ true → borrowed_number (head_of ws) ≡ 0
       shut = grind arith
 
-      -- while the set is not locked, what it counts lies between what is held and what is in
-      -- use
+      -- while the set is not locked, what it counts lies between what is held and what is in use
       unlocked : is_locked events ≡ false → ((tally_of events).held ≤ borrowed_number (head_of ws)) × (borrowed_number (head_of ws) ≤ in_use (tally_of events))
-      unlocked is_locked_false =
-          let says : says_locked (head_of ws) ≡ false = sym inv.holds.lock ∙ is_locked_false in
+      unlocked unlocked_there =
+          let says : says_locked (head_of ws) ≡ false = sym inv.holds.lock ∙ unlocked_there in
           let not_locked : borrowed (head_of ws) ≢ locked = grind (arith, nat_tests) in
-          let is = counts_right c ws hs (busy scene) g not_locked in
-          let number = is.0 in
+          let count_right = counts_right c ws hs (busy scene) g not_locked in
+          let number = count_right.0 in
           let all = all_in_use scene borrowed_at here in
           rw (says, inv.holds.tally) (omega arith, omega arith)
 
@@ -61,7 +60,7 @@ module _ {T : Type 0} (scene : Scene T IndexSet) (inv : Inv outline scene) (stra
       → ◌≡◌ {A = Tally} (record { held = h; taking = t; giving = g }) (record { held = h; taking = t'; giving = g' })
   told h t g t' g' a b = same_tally h h t t' g g' refl (omega arith) (omega arith)
 
-  -- and is at most the capacity
+  -- what the set counts is at most the capacity
   counts_few : borrowed_number (head_of ws) ≤ c
   counts_few = grind arith
 

@@ -60,9 +60,9 @@ module _ (c : ℕ) (words : List ℕ) (holders : List (Option ℕ)) where
         → Good c (set words 0 (head_taken (head_of words) next)) holders (busy + 1)
     takes next good unlocked less =
         let few = good.few in
-        let is = counts_right busy good unlocked in
-        let same = is.0 in
-        let most = is.1 in
+        let count_right = counts_right busy good unlocked in
+        let same = count_right.0 in
+        let most = count_right.1 in
         let to : ℕ = head_taken (head_of words) next in
         let head : counted_in (set words 0 to) ≡ borrowed to = new_head to good in
         let number : borrowed to ≡ counted_in words + 1 = taken_number (head_of words) next (omega arith) in
@@ -100,9 +100,9 @@ module _ (c : ℕ) (words : List ℕ) (holders : List (Option ℕ)) where
         (counted_in (set words 0 to)) (held_below holders c + busy) total one
         (head ∙ locked_number (head_of words) index))
 
-    -- then nobody holds one
+    -- once the last index is given back nobody holds one
     pub last_given : counted_in words ≡ 1 → (i : ℕ) → holder holders i ≡ None
-    last_given one = let is = some_counted.1 in nobody (busy + 1) g (omega arith)
+    last_given one = nobody (busy + 1) g (omega (arith, some_counted.1))
 
   -- ---- the flags
 

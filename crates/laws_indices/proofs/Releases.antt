@@ -57,7 +57,7 @@ module _ {T : Type 0} (scene : Scene T IndexSet) (inv : Inv outline scene) (inde
   store_head : (head : ℕ) → head_of (words_after ws (Some (store head))) ≡ head_of ws
   store_head head = head_stays c ws (next_word index) (proposed head) (omega arith)
 
-  -- so many calls are busy as before
+  -- a load leaves as many calls busy as before
   good_same : (ask : Ask) (busy' : ℕ) → words_after ws (Some ask) ≡ ws → busy' ≡ busy scene → Good c (words_after ws (Some ask)) hs busy'
   good_same = grind (arith, busy, g)
 
@@ -88,7 +88,7 @@ module _ {T : Type 0} (scene : Scene T IndexSet) (inv : Inv outline scene) (inde
     is_others = omega arith
 
     some_number : (1 ≤ counted_in ws) × (counted_in ws ≤ c)
-    some_number = let h = some_counted c ws hs others (one_less others is_others) in (h.0, h.2)
+    some_number = let one_counted = some_counted c ws hs others (one_less others is_others) in (one_counted.0, one_counted.2)
 
     -- a head that counts one less is not locked either
     still_open : (ask : Ask) (x : ℕ) → words_after ws (Some ask) ≡ set ws 0 x → borrowed x + 1 ≡ counted_in ws
@@ -136,8 +136,7 @@ module _ {T : Type 0} (scene : Scene T IndexSet) (inv : Inv outline scene) (inde
         (λ busy' e. good_stored head busy' (omega arith)) refl refl refl (ap says_locked (store_head head))
         (omega arith) (omega arith) (refl, refl, below, tt) (omega arith)
 
-    -- the exchange of the head ends the release, or leads to the subtraction where the head has
-    -- moved
+    -- the exchange of the head ends the release, or leads to the subtraction where the head has moved
     default_exchanges : (head : ℕ) → IsHere scene (default (releases.ExchangesHead head)) → steps ≤ 3
         → StepOf scene started (default (releases.ExchangesHead head))
     default_exchanges head here s = go (head_of ws == head) refl
@@ -148,12 +147,13 @@ module _ {T : Type 0} (scene : Scene T IndexSet) (inv : Inv outline scene) (inde
         works : 1 ≤ busy scene
         works = default_works (releases.ExchangesHead head) here refl
 
+        -- the cases are whether the head is still what was read
         go : (b : Bool) → (head_of ws == head) ≡ b → StepOf scene started (default (releases.ExchangesHead head))
         go true t =
-            let is : head_of ws ≡ head = grind (arith, nat_tests) in
+            let same_head : head_of ws ≡ head = grind (arith, nat_tests) in
             let goes : after {T = T} stage (head_of ws) ≡ Done (State Unlocked) = rw t refl in
             let new : words_after ws (Some (exchange false head)) ≡ set ws 0 (head_given_back (head_of ws) index) =
-            rw t (ap (λ h. set ws 0 (head_given_back h index)) (sym is)) in
+            rw t (ap (λ h. set ws 0 (head_given_back h index)) (sym same_head)) in
             subst (λ a. Comes scene started stage (Some (exchange false head)) false a) (sym goes)
             (ends scene inv started stage (State Unlocked) (Some (exchange false head)) false
             (λ busy' e. good_given (exchange false head) new busy' (omega arith)) told refl tt
@@ -244,8 +244,8 @@ module _ {T : Type 0} (scene : Scene T IndexSet) (inv : Inv outline scene) (inde
     leaves_set : words_after ws (Some (exchange true head)) ≡ set ws 0 (head_given_back (head_of ws) index)
         → counted_in ws ≢ 1 → Does false (Done (State Unlocked))
     leaves_set new more =
-        let is = counts_right c ws hs (busy scene) g (not_locked works) in
-        let same = is.0 in
+        let count_right = counts_right c ws hs (busy scene) g (not_locked works) in
+        let same = count_right.0 in
         let some = (some_number works).0 in
         let all = all_in_use scene exchanging here in
         let known = paid in
@@ -259,8 +259,7 @@ module _ {T : Type 0} (scene : Scene T IndexSet) (inv : Inv outline scene) (inde
         → Does true (GoOn (locking (releases.StoresNext (head_of ws))))
     goes_back_to = grind arith
 
-    -- the exchange of the head locks the set, ends the release, or leads back to the store
-    -- where the head has moved
+    -- the exchange of the head locks the set, ends the release, or leads back to the store where the head has moved
     lock_exchanges : StepOf scene started_lock exchanging
     lock_exchanges = go (head_of ws == head) refl (borrowed head == 1) refl
       where
@@ -268,23 +267,23 @@ module _ {T : Type 0} (scene : Scene T IndexSet) (inv : Inv outline scene) (inde
         -- release; another leads back to the store
         go : (b : Bool) → (head_of ws == head) ≡ b → (d : Bool) → (borrowed head == 1) ≡ d → StepOf scene started_lock exchanging
         go true t true u =
-            let is : head_of ws ≡ head = grind (arith, nat_tests) in
+            let same_head : head_of ws ≡ head = grind (arith, nat_tests) in
             let one : borrowed head ≡ 1 = grind (arith, nat_tests) in
             let goes : after {T = T} exchanging (head_of ws) ≡ Done (State Locked) = rw (t, u) refl in
             let back : goes_back exchanging (head_of ws) ≡ false = rw t refl in
             let new : words_after ws (Some (exchange true head)) ≡ set ws 0 (head_locked (head_of ws) index) =
-            rw (t, u) (ap (λ h. set ws 0 (head_locked h index)) (sym is)) in
+            rw (t, u) (ap (λ h. set ws 0 (head_locked h index)) (sym same_head)) in
             subst (λ a. Does (goes_back exchanging (head_of ws)) a) (sym goes)
-            (subst (λ b. Does b (Done (State Locked))) (sym back) (shuts_set new (ap borrowed is ∙ one)))
+            (subst (λ b. Does b (Done (State Locked))) (sym back) (shuts_set new (ap borrowed same_head ∙ one)))
         go true t false u =
-            let is : head_of ws ≡ head = grind (arith, nat_tests) in
+            let same_head : head_of ws ≡ head = grind (arith, nat_tests) in
             let more : borrowed head ≢ 1 = grind (arith, nat_tests) in
             let goes : after {T = T} exchanging (head_of ws) ≡ Done (State Unlocked) = rw (t, u) refl in
             let back : goes_back exchanging (head_of ws) ≡ false = rw t refl in
             let new : words_after ws (Some (exchange true head)) ≡ set ws 0 (head_given_back (head_of ws) index) =
-            rw (t, u) (ap (λ h. set ws 0 (head_given_back h index)) (sym is)) in
+            rw (t, u) (ap (λ h. set ws 0 (head_given_back h index)) (sym same_head)) in
             subst (λ a. Does (goes_back exchanging (head_of ws)) a) (sym goes)
-            (subst (λ b. Does b (Done (State Unlocked))) (sym back) (leaves_set new (λ e. more (ap borrowed (sym is) ∙ e))))
+            (subst (λ b. Does b (Done (State Unlocked))) (sym back) (leaves_set new (λ e. more (ap borrowed (sym same_head) ∙ e))))
         go false t d u =
             let other : head_of ws ≢ head = grind (arith, nat_tests) in
             let goes : after {T = T} exchanging (head_of ws) ≡ GoOn (locking (releases.StoresNext (head_of ws))) = rw t refl in

@@ -66,11 +66,11 @@ module _ (c : ℕ) where
 
     -- ---- so a scan that is under way finds one
 
-    -- a scan from an index of the set passes fewer flags than there are indices, where one is
-    -- free
+    -- a scan from an index of the set passes fewer flags than there are indices, where one is free
     pub scan_few : (i : ℕ) → i < c → scan words i ≤ c - 1
     scan_few i low = go (run (c - i) words i == c - i) refl
       where
+        -- the cases are whether all indices up to the end are claimed
         go : (t : Bool) → (run (c - i) words i == c - i) ≡ t → cond t (c - i + run c words 0) (run (c - i) words i) ≤ c - 1
         go true t =
             let whole : run (c - i) words i ≡ c - i = grind (arith, nat_tests) in

@@ -122,6 +122,6 @@ module _ {T : Type 0} where
 
   pub kept_on : (t : Trace T) → t.world.kind ≡ kinds.Indices → IsReachedOn t → IsKept t
   kept_on t is reached_on =
-      let s = reached_on_sound t is reached_on in
+      let sound_there = reached_on_sound t is reached_on in
       laws.kept_by outline May all_turns (λ code c coded admitted. owed code c) t is reached_on.coded
-      reached_on.admitted s (set_kept t.world.coding t.world.capacity t s)
+      reached_on.admitted sound_there (set_kept t.world.coding t.world.capacity t sound_there)

@@ -38,6 +38,7 @@ pub is_seen : (words : List ℕ) (ask : Option Ask) (changes : ℕ) → IsSeen w
 is_seen words None changes = inl (refl, omega arith)
 is_seen words (Some ask) changes = go (get_or (words_after words (Some ask)) ask.word 0 == get_or words ask.word 0) refl
   where
+    -- the cases are whether the word is left as it was
     go : (b : Bool) → (get_or (words_after words (Some ask)) ask.word 0 == get_or words ask.word 0) ≡ b
         → IsSeen words (words_after words (Some ask)) changes (changes + (if b then 0 else 1))
     go true t =
@@ -94,6 +95,7 @@ module _ {T : Type 0} (scene : Scene T IndexSet) where
   abbrev pub holders : List (Option ℕ)
   holders = scene.state.holders
 
+  -- the number of calls under way that are taking an index or giving one back
   abbrev pub busy : ℕ
   busy = all_counted scene.latest scene.state.seats
 
@@ -114,18 +116,14 @@ module _ {T : Type 0} (scene : Scene T IndexSet) where
         let mine = weighs counts in
         omega arith
 
-    -- the calls under way that count in the head are no more than those that take an index and
-    -- those that give one back
+    -- the calls under way that count in the head are no more than those that take an index and those that give one back
     pub all_in_use : busy + (takes flight + gives flight) ≤ all_taking latest scene.state.seats + all_giving latest scene.state.seats + counts flight
     all_in_use =
         let over =
         sum_over (weight_at (of_any takes) latest) (weight_at (of_any gives) latest)
         (weight_at (of_any counts) latest) (λ q. any_less (flight_of (doing_of (party_of q latest))))
         scene.state.seats p here.seat in
-        let a = weighs counts in
-        let b = weighs takes in
-        let d = weighs gives in
-        omega arith
+        omega (arith, weighs counts, weighs takes, weighs gives)
 
   -- ---- a step
 

@@ -50,8 +50,7 @@ module _ {T : Type 0} (scene : Scene T IndexSet) (inv : Inv outline scene) where
       subst (λ m. IsHere scene (lock_at m i stage) → StepOf scene (starts.Release index LockIfLastIndex) (lock_at m i stage)) (sym e)
       (subst (λ j. IsHere scene (lock_at c j stage) → StepOf scene (starts.Release index LockIfLastIndex) (lock_at c j stage)) (sym f) moves)
 
-  -- any step of a call that stands at its stage, and knows what the stage tells, shows what it
-  -- has to
+  -- any step of a call that stands at its stage, and knows what the stage tells, shows what it has to
   pub step_moves : (start : IndexStart) (flight : IndexFlight) → IsHere scene flight → At c hs p start flight
       → scene.steps ≤ number_of c flight scene.backs
       → FlightKnows c scene.state.words scene.since scene.changes scene.backs flight → StepOf scene start flight

@@ -20,6 +20,7 @@ module _ (f g : ℕ → ℕ) where
   sum_moved zero p below same = absurd (omega arith)
   sum_moved (suc n) p below same = ⊎_elim here (before (λ less. sum_moved n p less same)) (cases_eq n p)
     where
+      -- where the last number is the one that differs, the sums below it are the same
       here : n ≡ p → f n + sum_below f n + g p ≡ g n + sum_below g n + f p
       here e =
           let rest = sum_same n (λ i less. same i (λ h. absurd (omega arith))) in

@@ -75,6 +75,7 @@ module _ (T : Type 0) where
 
 -- ---- steps in which nobody acts
 
+-- the effect writes no moment of a call
 abbrev pub Silent : Effect → Type 0
 Silent effects.Quiet = Unit {0}
 Silent effects.Claims = Unit {0}
@@ -139,7 +140,7 @@ module _ {T : Type 0} (m : Underway T) (p : ℕ) where
   moves_on : (read : ℕ) → (moved read == read) ≡ true
       → asked ≡ ask_of (shifted (submission_word slots) (move 1 read))
       → AddsOne (read_word t.world.capacity) t.world.words asked
-  moves_on read moved_true asks =
+  moves_on read unmoved asks =
       let found = finds_read slots queue k busy s.holds.parts reached read in
       let same : read ≡ k.submission.read = grind (arith, nat_tests) in
       by_words read_word (ask_of (shifted (submission_word slots) (move 1 read))) asks
@@ -158,8 +159,7 @@ module _ {T : Type 0} (m : Underway T) (p : ℕ) where
 
   -- ---- a send
 
-  -- what a step of a send says of who acts is right, where its push knows of the queue what its
-  -- stage should
+  -- what a step of a send says of who acts is right, where its push knows of the queue what its stage should
   pub send_right : (index : ℕ) (stage : PushStage)
       → KnowsOverflowPush queue k.submission index stage → Acting (pushes_at slots queue stage index)
   send_right index overflow_pushes.HandsBack known asks = tt
@@ -174,6 +174,7 @@ module _ {T : Type 0} (m : Underway T) (p : ℕ) where
       go false = (inl (refl, writes_on write read index known.1 asks), tt)
   send_right index (overflow_pushes.MovesRead read) known asks = go (moved read == read) refl
     where
+      -- the cases are whether the position stays where it is
       go : (b : Bool) → (moved read == read) ≡ b
           → Right
           (acts_of p (if b then effects.TakesOut index (sent_at (submission_word slots) queue (words_in k) read) else effects.Quiet))
@@ -186,8 +187,7 @@ module _ {T : Type 0} (m : Underway T) (p : ℕ) where
   made_right : p ≢ 0 → AddsOne (read_word t.world.capacity) t.world.words asked → (push : Option (ℕ × ℕ)) → waits ≡ push → Right (room_made push)
   made_right = grind arith
 
-  -- where the write position is at a read position that is not past the queue's, no index waits by
-  -- the events
+  -- where the write position is at a read position that is not past the queue's, no index waits by the events
   none_waits : (read : ℕ) → read ≤ k.submission.read → k.submission.write ≡ read → waiting t.events ≡ []
   none_waits read low same =
       let write = s.holds.parts.submission.write in

@@ -71,7 +71,7 @@ module _ {T : Type 0} (code : Coding T) (slots queue : ℕ) (s : Channel T) (lat
 
   -- the sender has the index that its call asks for
   mine : (index : ℕ) → p ≡ 0 → not (holds (get_or s.book.holders index None) p) ≡ false → not (holds (get_or s.book.holders index None) 0) ≡ false
-  mine index zero not_false = subst (λ q. not (holds (get_or s.book.holders index None) q) ≡ false) zero not_false
+  mine index zero holds_it = subst (λ q. not (holds (get_or s.book.holders index None) q) ≡ false) zero holds_it
 
   -- what a call has passed that no row refuses
   passed : (start : LoanStart) → first_row (call_rows slots s.book p start) ≡ None
@@ -140,55 +140,58 @@ module _ {T : Type 0} (code : Coding T) (slots queue : ℕ) where
   abbrev channel : frame.Family T
   channel = family code slots queue
 
-  -- a begin that the turns admit, and for which there is a first stage, comes to what the frame
-  -- asks of a begin
+  -- a begin that the turns admit, and for which there is a first stage, comes to what the frame asks of a begin
   pub begin_comes : (t : Trace T) (p : ℕ) (start : Start T) (flight : Flight T) (sound : frame.Sound channel t)
       → MayBegin t.world p start → first_of t.world.kind t.world.capacity start t.world.kept ≡ Some flight
       → frame.Comes channel t p (kept_after_begin t.world.coding t.world.capacity start p t.world.kept)
       t.world.words (party_at_begin start flight t.world.changes) (Begun p start ∷ []) t.world.changes
   begin_comes t p (starts.Loan start) (flights.Loan flight) sound may e =
-      let w = t.world in
-      let s = sound.state in
-      let is = kept_is w.kept w.words s sound.fit in
+      let world = t.world in
+      let channel_now = sound.state in
+      let kept_there = kept_is world.kept world.words channel_now sound.fit in
       let same = sound.holds.same in
-      let h : HoldsNow slots queue s w.latest s.events w.turns = subst (λ es. HoldsNow slots queue s w.latest es w.turns) (sym same) sound.holds in
-      let inv : frame.Inv channel s w.latest s.events w.changes = subst (λ es. frame.Inv channel s w.latest es w.changes) (sym same) sound.inv in
-      let over : IsShut (span_of p s.events) = frame.shut channel s p (party_of p w.latest) (span_of p s.events) may.free (inv.calls p) in
-      let rows : first_row (kept_rows {T = T} w.capacity start (registries.Loan s.book) p) ≡ None =
-      subst (λ kept. first_row (kept_rows {T = T} w.capacity start kept p) ≡ None) is.kept may.rows in
-      let passed : first_row (call_rows slots s.book p start) ≡ None = subst (λ n. first_row (call_rows n s.book p start) ≡ None) sound.capacity rows in
-      let named : first_of {T = T} kinds.Loan w.capacity (starts.Loan start) (registries.Loan s.book)
+      let h : HoldsNow slots queue channel_now world.latest channel_now.events world.turns =
+      subst (λ es. HoldsNow slots queue channel_now world.latest es world.turns) (sym same) sound.holds in
+      let inv : frame.Inv channel channel_now world.latest channel_now.events world.changes =
+      subst (λ es. frame.Inv channel channel_now world.latest es world.changes) (sym same) sound.inv in
+      let over : IsShut (span_of p channel_now.events) =
+      frame.shut channel channel_now p (party_of p world.latest) (span_of p channel_now.events) may.free (inv.calls p) in
+      let rows : first_row (kept_rows {T = T} world.capacity start (registries.Loan channel_now.book) p) ≡ None =
+      subst (λ kept. first_row (kept_rows {T = T} world.capacity start kept p) ≡ None) kept_there.kept may.rows in
+      let passed : first_row (call_rows slots channel_now.book p start) ≡ None =
+      subst (λ n. first_row (call_rows n channel_now.book p start) ≡ None) sound.capacity rows in
+      let named : first_of {T = T} kinds.Loan world.capacity (starts.Loan start) (registries.Loan channel_now.book)
       ≡ Some (flights.Loan flight) =
-      subst (λ kept. first_of {T = T} kinds.Loan w.capacity (starts.Loan start) kept ≡ Some (flights.Loan flight)) is.kept
-      (subst (λ kind. first_of {T = T} kind w.capacity (starts.Loan start) w.kept ≡ Some (flights.Loan flight)) sound.kind e)
+      subst (λ kept. first_of {T = T} kinds.Loan world.capacity (starts.Loan start) kept ≡ Some (flights.Loan flight)) kept_there.kept
+      (subst (λ kind. first_of {T = T} kind world.capacity (starts.Loan start) world.kept ≡ Some (flights.Loan flight)) sound.kind e)
       in
-      let own : first slots s.book start ≡ flight =
-      subst (λ n. first n s.book start ≡ flight) sound.capacity
-      (begins_own w.capacity s.book (starts.Loan start) (flights.Loan flight) named) in
+      let own : first slots channel_now.book start ≡ flight =
+      subst (λ n. first n channel_now.book start ≡ flight) sound.capacity
+      (begins_own world.capacity channel_now.book (starts.Loan start) (flights.Loan flight) named) in
       let known =
-      subst (λ f. IsFirst code slots queue s w.latest w.turns w.changes p start f) own
-      (first_is code slots queue s w.latest w.turns w.changes h p over start passed) in
-      let then_state = after code slots queue s w.latest w.turns w.changes p start flight in
-      subst (λ kept. frame.Comes channel t p (kept_after_begin w.coding w.capacity (starts.Loan start) p kept) w.words
-      (party_at_begin (starts.Loan start) (flights.Loan flight) w.changes)
-      (Begun p (starts.Loan start) ∷ []) w.changes)
-      (sym is.kept)
+      subst (λ f. IsFirst code slots queue channel_now world.latest world.turns world.changes p start f) own
+      (first_is code slots queue channel_now world.latest world.turns world.changes h p over start passed) in
+      let then_state = after code slots queue channel_now world.latest world.turns world.changes p start flight in
+      subst (λ kept. frame.Comes channel t p (kept_after_begin world.coding world.capacity (starts.Loan start) p kept) world.words
+      (party_at_begin (starts.Loan start) (flights.Loan flight) world.changes)
+      (Begun p (starts.Loan start) ∷ []) world.changes)
+      (sym kept_there.kept)
       (record {
         state = then_state;
-        fit = (refl, is.words);
+        fit = (refl, kept_there.words);
         holds =
-            subst (λ es. HoldsNow slots queue then_state _ (es ++ Begun p (starts.Loan start) ∷ []) (w.turns + 1)) same
-            (holds_then code slots queue s w.latest w.turns w.changes p start flight h inv may.free known);
+            subst (λ es. HoldsNow slots queue then_state _ (es ++ Begun p (starts.Loan start) ∷ []) (world.turns + 1)) same
+            (holds_then code slots queue channel_now world.latest world.turns world.changes p start flight h inv may.free known);
         owes =
-            subst (λ es. frame.Owes channel then_state p _ w.latest es (Begun p (starts.Loan start) ∷ []) w.changes)
-            same (owes code slots queue s w.latest w.turns w.changes p start flight h inv may.free known);
+            subst (λ es. frame.Owes channel then_state p _ world.latest es (Begun p (starts.Loan start) ∷ []) world.changes)
+            same (owes code slots queue channel_now world.latest world.turns world.changes p start flight h inv may.free known);
       })
   begin_comes t p start flight sound may e =
-      let w = t.world in
-      let s = sound.state in
-      let is = kept_is w.kept w.words s sound.fit in
-      let named : first_of kinds.Loan w.capacity start (registries.Loan s.book) ≡ Some flight =
-      subst (λ kept. first_of kinds.Loan w.capacity start kept ≡ Some flight) is.kept
-      (subst (λ kind. first_of kind w.capacity start w.kept ≡ Some flight) sound.kind e)
+      let world = t.world in
+      let channel_now = sound.state in
+      let kept_there = kept_is world.kept world.words channel_now sound.fit in
+      let named : first_of kinds.Loan world.capacity start (registries.Loan channel_now.book) ≡ Some flight =
+      subst (λ kept. first_of kinds.Loan world.capacity start kept ≡ Some flight) kept_there.kept
+      (subst (λ kind. first_of kind world.capacity start world.kept ≡ Some flight) sound.kind e)
       in
-      absurd (begins_own w.capacity s.book start flight named)
+      absurd (begins_own world.capacity channel_now.book start flight named)

@@ -86,8 +86,7 @@ module _ {T : Type 0} (code : Coding T) (slots queue : ℕ) (s : Channel T) (lat
     still_carried : (index q : ℕ) → spot_of index s.events ≡ Passing q → Carries index (span_of q events_then)
     still_carried = grind (arith, shut_none, shut, theirs_stays, cases_eq)
 
-    -- what holds of the channel's parts holds after the begin, with the sender's call counted as
-    -- it is then
+    -- what holds of the channel's parts holds after the begin, with the sender's call counted as it is then
     parts_then : Holds slots queue after (counted_for (sends_at (put p began latest)))
     parts_then =
         let light = weighs_same counted_for first.light in

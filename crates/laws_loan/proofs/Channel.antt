@@ -37,6 +37,7 @@ abbrev pub Represents : {T : Type 0} → Registry T → List ℕ → Channel T �
 Represents (registries.Loan book) words s = (book ≡ s.book) × (words ≡ words_in s)
 Represents kept words s = ⊥
 
+-- a registry and words that represent the channel are its book and its layout
 pub kept_is : {T : Type 0} (kept : Registry T) (words : List ℕ) (s : Channel T) → Represents kept words s
     → families.Represents kept words (registries.Loan s.book) (words_in s)
 kept_is (registries.Loan book) words s fit =
@@ -62,6 +63,7 @@ pub record Holds {T : Type 0} (slots queue : ℕ) (s : Channel T) (busy : ℕ) :
 abbrev pub empty : ℕ → Core ℕ
 empty cells = record { write = 0; read = 0; waiting = []; cells = replicate cells 0 }
 
+-- a new channel: all indices are free, and nothing is sent or given back
 abbrev pub opened : {T : Type 0} → ℕ → ℕ → Channel T
 opened slots queue =
     record {
@@ -90,8 +92,7 @@ nobody_by = grind arith
 opening_keeps : {T : Type 0} (slots queue : ℕ) → KeepsBook {T = T} (opening_book slots queue) []
 opening_keeps = grind (arith, all_free, nobody_holds)
 
--- at the opening no index is claimed, none waits in either queue, and the book and the events say
--- so too
+-- at the opening no index is claimed, none waits in either queue, and the book and the events say so too
 opening_placed : {T : Type 0} (slots queue : ℕ) → Placed {T = T} slots (replicate slots None) [] [] (opening_book slots queue) []
 opening_placed slots queue =
     record {

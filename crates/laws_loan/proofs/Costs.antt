@@ -108,6 +108,7 @@ module _ (T : Type 0) (slots queue : ℕ) (some : 1 ≤ slots) (few : slots < lo
       stage : SendStage
       stage = sends.Pushes overflow_pushes.LoadsWrite
 
+      -- the cases are whether the write position is at its end
       go : (t : Bool) → (old_of words (ask_of (send_asks slots queue stage index)) == 2 ^ 64 - 1) ≡ t → CallCosts places (send_at slots queue index stage)
       go true t = rw t (inr (omega arith))
       go false t = rw t (inl (loads slots queue some few fits words _, omega arith))

@@ -24,8 +24,7 @@ read xs ws zs n few below =
     ap (λ i. get_or (xs ++ (ws ++ zs)) i 0) (place xs ws n few below)
     ∙ (get_or-append-add xs (ws ++ zs) n 0 ∙ get_or_append_left ws zs 0 n below)
 
--- a store into a word of a part that has words before it and behind it changes that word of the
--- part, and nothing else
+-- a store into a word of a part that has words before it and behind it changes that word of the part, and nothing else
 stored : (xs ws zs : List ℕ) (n v : ℕ) → length xs + length ws < 2 ^ 64 → n < length ws
     → set (xs ++ (ws ++ zs)) (word_at (length xs) n) v ≡ xs ++ (set ws n v ++ zs)
 stored xs ws zs n v few below =

@@ -50,8 +50,7 @@ module _ {T : Type 0} (slots queue : ℕ) (s : Channel T) (o : ℕ) where
 
   -- ---- what holds
 
-  -- where each index is by the events still agrees with the claims, the queues and the book after
-  -- the death
+  -- where each index is by the events still agrees with the claims, the queues and the book after the death
   placed_then : Placed slots s.claims s.submission.waiting s.completion.waiting s.book s.events
       → Placed slots after.claims after.submission.waiting after.completion.waiting after.book after.events
   placed_then h =
@@ -121,16 +120,16 @@ module _ {T : Type 0} (code : Coding T) (slots queue : ℕ) where
   -- a death that the turns admit comes to what the frame asks of a death
   pub death_comes : (t : Trace T) (owner : ℕ) (sound : frame.Sound channel t) → MayDie t.world owner → frame.ComesByDeath channel t sound owner
   death_comes t owner sound may =
-      let s = sound.state in
+      let channel_now = sound.state in
       let same = sound.holds.same in
-      let holds : HoldsNow slots queue s t.world.latest s.events t.world.turns =
-      subst (λ es. HoldsNow slots queue s t.world.latest es t.world.turns) (sym same) sound.holds in
+      let holds : HoldsNow slots queue channel_now t.world.latest channel_now.events t.world.turns =
+      subst (λ es. HoldsNow slots queue channel_now t.world.latest es t.world.turns) (sym same) sound.holds in
       record {
-        state = after slots queue s owner;
-        fit = fit_then t.world.kept t.world.words s owner sound.fit;
+        state = after slots queue channel_now owner;
+        fit = fit_then t.world.kept t.world.words channel_now owner sound.fit;
         holds =
-            subst (λ es. HoldsNow slots queue (after slots queue s owner) t.world.latest (es ++ Died owner ∷ []) (t.world.turns + 1))
-            same (now_then slots queue s owner t.world.latest t.world.turns holds);
-        calls = λ q start flight h. (call_on s owner q start flight h, ap wrote_in (span_of-death q s.events owner));
-        calls_know = λ q since backs flight h. known_on s owner since t.world.changes backs flight h;
+            subst (λ es. HoldsNow slots queue (after slots queue channel_now owner) t.world.latest (es ++ Died owner ∷ []) (t.world.turns + 1))
+            same (now_then slots queue channel_now owner t.world.latest t.world.turns holds);
+        calls = λ q start flight h. (call_on channel_now owner q start flight h, ap wrote_in (span_of-death q channel_now.events owner));
+        calls_know = λ q since backs flight h. known_on channel_now owner since t.world.changes backs flight h;
       }

@@ -71,8 +71,7 @@ module _ {T : Type 0} (scene : Scene T) (wrote : List (Event T)) (small : scene.
   old_is : (stage : PopStage) → IsOn queued (pop_asks queue stage) → value stage ≡ old_of queued (ask_of (pop_asks queue stage))
   old_is stage on = submission_old slots queue s (counted_for (sends_at latest)) h.parts (pop_asks queue stage) on
 
-  -- an operation on the submission queue changes that part of the words alone, to those of the
-  -- queue as it is then
+  -- an operation on the submission queue changes that part of the words alone, to those of the queue as it is then
   words_are : (stage : PopStage) (k : Core ℕ) → IsOn queued (pop_asks queue stage)
       → words_after queued (ask_of (pop_asks queue stage)) ≡ layout no_roles k
       → words_after (words_in s) (asks stage) ≡ s.set ++ (layout no_roles k ++ layout no_roles s.completion)
@@ -104,9 +103,9 @@ module _ {T : Type 0} (scene : Scene T) (wrote : List (Event T)) (small : scene.
   module _ (most : length (handed_out wrote) + length s.submission.waiting ≤ slots) (none_taken : taken_back wrote ≡ []) (none_freed : freed wrote ≡ []) where
     loads_read : x.steps ≤ 4 * length (handed_out wrote) → Does_at pops.LoadsRead
     loads_read few =
-        let on : 1 < length queued = (let all = wide in omega arith) in
-        loads pops.LoadsRead (drains load_of_write) on refl refl (refl, most, none_taken, none_freed) (omega arith) refl
-        (ap (then_of pops.LoadsRead) (old_is pops.LoadsRead on)) refl
+        let on_queue : 1 < length queued = (let all = wide in omega arith) in
+        loads pops.LoadsRead (drains load_of_write) on_queue refl refl (refl, most, none_taken, none_freed) (omega arith) refl
+        (ap (then_of pops.LoadsRead) (old_is pops.LoadsRead on_queue)) refl
 
     -- nothing waits, or something does
     loads_write : x.steps ≤ 4 * length (handed_out wrote) + 1 → Does_at load_of_write
@@ -115,6 +114,7 @@ module _ {T : Type 0} (scene : Scene T) (wrote : List (Event T)) (small : scene.
         on : 0 < length queued
         on = let all = wide in omega arith
 
+        -- the cases are whether the submission queue is empty
         go : (same : Bool) → (s.submission.write == s.submission.read) ≡ same → Does_at load_of_write
         go true e =
             let same : s.submission.write ≡ s.submission.read = grind (arith, nat_tests) in
@@ -133,8 +133,8 @@ module _ {T : Type 0} (scene : Scene T) (wrote : List (Event T)) (small : scene.
 
     loads_cell : s.submission.read < s.submission.write → x.steps ≤ 4 * length (handed_out wrote) + 2 → Does_at load_of_cell
     loads_cell ahead few =
-        let on = submission.cell_on queue h.parts.some h.parts.few s.submission h.parts.submission low_write s.submission.read in
-        loads load_of_cell (drains moves) on (set-get_or queued (cell_word queue s.submission.read) 0) refl
+        let cell_within = submission.cell_on queue h.parts.some h.parts.few s.submission h.parts.submission low_write s.submission.read in
+        loads load_of_cell (drains moves) cell_within (set-get_or queued (cell_word queue s.submission.read) 0) refl
         ((refl, ahead), most, none_taken, none_freed) (omega arith) refl refl refl
 
     -- ---- the oldest one leaves the queue
@@ -191,9 +191,9 @@ module _ {T : Type 0} (scene : Scene T) (wrote : List (Event T)) (small : scene.
         let some : 0 < length s.submission.waiting = omega arith in
         let front = oldest queue s.submission h.parts.submission some in
         let u = get_or s.submission.cells (s.submission.read % (queue + 1)) 0 in
-        let on : 1 < length queued = (let all = wide in omega arith) in
-        let t : (s.submission.read == s.submission.read) ≡ true = grind (arith, nat_tests) in
-        let found : value moves ≡ s.submission.read = old_is moves on in
+        let on_queue : 1 < length queued = (let all = wide in omega arith) in
+        let is_same : (s.submission.read == s.submission.read) ≡ true = grind (arith, nat_tests) in
+        let found : value moves ≡ s.submission.read = old_is moves on_queue in
         let place : sent_at (submission_word slots) queue (words_in s) s.submission.read ≡ u =
         submission_old slots queue s (counted_for (sends_at latest)) h.parts
         (load (cell_word queue s.submission.read))
@@ -201,14 +201,14 @@ module _ {T : Type 0} (scene : Scene T) (wrote : List (Event T)) (small : scene.
         ∙ submission.cell_is queue h.parts.some h.parts.few s.submission h.parts.submission low_write s.submission.read
         in
         let is_after : then_of moves (value moves) ≡ GoOn (reclaim_at slots queue (drains pops.LoadsRead)) =
-        ap (then_of moves) found ∙ (rw t refl) in
-        let is_effect : effect_of moves (value moves) ≡ effects.HandsOut u = ap (effect_of moves) found ∙ (rw (t, place) refl) in
+        ap (then_of moves) found ∙ (rw is_same refl) in
+        let is_effect : effect_of moves (value moves) ≡ effects.HandsOut u = ap (effect_of moves) found ∙ (rw (is_same, place) refl) in
         let s_out : Channel T =
         steps.s_on scene wrote under r idle (drains moves) (k u front.0 front.1) s.completion (hands u front.0 front.1 ∷ [])
         (drains pops.LoadsRead) in
         record {
           channel_then = s_out;
-          stays = ap (λ v. not (v == s.submission.read)) found ∙ ap not t;
+          stays = ap (λ v. not (v == s.submission.read)) found ∙ ap not is_same;
           step =
               subst (λ a. To s_out moves a (effect_of moves (value moves))) (sym is_after)
               (subst (λ e. To s_out moves (GoOn (reclaim_at slots queue (drains pops.LoadsRead))) e) (sym is_effect) (

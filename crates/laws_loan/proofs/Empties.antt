@@ -88,8 +88,7 @@ module _ {T : Type 0} (scene : Scene T) (wrote : List (Event T)) (small : scene.
   old_is : (stage : PopStage) → IsOn queued (pop_asks stage) → value stage ≡ old_of queued (ask_of (pop_asks stage))
   old_is stage on = completion_old slots queue s (counted_for (sends_at latest)) h.parts (pop_asks stage) on
 
-  -- an operation on the completion queue changes that part of the words alone, to those of the
-  -- queue as it is then
+  -- an operation on the completion queue changes that part of the words alone, to those of the queue as it is then
   words_are : (stage : PopStage) (k : Core ℕ) → IsOn queued (pop_asks stage)
       → words_after queued (ask_of (pop_asks stage)) ≡ layout no_roles k
       → words_after (words_in s) (asks stage) ≡ s.set ++ (layout no_roles s.submission ++ layout no_roles k)
@@ -121,14 +120,14 @@ module _ {T : Type 0} (scene : Scene T) (wrote : List (Event T)) (small : scene.
   module _ (most : length (taken_back wrote) + length s.completion.waiting ≤ slots) (none_freed : freed wrote ≡ []) (drained : s.submission.waiting ≡ []) where
     loads_read : x.steps ≤ 4 * (slots + 1) + 4 * length (taken_back wrote) → Does_at pops.LoadsRead
     loads_read less =
-        let on : 1 < length queued = (let all = long in omega arith) in
-        loads pops.LoadsRead (empties load_of_write) on refl refl (refl, most, none_freed, drained) (omega arith) refl
-        (ap (then_of pops.LoadsRead) (old_is pops.LoadsRead on)) refl
+        let on_queue : 1 < length queued = (let all = long in omega arith) in
+        loads pops.LoadsRead (empties load_of_write) on_queue refl refl (refl, most, none_freed, drained) (omega arith) refl
+        (ap (then_of pops.LoadsRead) (old_is pops.LoadsRead on_queue)) refl
 
     loads_cell : s.completion.read < s.completion.write → x.steps ≤ 4 * (slots + 1) + 4 * length (taken_back wrote) + 2 → Does_at load_of_cell
     loads_cell ahead less =
-        let on = completion.cell_on slots some few s.completion h.parts.completion reached s.completion.read in
-        loads load_of_cell (empties store_of_read) on (set-get_or queued (word_at (cell_word slots 1 s.completion.read) 0) 0) refl
+        let cell_within = completion.cell_on slots some few s.completion h.parts.completion reached s.completion.read in
+        loads load_of_cell (empties store_of_read) cell_within (set-get_or queued (word_at (cell_word slots 1 s.completion.read) 0) 0) refl
         ((refl, ahead), most, none_freed, drained) (omega arith) refl refl refl
 
     -- ---- both queues are empty
@@ -160,8 +159,7 @@ module _ {T : Type 0} (scene : Scene T) (wrote : List (Event T)) (small : scene.
             (steps.busy_none scene wrote under r idle) (ap (hung s.submission.read) here))
             drained emptied (λ j below. none j (omega arith) below) (ap length none_freed) (omega arith) small
 
-      -- by that load the reclaim goes on to release the first index that is sent, or ends where
-      -- none is
+      -- by that load the reclaim goes on to release the first index that is sent, or ends where none is
       comes : (o : Option ℕ) → ComesTo s.book.places slots 0 o → Comes o
       comes None none = record { channel_then = ended none; step = (ends_steps none, refl) }
       comes (Some index) first =
@@ -191,6 +189,7 @@ module _ {T : Type 0} (scene : Scene T) (wrote : List (Event T)) (small : scene.
         none_zero : (slots == 0) ≡ false
         none_zero = let least = some in grind (arith, nat_tests)
 
+        -- the cases are whether the completion queue is empty
         go : (same : Bool) → (s.completion.write == s.completion.read) ≡ same → Does_at load_of_write
         go true e =
             let zero = none_zero in
@@ -232,12 +231,12 @@ module _ {T : Type 0} (scene : Scene T) (wrote : List (Event T)) (small : scene.
       leads : x.steps ≤ 4 * (slots + 1) + 4 * length (taken_back wrote) + 3
           → steps.Leads scene wrote under r idle (empties store_of_read) s.submission m (takes ∷ []) (empties pops.LoadsRead)
       leads less =
-          let on : 1 < length queued = (let all = long in omega arith) in
+          let on_queue : 1 < length queued = (let all = long in omega arith) in
           let shorter : length s.completion.waiting ≡ suc (length rest) = ap length first in
           let more : length (taken_back (wrote ++ takes ∷ [])) ≡ length (taken_back wrote) + 1 =
           ap length (flat_map-append takes_back wrote (takes ∷ [])) ∙ length-append (taken_back wrote) (v ∷ [])
           in
-          let words = words_are store_of_read m on (completion.take_words slots some few s.completion h.parts.completion reached v rest first) in
+          let words = words_are store_of_read m on_queue (completion.take_words slots some few s.completion h.parts.completion reached v rest first) in
           let good = completion.take_good slots some few s.completion h.parts.completion reached v rest first in
           let placed = takes_it_back slots s.claims s.submission.waiting s.completion.waiting s.book s.events h.parts.placed v below rest first in
           let tells =

@@ -139,6 +139,7 @@ module _ {T : Type 0} (code : Coding T) (slots queue : ℕ) (s : Channel T) (lat
           (not_reclaiming (calls.GiveUp index) refl) below (refl, refl) (placed_then (calls.GiveUp index) refl)
           (refl, refl, refl, refl, (below, now_passes 0 (calls.GiveUp index) index refl has)) refl
 
+      -- a send at its first stage
       abbrev pub send_at : LoanFlight
       send_at =
           Send (record {
@@ -156,8 +157,7 @@ module _ {T : Type 0} (code : Coding T) (slots queue : ℕ) (s : Channel T) (lat
     abbrev pub reclaim_at : LoanFlight
     reclaim_at = Reclaim (record { slots = slots; queue = queue; stage = reclaims.Drains overflow_pops.LoadsRead })
 
-    -- a reclaim is right at first, where the receiver has died and no call of the sender is under
-    -- way
+    -- a reclaim is right at first, where the receiver has died and no call of the sender is under way
     pub reclaim_first : IsShut (span_of 0 s.events) → has_died s.book.receiver s.book.dead ≡ true → First 0 calls.Reclaim reclaim_at
     reclaim_first shut dead =
         let few = waits_few slots s.claims s.submission.waiting s.completion.waiting s.book s.events h.parts.placed in
@@ -189,6 +189,7 @@ module _ {T : Type 0} (code : Coding T) (slots queue : ℕ) (s : Channel T) (lat
     as_before : (start : LoanStart) → is_reclaiming s.events ≡ reclaims_in (span_of 0 (s.events ++ Begun p (starts.Loan start) ∷ []))
     as_before start = h.reclaiming ∙ sym (ap reclaims_in (span_of-other p 0 s.events (Begun p (starts.Loan start) ∷ []) (λ z. other (sym z)) (refl, tt)))
 
+    -- a receive at its first stage
     abbrev pub receive_at : LoanFlight
     receive_at =
         Receive p

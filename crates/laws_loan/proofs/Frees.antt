@@ -63,7 +63,7 @@ module _ {T : Type 0} (scene : Scene T) (number index : ℕ) (wrote : List (Even
   At stage = Reclaims scene wrote (Releases number index stage)
 
   reclaims_now : (stage : ReleaseStage) → At stage → IsReclaiming (span_of 0 s.events)
-  reclaims_now stage at_holds = subst IsReclaiming (sym at_holds.from) (refl, tt)
+  reclaims_now stage standing = subst IsReclaiming (sym standing.from) (refl, tt)
 
   -- what its step does to the words of the indices
   release_for : (stage : ReleaseStage) → At stage → index < slots → FreesAt s.book.places index stage → ReleaseAt s.claims 0 index stage
@@ -75,13 +75,13 @@ module _ {T : Type 0} (scene : Scene T) (number index : ℕ) (wrote : List (Even
       (subst (λ n. indices.Good slots s.set s.claims n) (ap counted_for r.here) r.holds.parts.set)
 
   pub on_words : (stage : ReleaseStage) → At stage → IsOn s.set (back_asks slots index stage)
-  on_words stage at_holds = (steps_set stage at_holds).on
+  on_words stage standing = (steps_set stage standing).on
 
   whole_words : (stage : ReleaseStage) → At stage
       → words_after (words_in s) (ask_of (back_asks slots index stage))
       ≡ words_in (record s { set = words_after s.set (ask_of (back_asks slots index stage)) })
-  whole_words stage at_holds =
-      set_words slots queue s (counted_for (sends_at latest)) at_holds.holds.parts (back_asks slots index stage) (steps_set stage at_holds).on
+  whole_words stage standing =
+      set_words slots queue s (counted_for (sends_at latest)) standing.holds.parts (back_asks slots index stage) (steps_set stage standing).on
 
   -- ---- the clear of the flag
 
@@ -103,6 +103,7 @@ module _ {T : Type 0} (scene : Scene T) (number index : ℕ) (wrote : List (Even
     abbrev book_freed : Book
     book_freed = book_after {T = T} s.book (Freed 0 index)
 
+    -- the channel after the flag of the index is cleared
     abbrev s_freed : Channel T
     s_freed =
         record s {
@@ -175,8 +176,7 @@ module _ {T : Type 0} (scene : Scene T) (number index : ℕ) (wrote : List (Even
         (all_less (freed wrote) (index + 0) (index + 1) (omega arith) at.stage_at.4)) in
         grind (arith, none_sent)
 
-    -- the clear of the flag is a step of the machine, after which the reclaim goes on with the
-    -- load of the head
+    -- the clear of the flag is a step of the machine, after which the reclaim goes on with the load of the head
     pub clears_steps : Steps scene 0 s_freed (Open (starts.Loan calls.Reclaim) wrote) calls.Reclaim clears_ask false
         (GoOn (frees_at slots queue number index releases.LoadsHead)) freed_es
     clears_steps =

@@ -16,14 +16,14 @@ module _ {T : Type 0} (m : Underway T) (p index : ℕ) (alive : has_died p m.sou
       → Stands m p (starts.Loan (calls.GiveBack index)) (flights.Loan (GiveBack by run))
       → Comes m p (starts.Loan (calls.GiveBack index)) (flights.Loan (GiveBack by run))
   give_back_comes by run there =
-      let at = there.at in
+      let stands = there.at in
       let named : ℕ → ℕ → ℕ → ℕ → Flight T =
       λ n base capacity given. flights.Loan
       (GiveBack n (record { call = record { base = base; call = push_on capacity run.call.call.stage }; given = given; room = tt })) in
       let same : flights.Loan (GiveBack by run) ≡ flights.Loan (give_at slots queue p index run.call.call.stage) =
-      ap (λ n. named n run.call.base run.call.call.capacity run.given) at.1
-      ∙ (ap (λ base. named p base run.call.call.capacity run.given) at.2
-      ∙ (ap (λ c. named p (completion_word slots queue) c run.given) at.3 ∙ ap (λ i. named p (completion_word slots queue) slots i) at.4))
+      ap (λ n. named n run.call.base run.call.call.capacity run.given) stands.1
+      ∙ (ap (λ base. named p base run.call.call.capacity run.given) stands.2
+      ∙ (ap (λ c. named p (completion_word slots queue) c run.given) stands.3 ∙ ap (λ i. named p (completion_word slots queue) slots i) stands.4))
       in
       subst (λ flight. Comes m p (starts.Loan (calls.GiveBack index)) flight) (sym same) (give_back_pushes m p index run.call.call.stage alive
       (subst (λ flight. Stands m p (starts.Loan (calls.GiveBack index)) flight) same there))

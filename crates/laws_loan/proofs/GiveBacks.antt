@@ -74,6 +74,7 @@ module _ {T : Type 0} (scene : Scene T) (p index : ℕ) where
   abbrev pub after_of : PushStage → After LoanFlight (Answer T)
   after_of stage = given_after T slots queue p index (push_takes 1 (push_on slots stage) stage (old stage))
 
+  -- what a step of the give-back shows, where it leaves the completion queue so
   abbrev StepTo : Core ℕ → PushStage → After LoanFlight (Answer T) → Effect → Type 0
   StepTo k stage after effect =
       GivesBy scene p k spanned (calls.GiveBack index) (asked stage) false after effect
@@ -106,8 +107,7 @@ module _ {T : Type 0} (scene : Scene T) (p index : ℕ) where
     old_is : (stage : PushStage) → IsOn queued (want stage) → old stage ≡ old_of queued (ask_of (want stage))
     old_is stage on = completion_old slots queue s (counted_for (sends_at latest)) h.parts (want stage) on
 
-    -- an operation on the completion queue changes that part of the words alone, to those of the
-    -- queue as it is then
+    -- an operation on the completion queue changes that part of the words alone, to those of the queue as it is then
     words_are : (stage : PushStage) (k : Core ℕ) → IsOn queued (want stage)
         → words_after queued (ask_of (want stage)) ≡ layout no_roles k
         → words_after (words_in s) (asked stage) ≡ s.set ++ (layout no_roles s.submission ++ layout no_roles k)
@@ -168,8 +168,7 @@ module _ {T : Type 0} (scene : Scene T) (p index : ℕ) where
     senders_span : span_of 0 (s.events ++ told) ≡ span_of 0 s.events
     senders_span = span_of-other p 0 s.events told (λ e. other (sym e)) (refl, (refl, tt))
 
-    -- where each index is agrees with the claims, the queues and the book once the index waits in
-    -- the completion queue
+    -- where each index is agrees with the claims, the queues and the book once the index waits in the completion queue
     placed_end : Placed slots s.claims s.submission.waiting full.waiting s.book (s.events ++ told)
     placed_end =
         let placed =
@@ -221,32 +220,32 @@ module _ {T : Type 0} (scene : Scene T) (p index : ℕ) where
     -- the load of the write position does what a step should
     loads_write : x.steps ≤ 0 → Does load_of_write
     loads_write steps =
-        let on : 0 < length queued = (let wide = long in omega arith) in
+        let on_queue : 0 < length queued = (let wide = long in omega arith) in
         let goes : after_of load_of_write ≡ GoOn (give_at slots queue p index load_of_read) =
-        ap (λ n. given_after T slots queue p index (push_takes 1 (push_on slots load_of_write) load_of_write n)) (old_is load_of_write on)
+        ap (λ n. given_after T slots queue p index (push_takes 1 (push_on slots load_of_write) load_of_write n)) (old_is load_of_write on_queue)
         ∙ ap (given_after T slots queue p index) (completion.loads_write slots some few s.completion h.parts.completion reached)
         in
         record {
           queue_then = s.completion;
           step =
               subst (λ a. StepTo s.completion load_of_write a effects.Quiet) (sym goes)
-              (goes_on load_of_write load_of_read s.completion refl refl h.parts.completion on refl
+              (goes_on load_of_write load_of_read s.completion refl refl h.parts.completion on_queue refl
               (refl, (let low = reached in omega arith)) (omega arith) (omega arith) (λ room stage known. known));
         }
 
     -- the load of the read position does so: there is room, and the push goes on to the cell
     loads_read : x.steps ≤ 1 → Does load_of_read
     loads_read steps =
-        let on : 1 < length queued = (let wide = long in omega arith) in
+        let on_queue : 1 < length queued = (let wide = long in omega arith) in
         let goes : after_of load_of_read ≡ GoOn (give_at slots queue p index store_of_cell) =
-        ap (λ n. given_after T slots queue p index (push_takes 1 (push_on slots load_of_read) load_of_read n)) (old_is load_of_read on)
+        ap (λ n. given_after T slots queue p index (push_takes 1 (push_on slots load_of_read) load_of_read n)) (old_is load_of_read on_queue)
         ∙ ap (given_after T slots queue p index) (completion.loads_read slots some few s.completion h.parts.completion reached room)
         in
         record {
           queue_then = s.completion;
           step =
               subst (λ a. StepTo s.completion load_of_read a effects.Quiet) (sym goes)
-              (goes_on load_of_read store_of_cell s.completion refl refl h.parts.completion on refl
+              (goes_on load_of_read store_of_cell s.completion refl refl h.parts.completion on_queue refl
               (refl, room, refl, omega arith, (λ i below. absurd (omega arith)), (let low = reached in omega arith))
               (omega arith) (omega arith) (λ room stage known. known));
         }

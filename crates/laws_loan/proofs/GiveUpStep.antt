@@ -31,9 +31,9 @@ module _ {T : Type 0} (m : Underway T) where
       → Stands m 0 (starts.Loan (calls.GiveUp index)) (flights.Loan (give_up_at slots queue index stage))
       → Comes m 0 (starts.Loan (calls.GiveUp index)) (flights.Loan (give_up_at slots queue index stage))
   give_up_releases index stage there =
-      let at = there.at in
-      let from = ap (span_of 0) sound.holds.same ∙ (there.span ∙ ap (λ es. Open (starts.Loan (calls.GiveUp index)) es) at.3) in
+      let stands = there.at in
+      let from = ap (span_of 0) sound.holds.same ∙ (there.span ∙ ap (λ es. Open (starts.Loan (calls.GiveUp index)) es) stands.3) in
       let value = old_of (words_in sound.state) (ask_of (back_asks slots index stage)) in
       subst (With m index (gives_up T slots queue index) there.knows stage (release_effect index stage))
       (sym (goes_so T slots queue index stage value)) (releases_on m index (gives_up T slots queue index) there.knows stage
-      (record { found = there.found; gives = at.4; from = from; few = (let steps = there.steps in omega arith) }))
+      (record { found = there.found; gives = stands.4; from = from; few = (let steps = there.steps in omega arith) }))

@@ -55,6 +55,7 @@ module _ {T : Type 0} where
   Carries index (Open (starts.Loan calls.Reclaim) wrote) = Unit {0}
   Carries index span = ⊥
 
+  -- who carries an index has a call under way
   pub carried_open : (index : ℕ) (span : Span T) → Carries index span → IsOpen (λ call. Unit {0}) (λ wrote. Unit {0}) span
   carried_open = grind arith
 
@@ -90,6 +91,7 @@ module _ {T : Type 0} where
   Knowing slots queue s since changes backs (flights.Loan flight) = FlightKnows slots queue s since changes backs flight
   Knowing slots queue s since changes backs flight = ⊥
 
+  -- the loan channel as a family: its state, what is so between turns, and what each call knows
   abbrev pub family : Coding T → ℕ → ℕ → Family T
   family code slots queue =
       record {

@@ -80,8 +80,8 @@ module _ {T : Type 0} (m : Underway T) (p : ℕ) where
   step_in_order : (flight : Flight T) → party_of p t.world.latest ≡ Some x → x.doing ≡ Going flight since
       → InOrder t p promise t.world.coding t.world.words t.world.kept x.start flight
   step_in_order flight found doing =
-      let is = kept_is t.world.kept t.world.words s.state s.fit in
-      in_order_from t p promise t.world.coding (words_in s.state) (registries.Loan s.state.book) x.start flight is.words is.kept
+      let kept_there = kept_is t.world.kept t.world.words s.state s.fit in
+      in_order_from t p promise t.world.coding (words_in s.state) (registries.Loan s.state.book) x.start flight kept_there.words kept_there.kept
       (in_order x.start flight (stands_there (channel code slots queue) t s p x since flight found doing))
 
 -- a call of a loan channel goes on as its table says
@@ -112,10 +112,11 @@ pub loan_keeps : {T : Type 0} → Keeps T kinds.Loan
 loan_keeps {T} =
     record {
       kept = λ t is r.
-          let s = reached t is r in
-          subst (λ P. IsKeptBy P t) (sym (ap (promise_of {T = T}) is)) (kept_by t s.0 s.1.holds.parts.set.some s.1 s.2 s.3);
+          let sound_there = reached t is r in
+          subst (λ P. IsKeptBy P t) (sym (ap (promise_of {T = T}) is))
+          (kept_by t sound_there.0 sound_there.1.holds.parts.set.some sound_there.1 sound_there.2 sound_there.3);
       turn = λ t turn is e r.
-          let s = reached t is r in
+          let sound_there = reached t is r in
           subst (λ P. IsTurnBy P t turn (after_turn t turn)) (sym (ap (promise_of {T = T}) is))
-          (turn_is (family t.world.coding t.world.capacity s.0) (orders t.world.coding t.world.capacity s.0) t turn e r s.1);
+          (turn_is (family t.world.coding t.world.capacity sound_there.0) (orders t.world.coding t.world.capacity sound_there.0) t turn e r sound_there.1);
     }

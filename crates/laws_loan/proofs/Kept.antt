@@ -19,7 +19,7 @@ use Rattle.laws_loan.proofs.Tabled.{IsTabled, place_in}
 use Rattle.laws_loan.proofs.QueueEvents.{items}
 use Rattle.laws_loan.proofs.Waits.{sent_is, back_is, are_those}
 
--- the sender has claimed an index just where it is not free
+-- an index that the sender has claimed is not free
 claim_tells : (spot : Spot) → is_some (claim_of spot) ≡ true → spot ≢ Free
 claim_tells spot some e = true≢false (sym some ∙ ap (λ x. is_some (claim_of x)) e)
 
@@ -36,42 +36,42 @@ module _ {T : Type 0} where
   channel_kept : (t : Trace T) (queue : ℕ) → (s : frame.Sound (family t.world.coding t.world.capacity queue) t)
       → Each LivesRight t.events → IsTabled t → IsChannel t
   channel_kept t queue s lives tabled =
-      let w = t.world in
-      let k = s.state in
+      let world = t.world in
+      let channel_now = s.state in
       let hold = s.holds in
       let parts = hold.parts in
       let told = hold.told in
-      let is = kept_is w.kept w.words k s.fit in
-      let busy = counted_for (sends_at w.latest) in
-      let sent : sent_in w.coding w.capacity k.book.queue w.words ≡ items k.submission.waiting =
-      ap (λ q. sent_in w.coding w.capacity q w.words) parts.capacity
-      ∙ (ap (sent_in w.coding w.capacity queue) is.words ∙ sent_is w.coding w.capacity queue k busy parts)
+      let kept_there = kept_is world.kept world.words channel_now s.fit in
+      let busy = counted_for (sends_at world.latest) in
+      let sent : sent_in world.coding world.capacity channel_now.book.queue world.words ≡ items channel_now.submission.waiting =
+      ap (λ q. sent_in world.coding world.capacity q world.words) parts.capacity
+      ∙ (ap (sent_in world.coding world.capacity queue) kept_there.words ∙ sent_is world.coding world.capacity queue channel_now busy parts)
       in
-      let back : given_back_in w.coding w.capacity k.book.queue w.words ≡ items k.completion.waiting =
-      ap (λ q. given_back_in w.coding w.capacity q w.words) parts.capacity
-      ∙ (ap (given_back_in w.coding w.capacity queue) is.words ∙ back_is w.coding w.capacity queue k busy parts)
+      let back : given_back_in world.coding world.capacity channel_now.book.queue world.words ≡ items channel_now.completion.waiting =
+      ap (λ q. given_back_in world.coding world.capacity q world.words) parts.capacity
+      ∙ (ap (given_back_in world.coding world.capacity queue) kept_there.words ∙ back_is world.coding world.capacity queue channel_now busy parts)
       in
-      let flag : (index : ℕ) → index < w.capacity
-      → has_flag (get_or w.words (flag_word w.capacity index) 0) index ≡ is_some (claim_of (spot_of index t.events)) =
+      let flag : (index : ℕ) → index < world.capacity
+      → has_flag (get_or world.words (flag_word world.capacity index) 0) index ≡ is_some (claim_of (spot_of index t.events)) =
       λ index below.
       let wide = parts.set.wide in
-      let within = flag_within w.capacity index below in
-      let read : get_or w.words (flag_word w.capacity index) 0 ≡ get_or k.set (flag_word w.capacity index) 0 =
-      ap (λ ws. get_or ws (flag_word w.capacity index) 0) is.words
-      ∙ get_or_append_left k.set (layout no_roles k.submission ++ layout no_roles k.completion) 0
-      (flag_word w.capacity index) (omega arith)
+      let within = flag_within world.capacity index below in
+      let read : get_or world.words (flag_word world.capacity index) 0 ≡ get_or channel_now.set (flag_word world.capacity index) 0 =
+      ap (λ ws. get_or ws (flag_word world.capacity index) 0) kept_there.words
+      ∙ get_or_append_left channel_now.set (layout no_roles channel_now.submission ++ layout no_roles channel_now.completion) 0
+      (flag_word world.capacity index) (omega arith)
       in
       ap (λ x. has_flag x index) read
       ∙ (parts.set.flags index below
       ∙ (ap is_some (parts.placed.claimed index below) ∙ ap (λ es. is_some (claim_of (spot_of index es))) hold.same))
       in
-      subst (λ kept. IsChannelBy kept t) (sym is.kept)
+      subst (λ kept. IsChannelBy kept t) (sym kept_there.kept)
       (record {
         moves = hold.moves;
         begins = hold.begins;
         answers = hold.answers;
         lives = lives;
-        table = λ index. subst (λ kept. place_in kept index ≡ place_of index t.events) is.kept (tabled index);
+        table = λ index. subst (λ kept. place_in kept index ≡ place_of index t.events) kept_there.kept (tabled index);
         passing = λ index p e. carried_open index (span_of p t.events) (hold.passing index p e);
         parties = λ index p by. subst (λ es. IsBy p (spot_of index es) → (p ≡ 0) ⊎ (p ≡ receiver_of es)) hold.same (parts.placed.parties index p) by;
         flags =
@@ -80,40 +80,43 @@ module _ {T : Type 0} where
               λ ne. flag index below ∙ claim_told (spot_of index t.events) ne,
             );
         sent =
-            subst (λ es. published es ≡ handed_out es ++ sent_in w.coding w.capacity k.book.queue w.words) hold.same
-            (told.book ∙ ap (λ xs. handed_out k.events ++ xs) (sym sent));
+            subst (λ es. published es ≡ handed_out es ++ sent_in world.coding world.capacity channel_now.book.queue world.words) hold.same
+            (told.book ∙ ap (λ xs. handed_out channel_now.events ++ xs) (sym sent));
         waits =
             subst (λ xs. AreThose Waiting xs t.events) (sym sent)
-            (subst (λ es. AreThose Waiting (items k.submission.waiting) es) hold.same
-            (are_those Waiting is_waiting refl waits_there k.submission.waiting k.events parts.placed.waits));
+            (subst (λ es. AreThose Waiting (items channel_now.submission.waiting) es) hold.same
+            (are_those Waiting is_waiting refl waits_there channel_now.submission.waiting channel_now.events parts.placed.waits));
         list =
             subst (λ q. standing (overflowing_list q) (queue_moments t.events) ≡ take q (waiting t.events)) (sym parts.capacity)
             (subst (λ es. standing (overflowing_list queue) (queue_moments es) ≡ take queue (waiting es)) hold.same
-            (told.stand ∙ (sym (take-map Index queue k.submission.waiting)
-            ∙ ap (take queue) (sym (waiting_is k.events (items k.submission.waiting) told.book)))));
+            (told.stand ∙ (sym (take-map Index queue channel_now.submission.waiting)
+            ∙ ap (take queue) (sym (waiting_is channel_now.events (items channel_now.submission.waiting) told.book)))));
         legal =
             subst (λ q. IsLegal (overflowing_list q) (queue_moments t.events)) (sym parts.capacity)
             (subst (λ es. IsLegal (overflowing_list queue) (queue_moments es)) hold.same told.legal);
         returned =
-            subst (λ es. items (given_back es) ≡ items (taken_back es) ++ given_back_in w.coding w.capacity k.book.queue w.words) hold.same
-            (ap items told.given ∙ (map-append Index (taken_back k.events) k.completion.waiting ∙ ap (λ xs. items (taken_back k.events) ++ xs) (sym back)));
+            subst (λ es. items (given_back es)
+            ≡ items (taken_back es) ++ given_back_in world.coding world.capacity channel_now.book.queue world.words)
+            hold.same
+            (ap items told.given ∙ (map-append Index (taken_back channel_now.events) channel_now.completion.waiting
+            ∙ ap (λ xs. items (taken_back channel_now.events) ++ xs) (sym back)));
         returns =
             subst (λ xs. AreThose Returning xs t.events) (sym back)
-            (subst (λ es. AreThose Returning (items k.completion.waiting) es) hold.same
-            (are_those Returning is_returning refl returns_there k.completion.waiting k.events parts.placed.returns));
-        keeps = subst (λ es. KeepsBook k.book es) hold.same parts.placed.keeps;
+            (subst (λ es. AreThose Returning (items channel_now.completion.waiting) es) hold.same
+            (are_those Returning is_returning refl returns_there channel_now.completion.waiting channel_now.events parts.placed.returns));
+        keeps = subst (λ es. KeepsBook channel_now.book es) hold.same parts.placed.keeps;
       })
 
-  -- and so the machine keeps the promise
+  -- the machine keeps the promise
   pub kept_by : (t : Trace T) (queue : ℕ) → 1 ≤ t.world.capacity
       → (s : frame.Sound (family t.world.coding t.world.capacity queue) t) → Each LivesRight t.events → IsTabled t
       → IsKeptBy promise t
   kept_by t queue some s lives tabled =
-      let w = t.world in
+      let world = t.world in
       record {
         spans = s.inv.spans;
         progress =
-            λ p. frame.progresses (family w.coding w.capacity queue) (bounds w.coding w.capacity queue some) s.state p
-            t.events w.changes (party_of p w.latest) (span_of p t.events) (s.inv.calls p) (s.inv.knows p);
+            λ p. frame.progresses (family world.coding world.capacity queue) (bounds world.coding world.capacity queue some) s.state p
+            t.events world.changes (party_of p world.latest) (span_of p t.events) (s.inv.calls p) (s.inv.knows p);
         promised = channel_kept t queue s lives tabled;
       }

@@ -44,6 +44,7 @@ reclaim_counts (reclaims.Drains stage) = 0
 reclaim_counts (reclaims.Empties stage) = 0
 reclaim_counts (reclaims.Releases number index stage) = release_counts stage
 
+-- how many calls of the set each call is, that take an index or give one back at this stage
 abbrev pub counts : LoanFlight → ℕ
 counts (Loan run) = acquire_counts run.call.stage
 counts (Send run) = send_counts run.call.stage
@@ -73,6 +74,7 @@ module _ {T : Type 0} where
   reclaim_number slots wrote (reclaims.Releases number index stage) =
       8 * (slots + 1) + 5 * number + release_number stage 0
 
+  -- at most so many steps a call has taken at its stage
   abbrev pub number_of : ℕ → List (Event T) → LoanFlight → ℕ → ℕ
   number_of slots wrote (Loan run) backs = acquire_number slots run.call.stage 0
   number_of slots wrote (Send run) backs = send_number run.call.stage
@@ -110,6 +112,7 @@ module _ {T : Type 0} where
       ∷ Acted 0 (send_of index) (PoppedIndex (get_or k.cells (read % (queue + 1)) 0))
       ∷ []
 
+  -- what a send has written at each stage
   abbrev pub send_wrote : ℕ → Core ℕ → ℕ → SendStage → List (Event T)
   send_wrote queue k index (sends.Pushes stage) = push_wrote queue k index stage
   send_wrote queue k index (sends.Releases oldest stage) =
@@ -125,6 +128,7 @@ module _ {T : Type 0} where
 
 -- ---- where a reclaim stands, during which nobody else moves a position
 
+-- where the pops of the submission queue stand
 abbrev pub DrainsAt : Core ℕ → PopStage → Type 0
 DrainsAt k overflow_pops.FindsNone = ⊥
 DrainsAt k overflow_pops.LoadsRead = Unit {0}
@@ -132,6 +136,7 @@ DrainsAt k (overflow_pops.LoadsWrite read) = read ≡ k.read
 DrainsAt k (overflow_pops.LoadsCell read) = (read ≡ k.read) × (k.read < k.write)
 DrainsAt k (overflow_pops.MovesRead read) = (read ≡ k.read) × (k.read < k.write)
 
+-- where the pops of the completion queue stand
 abbrev pub EmptiesAt : ℕ → Core ℕ → pops.PopStage → Type 0
 EmptiesAt slots k pops.TheVariants.LoadsRead = Unit {0}
 EmptiesAt slots k (pops.TheVariants.LoadsWrite read) = read ≡ k.read
@@ -192,6 +197,7 @@ module _ {T : Type 0} (slots queue : ℕ) (s : Channel T) where
       KnowsOverflowPush queue s.submission index stage × PushAt index stage
   SendAt index (sends.Releases oldest stage) = GivesAt oldest stage
 
+  -- what a take-back knows at each stage
   abbrev pub TakeBackAt : TakeBackStage → Type 0
   TakeBackAt (take_backs.Pops stage found) =
       KnowsPop one_word slots s.completion (in_one found) stage
@@ -213,6 +219,7 @@ module _ {T : Type 0} (slots queue : ℕ) (s : Channel T) where
   abbrev pub WhileAlive : ℕ → Type 0 → Type 0
   WhileAlive p Fact = has_died p s.book.dead ≡ false → Fact
 
+  -- what a call knows at its stage: whose it is, on which channel, and what it has written
   abbrev pub At : ℕ → List (Event T) → LoanStart → LoanFlight → Type 0
   At p wrote calls.Loan (Loan run) =
       (p ≡ 0) × (run.call.capacity ≡ slots) × (wrote ≡ []) × TakesAt slots s.set run.call.stage
@@ -243,6 +250,7 @@ module _ {T : Type 0} (slots queue : ℕ) (s : Channel T) where
 
   -- ---- what it knows of the counts: only a receive turns back, where a send has moved the read position
 
+  -- a receive has turned back no more often than the read position was moved, and the other calls never
   abbrev pub FlightKnows : ℕ → ℕ → ℕ → LoanFlight → Type 0
   FlightKnows since changes backs (Loan run) = backs ≡ 0
   FlightKnows since changes backs (Send run) = backs ≡ 0

@@ -41,39 +41,38 @@ use Rattle.laws_loan.proofs.TakeBackStep.{take_back_at, take_back_steps}
 module _ {T : Type 0} (m : Underway T) where
   open m use {coding as code, slots, queue, trace as t, sound, caller as x, since}
 
-  -- where it stands there it comes so on
+  -- a call that stands there comes on so
   abbrev Goes : ℕ → LoanStart → LoanFlight → Type 0
   Goes p start flight =
       Stands m p (starts.Loan start) (flights.Loan flight)
       → Comes m p (starts.Loan start) (flights.Loan flight)
 
-  -- a step of a call whose party lives comes to what is asked, by the stage at which the call
-  -- stands
+  -- a step of a call whose party lives comes to what is asked, by the stage at which the call stands
   call_comes : (p : ℕ) (start : LoanStart) (flight : LoanFlight) → has_died (rows.party_of flight) sound.state.book.dead ≡ false → Goes p start flight
   call_comes p calls.Loan (Loan run) alive there =
-      let at = there.at in
-      subst (λ q. Goes q calls.Loan (Loan run)) (sym at.0)
-      (subst (λ n. Goes 0 calls.Loan (loan_at n run.call.stage)) (sym at.1) (λ there. loan_acquires m run.call.stage there))
+      let stands = there.at in
+      subst (λ q. Goes q calls.Loan (Loan run)) (sym stands.0)
+      (subst (λ n. Goes 0 calls.Loan (loan_at n run.call.stage)) (sym stands.1) (λ there. loan_acquires m run.call.stage there))
       there
   call_comes p (calls.Send index) (Send run) alive there =
-      let at = there.at in
-      subst (λ q. Goes q (calls.Send index) (Send run)) (sym at.0)
-      (subst (λ n. Goes 0 (calls.Send index) (send_at n run.call.queue run.given run.call.stage)) (sym at.1)
-      (subst (λ n. Goes 0 (calls.Send index) (send_at slots n run.given run.call.stage)) (sym at.2)
-      (subst (λ n. Goes 0 (calls.Send index) (send_at slots queue n run.call.stage)) (sym at.3) (λ there. send_steps m index run.call.stage there))))
+      let stands = there.at in
+      subst (λ q. Goes q (calls.Send index) (Send run)) (sym stands.0)
+      (subst (λ n. Goes 0 (calls.Send index) (send_at n run.call.queue run.given run.call.stage)) (sym stands.1)
+      (subst (λ n. Goes 0 (calls.Send index) (send_at slots n run.given run.call.stage)) (sym stands.2)
+      (subst (λ n. Goes 0 (calls.Send index) (send_at slots queue n run.call.stage)) (sym stands.3) (λ there. send_steps m index run.call.stage there))))
       there
   call_comes p (calls.GiveUp index) (GiveUp run) alive there =
-      let at = there.at in
-      subst (λ q. Goes q (calls.GiveUp index) (GiveUp run)) (sym at.0)
-      (subst (λ n. Goes 0 (calls.GiveUp index) (give_up_at n queue run.given run.call.stage)) (sym at.1)
-      (subst (λ n. Goes 0 (calls.GiveUp index) (give_up_at slots queue n run.call.stage)) (sym at.2)
+      let stands = there.at in
+      subst (λ q. Goes q (calls.GiveUp index) (GiveUp run)) (sym stands.0)
+      (subst (λ n. Goes 0 (calls.GiveUp index) (give_up_at n queue run.given run.call.stage)) (sym stands.1)
+      (subst (λ n. Goes 0 (calls.GiveUp index) (give_up_at slots queue n run.call.stage)) (sym stands.2)
       (λ there. give_up_releases m index run.call.stage there)))
       there
   call_comes p calls.TakeBack (TakeBack run) alive there =
-      let at = there.at in
-      subst (λ q. Goes q calls.TakeBack (TakeBack run)) (sym at.0)
-      (subst (λ n. Goes 0 calls.TakeBack (take_back_at n run.call.queue run.call.stage)) (sym at.1)
-      (subst (λ n. Goes 0 calls.TakeBack (take_back_at slots n run.call.stage)) (sym at.2) (λ there. take_back_steps m run.call.stage there)))
+      let stands = there.at in
+      subst (λ q. Goes q calls.TakeBack (TakeBack run)) (sym stands.0)
+      (subst (λ n. Goes 0 calls.TakeBack (take_back_at n run.call.queue run.call.stage)) (sym stands.1)
+      (subst (λ n. Goes 0 calls.TakeBack (take_back_at slots n run.call.stage)) (sym stands.2) (λ there. take_back_steps m run.call.stage there)))
       there
   call_comes p calls.Receive (Receive by run) alive there =
       let lives : has_died p sound.state.book.dead ≡ false = subst (λ q. has_died q sound.state.book.dead ≡ false) there.at.1 alive in
@@ -97,8 +96,8 @@ module _ {T : Type 0} (m : Underway T) where
       → party_of p t.world.latest ≡ Some x → x.doing ≡ Going flight since
       → frame.ComesByStep (channel code slots queue) t p x flight since (asked t.world.coding flight) (old_of t.world.words (asked t.world.coding flight))
   step_comes p flight r found doing =
-      let is = kept_is t.world.kept t.world.words sound.state sound.fit in
-      comes_from (channel code slots queue) t sound p x since (words_in sound.state) (registries.Loan sound.state.book) flight is.words is.kept
+      let kept_there = kept_is t.world.kept t.world.words sound.state sound.fit in
+      comes_from (channel code slots queue) t sound p x since (words_in sound.state) (registries.Loan sound.state.book) flight kept_there.words kept_there.kept
       (comes p x.start flight r (stands_there (channel code slots queue) t sound p x since flight found doing))
 
 module _ {T : Type 0} (code : Coding T) (slots queue : ℕ) where
@@ -146,12 +145,12 @@ reached {T} t is is_reached = kept_by_runs IsSound keeps t first is_reached
     -- the opening has it, at any number that is admitted
     first : (queue : ℕ) → queue_error t.world.kind queue ≡ None → IsSound (opened t.world.coding t.world.kind t.world.capacity queue t.world.parties)
     first queue queued =
-        let w = t.world in
-        let few = slots_are w.capacity (subst (λ kind. capacity_error kind w.capacity ≡ None) is is_reached.admitted) in
+        let world = t.world in
+        let few = slots_are world.capacity (subst (λ kind. capacity_error kind world.capacity ≡ None) is is_reached.admitted) in
         let fits = queue_is queue (subst (λ kind. queue_error kind queue ≡ None) is queued) in (
           queue,
-          subst (λ kind. frame.Sound (family w.coding w.capacity queue) (opened w.coding kind w.capacity queue w.parties))
-              (sym is) (opening_sound w.capacity queue few.0 few.1 fits.0 fits.1 w.coding w.parties),
+          subst (λ kind. frame.Sound (family world.coding world.capacity queue) (opened world.coding kind world.capacity queue world.parties))
+              (sym is) (opening_sound world.capacity queue few.0 few.1 fits.0 fits.1 world.coding world.parties),
           Each-nil _,
-          subst (λ kind. IsTabled (opened w.coding kind w.capacity queue w.parties)) (sym is) (λ i. all_free w.capacity i),
+          subst (λ kind. IsTabled (opened world.coding kind world.capacity queue world.parties)) (sym is) (λ i. all_free world.capacity i),
         )

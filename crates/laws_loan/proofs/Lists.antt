@@ -53,7 +53,7 @@ sum_few : (f : ℕ → ℕ) (n : ℕ) → ((i : ℕ) → f i ≤ 1) → sum_belo
 sum_few f zero one = omega arith
 sum_few f (suc n) one = let here = one n in let rest = sum_few f n one in omega arith
 
--- and less where one counts nothing
+-- the sum of numbers that are at most 1 is less than their count where one is 0
 pub sum_less : (f : ℕ → ℕ) (n i : ℕ) → ((j : ℕ) → f j ≤ 1) → i < n → f i ≡ 0 → sum_below f n < n
 sum_less f zero i one below none = absurd (omega arith)
 sum_less f (suc n) i one below none = ⊎_elim last (before (λ less. sum_less f n i one less none)) (cases_eq i n)
@@ -84,7 +84,7 @@ module _ {T : Type 0} (is : Spot → Bool) where
       let few = sum_few (λ i. times i xs) slots (λ i. let here = all i in let most = one_at_most (is (spot_of i events)) in omega arith) in
       omega arith
 
-  -- and fewer where one index is elsewhere
+  -- the list is shorter than the slots where one index is elsewhere
   pub lists_room : (xs : List ℕ) (events : List (Event T)) (slots i : ℕ) → Lists xs events
       → ((j : ℕ) → slots ≤ j → is (spot_of j events) ≡ false) → i < slots → is (spot_of i events) ≡ false
       → length xs < slots

@@ -71,15 +71,14 @@ module _ {T : Type 0} (code : Coding T) (slots queue : ℕ) where
 
     -- ---- any turn
 
-    -- each event of a turn that is not refused is right of the living: its party has not died
-    -- before
+    -- each event of a turn that is not refused is right of the living: its party has not died before
     turn_right : (turn : Turn T) → call_refusal t.world turn ≡ None → AreRight LivesRight t.events (events_of t.world turn)
     turn_right (Begin p start) e = (begins p start (may_begin t.world p start e), tt)
     turn_right (Next p) e = next p (next_passes t.world p e) (party_of p t.world.latest) refl
     turn_right (Decide p said) e = decided p said (decision_passes t.world p said e) (party_of p t.world.latest) refl
     turn_right (Die o) e =
-        let is = kept_is t.world.kept t.world.words sound.state sound.fit in
-        (alive_by o (subst (λ kept. is_dead kept o ≡ false) is.kept (may_die t.world o e).lives), tt)
+        let kept_there = kept_is t.world.kept t.world.words sound.state sound.fit in
+        (alive_by o (subst (λ kept. is_dead kept o ≡ false) kept_there.kept (may_die t.world o e).lives), tt)
 
     pub turn_lives : (turn : Turn T) → call_refusal t.world turn ≡ None → Each LivesRight t.events → Each LivesRight (after_turn t turn).events
     turn_lives turn e all = Each-append LivesRight t.events (events_of t.world turn) all (turn_right turn e)

@@ -61,8 +61,7 @@ module _ {T : Type 0} (m : Underway T) (stage : AcquireStage) (there : Stands m 
   With back after =
       ComesBy m 0 calls.Loan ask back after effects.Claims
 
-  -- where the acquire leads on so over the set, the loan goes on, claims an index, or ends with
-  -- none
+  -- where the acquire leads on so over the set, the loan goes on, claims an index, or ends with none
   leads_on : (acquire : After acquire_calls.Acquire Acquired)
       → AcquireLeads slots stage sound.state.set words_then sound.state.claims acquire
       → With false (loaned_after T acquire)

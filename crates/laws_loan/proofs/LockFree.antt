@@ -39,7 +39,7 @@ module _ {T : Type 0} where
   free_sender slots (Some x) e = go x.doing refl
     where
       go : (d : Doing T) → x.doing ≡ d → sender_left slots (Some x) ≡ most_sending slots
-      go (Going flight since) is = absurd (let on : flight_of (Some x.doing) ≡ Some flight = ap (λ d. flight_of (Some d)) is in cc)
+      go (Going flight since) is = absurd (let is_under_way : flight_of (Some x.doing) ≡ Some flight = ap (λ d. flight_of (Some d)) is in cc)
       go (Over others) is = rw is refl
 
   -- a receiver without a call may still take four
@@ -48,7 +48,7 @@ module _ {T : Type 0} where
   free_receiver read (Some x) e = go x.doing refl
     where
       go : (d : Doing T) → x.doing ≡ d → receiver_left read (Some x) ≡ 4
-      go (Going flight since) is = absurd (let on : flight_of (Some x.doing) ≡ Some flight = ap (λ d. flight_of (Some d)) is in cc)
+      go (Going flight since) is = absurd (let is_under_way : flight_of (Some x.doing) ≡ Some flight = ap (λ d. flight_of (Some d)) is in cc)
       go (Over others) is = rw is refl
 
   -- a begin leaves the receiver and who has died
@@ -63,8 +63,8 @@ dies q owner dead left = ⊎_elim now before (cases_eq q owner)
   where
     now : q ≡ owner → cond (has_died q (dead_with owner dead)) 0 left ≤ cond (has_died q dead) 0 left
     now e =
-        let is : has_died q (dead_with owner dead) ≡ true = subst (λ n. has_died n (dead_with owner dead) ≡ true) (sym e) (died_now owner dead) in
-        let none = ap (λ b. cond b 0 left) is in
+        let has_died_now : has_died q (dead_with owner dead) ≡ true = subst (λ n. has_died n (dead_with owner dead) ≡ true) (sym e) (died_now owner dead) in
+        let none = ap (λ b. cond b 0 left) has_died_now in
         omega arith
 
     before : q ≢ owner → cond (has_died q (dead_with owner dead)) 0 left ≤ cond (has_died q dead) 0 left
@@ -90,8 +90,8 @@ module _ {T : Type 0} (code : Coding T) (slots queue : ℕ) (t : Trace T) (sound
   -- the begin of a call makes the weight no greater, where its party has none under way
   begins : (p : ℕ) (start : Start T) → (o : Option (Flight T)) → is_none o ≡ false → flight_in w p ≡ None
       → weight slots (after_begin w p start o) ≤ weight slots w
-  begins p start None is_none_false free = absurd (cc)
-  begins p start (Some flight) is_none_false free = ⊎_elim sender other (cases_eq p 0)
+  begins p start None under_way free = absurd (cc)
+  begins p start (Some flight) under_way free = ⊎_elim sender other (cases_eq p 0)
     where
       new : World T
       new = after_begin w p start (Some flight)
@@ -116,8 +116,7 @@ module _ {T : Type 0} (code : Coding T) (slots queue : ℕ) (t : Trace T) (sound
       were : receivers_left slots w.words w.kept w.latest ≡ cond lost 0 (left (party_of now w.latest))
       were = receivers_are code slots queue t sound
 
-      -- where the receiver's call may take no more than before, the receiver has no more left than
-      -- before, dead or not
+      -- where the receiver's call may take no more than before, the receiver has no more left than before, dead or not
       no_more : left (party_of now new.latest) ≤ left (party_of now w.latest)
           → receivers_left slots new.words new.kept new.latest ≤ receivers_left slots w.words w.kept w.latest
       no_more le = go lost (rest) were
@@ -133,14 +132,14 @@ module _ {T : Type 0} (code : Coding T) (slots queue : ℕ) (t : Trace T) (sound
       sender mine =
           let most = sender_most slots (party_of 0 new.latest) in
           let was = free_sender slots (party_of 0 w.latest) (subst (λ q. flight_in w q ≡ None) mine free) in
-          let stays = ap left (there now (λ is_none_false. not_sender code slots queue t sound (is_none_false ∙ mine))) in
+          let stays = ap left (there now (λ under_way. not_sender code slots queue t sound (under_way ∙ mine))) in
           let rests = no_more (omega arith) in
           omega arith
 
-      -- and where another party begins
+      -- the begin of another party's call leaves no more weight
       other : p ≢ 0 → weight slots new ≤ weight slots w
       other ne =
-          let same_sender = ap (sender_left slots) (there 0 (λ is_none_false. ne (sym is_none_false))) in
+          let same_sender = ap (sender_left slots) (there 0 (λ under_way. ne (sym under_way))) in
           let rests = no_more (⊎_elim receives neither (cases_eq p now)) in
           omega arith
         where
@@ -151,7 +150,7 @@ module _ {T : Type 0} (code : Coding T) (slots queue : ℕ) (t : Trace T) (sound
               omega arith
 
           neither : p ≢ now → left (party_of now new.latest) ≤ left (party_of now w.latest)
-          neither ne = let stays = ap left (there now (λ is_none_false. ne (sym is_none_false))) in omega arith
+          neither ne = let stays = ap left (there now (λ under_way. ne (sym under_way))) in omega arith
 
   -- ---- a call goes on
 
@@ -163,6 +162,7 @@ module _ {T : Type 0} (code : Coding T) (slots queue : ℕ) (t : Trace T) (sound
   nexts p flight is passed None found later = let none : flight_in w p ≡ None = ap (λ o. flight_of (doing_of o)) found in absurd (cc)
   nexts p flight is passed (Some x) found later = go x.doing refl later
     where
+      -- the cases are whether the party's call is over or under way
       go : (d : Doing T) → x.doing ≡ d
           → P code slots queue
           (record {
@@ -193,6 +193,7 @@ module _ {T : Type 0} (code : Coding T) (slots queue : ℕ) (t : Trace T) (sound
       let passed = next_passes w p e in
       go (flight_in w p) refl passed
     where
+      -- the cases are whether the party has a call under way
       go : (o : Option (Flight T)) → flight_in w p ≡ o → first_row (going_rows w.coding w.kept (flight_in w p) None) ≡ None
           → There (steps_of w (Next p)) (world_after w (Next p)) (events_of w (Next p))
       go None is passed = let may = may_next w p e in absurd (let one = may.is in cc)
@@ -219,8 +220,7 @@ module _ {T : Type 0} where
   any_turns [] = tt
   any_turns (turn ∷ turns) = (tt, any_turns turns)
 
-  -- the weight is one by which the channel is lock-free, at most 13 times the number of slots, and
-  -- 11
+  -- the weight is one by which the channel is lock-free, at most 13 times the number of slots, and 11
   weighs : (code : Coding T) (slots queue : ℕ) → Weighs refusal_of any_turn (P code slots queue) (weight slots) (13 * slots + 11)
   weighs code slots queue =
       record {

@@ -144,6 +144,7 @@ module _ {T : Type 0} (code : Coding T) (slots queue : ℕ) where
           (p ≡ 0) × (AllCosts T slots queue some few fits t.world.words flight (ask_of (want_of t.world.coding flight)) st.after
           ⊎ ((dead ≡ true) × (allowance slots flight ≡ most_sending slots)))
 
+      -- the living receiver's step leaves its call fewer steps
       abbrev Receives : Flight T → Step (Flight T) (Registry T) T → Type 0
       Receives flight st =
           (p ≢ 0) × (p ≡ r) × (dead ≡ false)
@@ -174,14 +175,12 @@ module _ {T : Type 0} (code : Coding T) (slots queue : ℕ) where
               flight on (old_of t.world.words (ask_of (want flight))) s.book told in
               (stays.0, ap (λ q. has_died q (book_then start flight).dead) stays.0 ∙ ap (λ ds. has_died r ds) stays.1)
           go (Done answer) told =
-              let over : (loan_step start flight).after ≡ Done answer =
-              ap (λ a. as_call flights.Loan (λ answer. answer) a) told in
+              let over : (loan_step start flight).after ≡ Done answer = ap (λ a. as_call flights.Loan (λ answer. answer) a) told in
               absurd (cc)
 
       module _ (x : Party T) (since : ℕ) (same_steps : x.steps ≡ steps) where
         abbrev Stands : LoanStart → LoanFlight → Type 0
-        Stands start flight =
-            StandsThere (channel code slots queue) t sound p x since (starts.Loan start) (flights.Loan flight)
+        Stands start flight = StandsThere (channel code slots queue) t sound p x since (starts.Loan start) (flights.Loan flight)
 
         abbrev SaysOf : LoanStart → LoanFlight → Type 0
         SaysOf start flight = Says (flights.Loan flight) (loan_step start flight)
@@ -232,65 +231,64 @@ module _ {T : Type 0} (code : Coding T) (slots queue : ℕ) where
         call_says : (start : LoanStart) (flight : LoanFlight) → has_died (rows.party_of flight) s.book.dead ≡ false
             → Stands start flight → SaysOf start flight
         call_says calls.Loan (Loan run) alive there =
-            let at = there.at in
-            keeps calls.Loan (Loan run) at.0
-            (subst (λ n. Keeps slots t.world.words (ask_of (acquire_asks n run.call.stage))) (sym at.1)
-            (acquire_keeps slots queue some few fits t.world.words s.set run.call.stage at.3)) refl
+            let stands = there.at in
+            keeps calls.Loan (Loan run) stands.0
+            (subst (λ n. Keeps slots t.world.words (ask_of (acquire_asks n run.call.stage))) (sym stands.1)
+            (acquire_keeps slots queue some few fits t.world.words s.set run.call.stage stands.3)) refl
         call_says (calls.Send index) (Send run) alive there =
-            let at = there.at in
-            sends (calls.Send index) (Send run) at.0
-            (subst (λ n. CostsOf (send_at n run.call.queue run.given run.call.stage)) (sym at.1)
-            (subst (λ n. CostsOf (send_at slots n run.given run.call.stage)) (sym at.2)
-            (send_costs_so T slots queue some few fits t.world.words s.book.places s index run.given run.call.stage at.5)))
+            let stands = there.at in
+            sends (calls.Send index) (Send run) stands.0
+            (subst (λ n. CostsOf (send_at n run.call.queue run.given run.call.stage)) (sym stands.1)
+            (subst (λ n. CostsOf (send_at slots n run.given run.call.stage)) (sym stands.2)
+            (send_costs_so T slots queue some few fits t.world.words s.book.places s index run.given run.call.stage stands.5)))
         call_says (calls.GiveUp index) (GiveUp run) alive there =
-            let at = there.at in
-            keeps (calls.GiveUp index) (GiveUp run) at.0
-            (subst (λ n. Keeps slots t.world.words (ask_of (back_asks n run.given run.call.stage))) (sym at.1)
-            (subst (λ i. Keeps slots t.world.words (ask_of (back_asks slots i run.call.stage))) (sym at.2)
-            (release_keeps slots queue some few fits t.world.words index (gives_below slots queue s index run.call.stage at.4) run.call.stage))) refl
+            let stands = there.at in
+            keeps (calls.GiveUp index) (GiveUp run) stands.0
+            (subst (λ n. Keeps slots t.world.words (ask_of (back_asks n run.given run.call.stage))) (sym stands.1)
+            (subst (λ i. Keeps slots t.world.words (ask_of (back_asks slots i run.call.stage))) (sym stands.2)
+            (release_keeps slots queue some few fits t.world.words index (gives_below slots queue s index run.call.stage stands.4) run.call.stage))) refl
         call_says calls.TakeBack (TakeBack run) alive there =
-            let at = there.at in
-            keeps calls.TakeBack (TakeBack run) at.0
-            (subst (λ n. Keeps slots t.world.words (ask_of (take_back_asks n run.call.queue run.call.stage))) (sym at.1)
-            (subst (λ n. Keeps slots t.world.words (ask_of (take_back_asks slots n run.call.stage))) (sym at.2)
-            (take_back_keeps T slots queue some few fits t.world.words s run.call.stage at.4))) refl
+            let stands = there.at in
+            keeps calls.TakeBack (TakeBack run) stands.0
+            (subst (λ n. Keeps slots t.world.words (ask_of (take_back_asks n run.call.queue run.call.stage))) (sym stands.1)
+            (subst (λ n. Keeps slots t.world.words (ask_of (take_back_asks slots n run.call.stage))) (sym stands.2)
+            (take_back_keeps T slots queue some few fits t.world.words s run.call.stage stands.4))) refl
         call_says calls.Receive (Receive by run) alive there =
-            let at = there.at in
-            let lives : has_died p s.book.dead ≡ false = subst (λ q. has_died q s.book.dead ≡ false) at.1 alive in
-            let known = at.5 lives in
+            let stands = there.at in
+            let lives : has_died p s.book.dead ≡ false = subst (λ q. has_died q s.book.dead ≡ false) stands.1 alive in
+            let known = stands.5 lives in
             record {
               same = same_book calls.Receive (Receive by run);
               side = inr (
-                at.0,
+                stands.0,
                 known.0,
                 subst (λ q. has_died q s.book.dead ≡ false) known.0 lives,
-                receives by run at.2 at.3,
+                receives by run stands.2 stands.3,
               );
             }
         call_says (calls.GiveBack index) (GiveBack by run) alive there =
-            let at = there.at in
-            let lives : has_died p s.book.dead ≡ false = subst (λ q. has_died q s.book.dead ≡ false) at.1 alive in
-            let known = at.7 lives in
+            let stands = there.at in
+            let lives : has_died p s.book.dead ≡ false = subst (λ q. has_died q s.book.dead ≡ false) stands.1 alive in
+            let known = stands.7 lives in
             record {
               same = same_book (calls.GiveBack index) (GiveBack by run);
               side = inr (
-                at.0,
+                stands.0,
                 known.0,
                 subst (λ q. has_died q s.book.dead ≡ false) known.0 lives,
-                gives by run index at.2 at.3 at.4 known.2 (subst (λ n. n ≤ push_number 1 run.call.call.stage) same_steps there.steps),
+                gives by run index stands.2 stands.3 stands.4 known.2 (subst (λ n. n ≤ push_number 1 run.call.call.stage) same_steps there.steps),
               );
             }
         call_says calls.Reclaim (Reclaim call) alive there =
-            let at = there.at in
-            record { same = same_book calls.Reclaim (Reclaim call); side = inl (at.0, inr (at.3.dead, refl)) }
+            let stands = there.at in
+            record { same = same_book calls.Reclaim (Reclaim call); side = inl (stands.0, inr (stands.3.dead, refl)) }
         call_says start flight alive there = absurd there.at
 
         -- so does the step of any call of the machine that no row refuses
         says : (start : Start T) (flight : Flight T) → first_row (going_rows t.world.coding t.world.kept (Some flight) None) ≡ None
             → StandsThere (channel code slots queue) t sound p x since start flight
             → Says flight (step_there (registries.Loan s.book) start flight)
-        says (starts.Loan start) (flights.Loan flight) passed there =
-            call_says start flight (lives code slots queue t sound flight None passed) there
+        says (starts.Loan start) (flights.Loan flight) passed there = call_says start flight (lives code slots queue t sound flight None passed) there
         says start flight passed there = absurd there.at
 
     -- what a turn shows
@@ -415,6 +413,7 @@ module _ {T : Type 0} (code : Coding T) (slots queue : ℕ) where
           abbrev Less : Type 0
           Less = steps + weight slots new ≤ weight slots t.world
 
+          -- a step that leaves the read position and allows no more leaves less weight
           costs_none : Keeps slots t.world.words ask × (allowance slots next ≤ allowance slots flight) → Less
           costs_none h =
               let same : new_rest (party_of r t.world.latest) ≡ old_rest (party_of r t.world.latest) =
@@ -427,6 +426,7 @@ module _ {T : Type 0} (code : Coding T) (slots queue : ℕ) where
               let few = within in
               omega arith
 
+          -- a step that allows two fewer leaves less weight, even if it moved the read position
           costs_two : allowance slots next + 2 ≤ allowance slots flight → Less
           costs_two less =
               let moved = receiver_moved (read_at slots t.world.words) (read_at slots new.words) (party_of r t.world.latest) in
@@ -438,17 +438,17 @@ module _ {T : Type 0} (code : Coding T) (slots queue : ℕ) where
               let few = within in
               omega arith
 
+          -- where the receiver has died its steps weigh nothing, so that the sender's step leaves less weight
           costs_nobody : (dead ≡ true) × (allowance slots flight ≡ most_sending slots) → Less
           costs_nobody lost =
               let rest = lost_none dead (new_rest (party_of r t.world.latest)) (old_rest (party_of r t.world.latest)) lost.0 in
               let most = allowance_most slots next in
-              let is = lost.1 in
               let same = rest_same in
               let old = receivers_are in
               let then_so = sender_then in
               let was = sender_was in
               let few = within in
-              omega arith
+              omega (arith, lost.1)
 
           -- a step of the sender lowers the weight by the steps that it takes, where it costs the receiver
           -- nothing, has paid, or the receiver has died
@@ -461,13 +461,13 @@ module _ {T : Type 0} (code : Coding T) (slots queue : ℕ) where
 
         -- ---- the receiver's
 
-        -- so does a step of the receiver
+        -- a step of the receiver leaves less weight
         receives_less : Receives p x.steps flight st → steps + weight slots new ≤ weight slots t.world
-        receives_less receives_holds =
-            let ne = receives_holds.0 in
-            let is = receives_holds.1 in
-            let alive = receives_holds.2 in
-            let fewer = subst (λ a. Fewer T slots queue t.world.words s.book.places x.steps ask flight a) e receives_holds.3 in
+        receives_less received =
+            let ne = received.0 in
+            let is = received.1 in
+            let alive = received.2 in
+            let fewer = subst (λ a. Fewer T slots queue t.world.words s.book.places x.steps ask flight a) e received.3 in
             let mine : party_of r new.latest ≡ Some y = subst (λ q. party_of q new.latest ≡ Some y) is here in
             let was : party_of r t.world.latest ≡ Some x = subst (λ q. party_of q t.world.latest ≡ Some x) is found in
             let now : new_rest (Some y) ≡ receiver_call (read_at slots new.words) (x.steps + steps) next =
@@ -485,12 +485,12 @@ module _ {T : Type 0} (code : Coding T) (slots queue : ℕ) where
         less : steps + weight slots new ≤ weight slots t.world
         less = ⊎_elim (λ h. sends_less h.0 h.1) receives_less says_now.side
 
-      -- with its end or without
+      -- each step leaves less weight, with the end of its call or without
       pub goes_on : P (record { world = new; events = t.events ++ told }) → Shows steps new told
       goes_on later = go st.after refl
         where
           go : (a : After (Flight T) (Answer T)) → st.after ≡ a → Shows steps new told
-          go (GoOn next) e = let h = less later next e in omega arith
+          go (GoOn next) e = omega (arith, less later next e)
           go (Done answer) e =
               let most = weight_most slots new in
               let one = steps_small ask in

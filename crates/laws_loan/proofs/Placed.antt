@@ -88,8 +88,7 @@ module _ {T : Type 0} (slots : ℕ) (events : List (Event T)) (e : Event T) (m :
         (λ p by. subst (λ r. (p ≡ 0) ⊎ (p ≡ r)) (sym same_receiver) (s.party p (subst (IsBy p) (spot_moved events e m is) by)))
         (λ i ne p by. subst (λ r. (p ≡ 0) ⊎ (p ≡ r)) (sym same_receiver) (h.parties i p (subst (IsBy p) (spot_other events e m is i ne) by)))
 
-    -- each index is still where the claims, the queues and the book have it, once the event is
-    -- written
+    -- each index is still where the claims, the queues and the book have it, once the event is written
     pub placed_more : Placed slots claims' sent' back' book' later
     placed_more =
         record {
@@ -111,6 +110,7 @@ module _ {T : Type 0} (slots : ℕ) (events : List (Event T)) (e : Event T) (m :
 -- ---- an event that moves none
 
 module _ {T : Type 0} (slots : ℕ) (events : List (Event T)) (e : Event T) (none : move_of e ≡ None) where
+  -- each index is where it was
   stays : (i : ℕ) → spot_of i (events ++ e ∷ []) ≡ spot_of i events
   stays i = spot_stays events e i none
 

@@ -30,9 +30,9 @@ module _ {T : Type 0} (slots queue : ℕ) (s : Channel T) (busy : ℕ) (h : Hold
       → AddsOne (submission_word slots) (words_in s)
       (ask_of (shifted (submission_word slots) (push_asks queue (pushes.StoresWrite s.submission.write read) index)))
   adds_write read index =
-      let on : 0 < length queued = (let two = within in omega arith) in
+      let on_queue : 0 < length queued = (let two = within in omega arith) in
       let words =
-      submission_words slots queue s busy h (push_asks queue (pushes.StoresWrite s.submission.write read) index) on
+      submission_words slots queue s busy h (push_asks queue (pushes.StoresWrite s.submission.write read) index) on_queue
       ∙ ap (λ ws. s.set ++ (ws ++ behind)) (publish_words queue h.some h.few s.submission h.submission reached index)
       in
       ap (λ ws. get_or ws (submission_word slots) 0) words

@@ -184,8 +184,7 @@ module _ {T : Type 0} (scene : Scene T) (index : ℕ) (h : HoldsIn scene) (small
       let list = push_room {T = T} queue s.submission.waiting index less in
       grind (arith, more, append-nil)
 
-  -- where there was room, the events tell of the queues that the index went in and that the send
-  -- acted and ended
+  -- where there was room, the events tell of the queues that the index went in and that the send acted and ended
   ends_tells : length s.submission.waiting < queue
       → Tells queue (is_reclaiming s.events) s.submission.waiting k.waiting s.completion.waiting s.completion.waiting
       (publishes ∷ acts ∷ ends ∷ [])
@@ -239,10 +238,10 @@ module _ {T : Type 0} (scene : Scene T) (index : ℕ) (h : HoldsIn scene) (small
         → s.submission.write ≡ read + queue → To (s_then (acts ∷ [])) (GoOn waits_at) (effects.PublishesAndActs index)
     publishes_late less moved far =
         let longer = one_longer in
-        let t : (read == s.submission.read) ≡ false = grind (arith, nat_tests) in
+        let is_other : (read == s.submission.read) ≡ false = grind (arith, nat_tests) in
         let few : length k.waiting ≤ queue = omega arith in
-        let hangs : Hangs queue k (hung {T = T} s.submission.read (Some (flights.Loan waits_at))) = rw t few in
-        let told : publishes ∷ acts ∷ [] ≡ push_wrote queue k index (pushes.MovesRead read) = rw t refl in (
+        let hangs : Hangs queue k (hung {T = T} s.submission.read (Some (flights.Loan waits_at))) = rw is_other few in
+        let told : publishes ∷ acts ∷ [] ≡ push_wrote queue k index (pushes.MovesRead read) = rw is_other refl in (
           publishing (acts ∷ []) acts_tail cell (GoOn waits_at) refl hangs (acts_tells less)
               (waits_here (acts ∷ []) (publishes ∷ acts ∷ []) (span_then (acts ∷ []) acts_tail) told (omega arith) far steps)
               (omega arith),
@@ -253,9 +252,9 @@ module _ {T : Type 0} (scene : Scene T) (index : ℕ) (h : HoldsIn scene) (small
     publishes_over : length s.submission.waiting ≡ queue → read ≡ s.submission.read
         → s.submission.write ≡ read + queue → To (s_then []) (GoOn waits_at) (effects.Publishes index)
     publishes_over full same far =
-        let t : (read == s.submission.read) ≡ true = grind (arith, nat_tests) in
-        let hangs : Hangs queue k (hung {T = T} s.submission.read (Some (flights.Loan waits_at))) = rw t (s.submission.waiting, refl, full) in
-        let told : publishes ∷ [] ≡ push_wrote queue k index (pushes.MovesRead read) = rw t refl in (
+        let is_same : (read == s.submission.read) ≡ true = grind (arith, nat_tests) in
+        let hangs : Hangs queue k (hung {T = T} s.submission.read (Some (flights.Loan waits_at))) = rw is_same (s.submission.waiting, refl, full) in
+        let told : publishes ∷ [] ≡ push_wrote queue k index (pushes.MovesRead read) = rw is_same refl in (
           publishing [] no_tail cell (GoOn waits_at) refl hangs (waits_tells full)
               (waits_here [] (publishes ∷ []) (span_then [] no_tail) told (omega arith) far steps)
               (omega arith),
@@ -270,6 +269,7 @@ module _ {T : Type 0} (scene : Scene T) (index : ℕ) (h : HoldsIn scene) (small
         → Does scene index stage
     stores_write low far = go (submission.finds queue h.parts.some h.parts.few s.submission h.parts.submission low_write read low far)
       where
+        -- the cases are whether there is room, the queue is full, or a pop has made room since
         go : Room queue h.parts.some h.parts.few s.submission h.parts.submission low_write read
             → Does scene index stage
         go (HasRoom t less) =

@@ -47,8 +47,7 @@ module _ {T : Type 0} where
     pub answers : answers_from (overflowing_list queue) (items (take queue sent)) (calls_of (as_queue reclaims es)) ≡ answers_of (as_queue reclaims es)
 
   module _ (queue : ℕ) (sent sent' back back' : List ℕ) (events es : List (Event T)) where
-    -- what the events told of the channel they tell with a turn's events behind them, of what
-    -- waits then
+    -- what the events told of the channel they tell with a turn's events behind them, of what waits then
     pub told_more : Told queue sent back events → Tells queue (is_reclaiming events) sent sent' back back' es → Told queue sent' back' (events ++ es)
     told_more told tells =
         let more = moments_more events es in

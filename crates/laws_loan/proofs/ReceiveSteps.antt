@@ -73,13 +73,13 @@ module _ {T : Type 0} (m : Underway T) where
     -- room, and a send that waited for it acts
     takes : With false (Done (answers.PoppedIndex room.0)) (effects.Receives room.0 (by_sender waits))
     takes =
-        let h = holds_now m in
+        let holds_there = holds_now m in
         let inv = inv_now m in
         let known = there.at.5 alive in
         let front = known.1.3 refl in
-        let few = h.parts.set.few in
+        let few = holds_there.parts.set.few in
         let low : slots < 2 ^ 32 = omega arith in
-        let below = sent_below slots s.claims s.submission.waiting s.completion.waiting s.book s.events h.parts.placed room.0 front.0 front.1 in
+        let below = sent_below slots s.claims s.submission.waiting s.completion.waiting s.book s.events holds_there.parts.placed room.0 front.0 front.1 in
         let paid = there.knows.1 in
         let kept : ended_book {T = T} p calls.Receive (Some (answers.PoppedIndex room.0))
         (fold (book_after {T = T}) s.book
@@ -88,42 +88,42 @@ module _ {T : Type 0} (m : Underway T) where
         ap (λ (b : Book). record b { holders = set b.holders (index_in room.0) (Some p) }) (book_told p room.0 s.events waits s.book)
         ∙ ap (λ i. record s.book { holders = set s.book.holders i (Some p) }) (index_is room.0 slots below low)
         in
-        let r : ReceiverCalls scene p calls.Receive =
-        record { holds = h; small = small; other = there.at.0; alive = alive; receives = known.0; from = from } in
+        let receiver_calls : ReceiverCalls scene p calls.Receive =
+        record { holds = holds_there; small = small; other = there.at.0; alive = alive; receives = known.0; from = from } in
         comes m p calls.Receive asks false (Done (answers.PoppedIndex room.0)) (es scene p room.0 front.0)
         (ended_book {T = T} p calls.Receive (Some (answers.PoppedIndex room.0))
         (fold (book_after {T = T}) s.book
         (effects_of p (effects.Receives room.0 (by_sender waits)) (Some (answers.PoppedIndex room.0))))) (s_then scene p room.0 front.0) kept
-        (take_words scene p room.0 front.0 r inv front.1 there.steps (omega arith))
-        (take_shows scene p room.0 front.0 r inv front.1 there.steps (omega arith))
-        (take_owes scene p room.0 front.0 r inv front.1 there.steps (omega arith))
+        (take_words scene p room.0 front.0 receiver_calls inv front.1 there.steps (omega arith))
+        (take_shows scene p room.0 front.0 receiver_calls inv front.1 there.steps (omega arith))
+        (take_owes scene p room.0 front.0 receiver_calls inv front.1 there.steps (omega arith))
 
     -- as the call computes it
     takes_out : Comes m p (starts.Loan calls.Receive) (flights.Loan (receive_at slots queue p stage room))
     takes_out =
-        let h = holds_now m in
+        let holds_there = holds_now m in
         let inv = inv_now m in
         let known = there.at.5 alive in
         let front = known.1.3 refl in
-        let sent = h.sent in
+        let sent = holds_there.sent in
         let reached : s.submission.write < 2 ^ 64 - 2 = omega arith in
-        let wide = submission_long slots queue s busy h.parts in
+        let wide = submission_long slots queue s busy holds_there.parts in
         let here : (s.submission.read == s.submission.read) ≡ true = eq-eqb s.submission.read s.submission.read refl in
-        let found : old ≡ s.submission.read = submission_old slots queue s busy h.parts (pop_asks queue stage) (omega arith) in
+        let found : old ≡ s.submission.read = submission_old slots queue s busy holds_there.parts (pop_asks queue stage) (omega arith) in
         let back : goes_back stage old ≡ false = ap (goes_back stage) found ∙ (rw here refl) in
-        let is : goes old ≡ Done (answers.PoppedIndex room.0) = ap goes found ∙ (rw here refl) in
-        let first = oldest queue s.submission h.parts.submission (let longer = ap length front.1 in omega arith) in
+        let comes_to : goes old ≡ Done (answers.PoppedIndex room.0) = ap goes found ∙ (rw here refl) in
+        let first = oldest queue s.submission holds_there.parts.submission (let longer = ap length front.1 in omega arith) in
         let both : room.0 ∷ front.0 ≡ get_or s.submission.cells (s.submission.read % (queue + 1)) 0 ∷ first.0 = sym front.1 ∙ first.1 in
         let same : get_or s.submission.cells (s.submission.read % (queue + 1)) 0 ≡ room.0 = cc in
         let place : sent_at (submission_word slots) queue (words_in s) s.submission.read ≡ room.0 =
-        submission_old slots queue s busy h.parts (load (cell_word queue s.submission.read))
-        (submission.cell_on queue h.parts.some h.parts.few s.submission h.parts.submission reached s.submission.read)
-        ∙ (submission.cell_is queue h.parts.some h.parts.few s.submission h.parts.submission reached s.submission.read ∙ same)
+        submission_old slots queue s busy holds_there.parts (load (cell_word queue s.submission.read))
+        (submission.cell_on queue holds_there.parts.some holds_there.parts.few s.submission holds_there.parts.submission reached s.submission.read)
+        ∙ (submission.cell_is queue holds_there.parts.some holds_there.parts.few s.submission holds_there.parts.submission reached s.submission.read ∙ same)
         in
-        let push = beside_is code slots queue s t.world.latest t.world.turns h p known.0 (span_of 0 s.events) (inv.calls 0) in
+        let push = beside_is code slots queue s t.world.latest t.world.turns holds_there p known.0 (span_of 0 s.events) (inv.calls 0) in
         let effect : does old ≡ effects.Receives room.0 (by_sender waits) = ap does found ∙ (rw (here, place, push) refl) in
         subst (λ b. With b (goes old) (does old)) (sym back)
-        (subst (λ a. With false a (does old)) (sym is)
+        (subst (λ a. With false a (does old)) (sym comes_to)
         (subst (λ e. With false (Done (answers.PoppedIndex room.0)) e) (sym effect) takes))
 
   -- ---- any step
@@ -137,11 +137,11 @@ module _ {T : Type 0} (m : Underway T) where
     ComesAt stage room =
         Comes m p (starts.Loan calls.Receive) (flights.Loan (receive_at slots queue p stage room))
 
-    -- the move of the read position comes on as a step of the machine, whether a send has moved it
-    -- before or not
+    -- the move of the read position comes on as a step of the machine, whether a send has moved it before or not
     moves_read : (read : ℕ) (room : OneWord) → StandsAt (pops.MovesRead read) room → ComesAt (pops.MovesRead read) room
     moves_read read room there = go (s.submission.read == read) refl
       where
+        -- the cases are whether the read position is still what was read
         go : (b : Bool) → (s.submission.read == read) ≡ b → ComesAt (pops.MovesRead read) room
         go true e =
             let same : read ≡ s.submission.read = grind (arith, nat_tests) in
@@ -149,7 +149,7 @@ module _ {T : Type 0} (m : Underway T) where
             (takes_out p room alive (subst (λ n. StandsAt (pops.MovesRead n) room) same there))
         go false e = receive_looks m p (pops.MovesRead read) room alive e there
 
-    -- so does the step of each stage of a receive
+    -- the step of each stage of a receive comes to what it should
     at_stage : (stage : PopStage) (room : OneWord) → StandsAt stage room → ComesAt stage room
     at_stage (pops.MovesRead read) room there = moves_read read room there
     at_stage pops.FindsNone room there = receive_looks m p pops.FindsNone room alive tt there
@@ -164,7 +164,7 @@ module _ {T : Type 0} (m : Underway T) where
         → Stands m p (starts.Loan calls.Receive) (flights.Loan (Receive by run))
         → Comes m p (starts.Loan calls.Receive) (flights.Loan (Receive by run))
     receive_comes by run there =
-        let at = there.at in
+        let stands = there.at in
         let named : ℕ → ℕ → ℕ → Flight T =
         λ n base capacity. flights.Loan (Receive n (record {
           call = record { base = base; call = record { capacity = capacity; stage = run.call.call.stage } };
@@ -172,8 +172,8 @@ module _ {T : Type 0} (m : Underway T) where
           room = run.room;
         })) in
         let same : flights.Loan (Receive by run) ≡ flights.Loan (receive_at slots queue p run.call.call.stage run.room) =
-        ap (λ n. named n run.call.base run.call.call.capacity) at.1
-        ∙ (ap (λ base. named p base run.call.call.capacity) at.2 ∙ ap (λ c. named p (submission_word slots) c) at.3)
+        ap (λ n. named n run.call.base run.call.call.capacity) stands.1
+        ∙ (ap (λ base. named p base run.call.call.capacity) stands.2 ∙ ap (λ c. named p (submission_word slots) c) stands.3)
         in
         subst (λ flight. Comes m p (starts.Loan calls.Receive) flight) (sym same) (at_stage run.call.call.stage run.room
         (subst (λ flight. Stands m p (starts.Loan calls.Receive) flight) same there))

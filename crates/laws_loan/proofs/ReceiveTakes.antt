@@ -173,8 +173,7 @@ module _ {T : Type 0} (scene : Scene T) (p value : ℕ) (rest : List ℕ) where
         → channel.At s_then q start flight × (channel.written s_then q flight ≡ channel.written s q flight)
     still_at = grind (arith, others_then, theirs_stay, stays)
 
-    -- the calls of the other parties stand as their spans say, with the send that waited having
-    -- acted
+    -- the calls of the other parties stand as their spans say, with the send that waited having acted
     others_fit : (q : ℕ) → q ≢ p → frame.Fits channel s_then q (party_of q latest) (span_of q (s.events ++ es))
     others_fit q ne =
         ⊎_elim (λ (sender : q ≡ 0). subst (λ n. frame.Fits channel s_then n (party_of n latest) (span_of n (s.events ++ es))) (sym sender)

@@ -148,6 +148,7 @@ module _ {T : Type 0} (p value : ℕ) where
           last : (before : List (Event T)) → span_of p before ≡ Open call (hands ∷ acts ∷ []) → Stands promise slots ends (span_of p before)
           last = grind (arith, promise)
 
+          -- the cases are whether a send waits for this receive
           go : (o : Option ℕ) → waits ≡ o → AreRight (StandsRight promise slots) events (told o)
           go None e = (first, (second, (last ((events ++ hands ∷ []) ++ acts ∷ []) p_2, tt)))
           go (Some index) e =
@@ -164,8 +165,7 @@ module _ {T : Type 0} (p value : ℕ) where
 
   -- ---- what they tell of the two queues
 
-  -- the events tell of the queues that the oldest index went out, and that a send that hung on it
-  -- has acted
+  -- the events tell of the queues that the oldest index went out, and that a send that hung on it has acted
   pub tells_told : (queue : ℕ) (sent rest back : List ℕ) (waits : Option ℕ) → 1 ≤ queue → sent ≡ value ∷ rest
       → (k : Core ℕ) → k.waiting ≡ sent → Hangs queue k waits → Tells queue false sent rest back back (told waits)
   tells_told queue sent rest back None some first k is few =

@@ -86,7 +86,7 @@ module _ {T : Type 0} (scene : Scene T) (p : ℕ) (beside : Option (ℕ × ℕ))
   abbrev pub LooksOf : PopStage → OneWord → Type 0
   LooksOf stage room = Looks stage (goes_back stage (old stage)) (goes stage room (old stage)) (effect_at stage (old stage))
 
-  -- so it comes, as the call computes it
+  -- the step comes to this, as the call computes it
   looks_by : (stage : PopStage) (room : OneWord) (back : Bool) (after : After LoanFlight (Answer T)) (effect : Effect)
       → goes_back stage (old stage) ≡ back → goes stage room (old stage) ≡ after → effect_at stage (old stage) ≡ effect
       → Looks stage back after effect → LooksOf stage room
@@ -183,12 +183,12 @@ module _ {T : Type 0} (scene : Scene T) (p : ℕ) (beside : Option (ℕ × ℕ))
     loads_read : (room : OneWord) → x.steps ≤ 2 * x.backs → x.backs + since ≤ changes → LooksOf pops.LoadsRead room
     loads_read room steps paid =
         let some = h.parts.some in
-        let on : 1 < length queued = (let wide = long in omega arith) in
+        let on_queue : 1 < length queued = (let wide = long in omega arith) in
         let is : goes pops.LoadsRead room (old pops.LoadsRead)
         ≡ GoOn (receive_at slots queue p (pops.LoadsWrite s.submission.read) room) =
-        ap (goes pops.LoadsRead room) (old_is pops.LoadsRead on) in
+        ap (goes pops.LoadsRead room) (old_is pops.LoadsRead on_queue) in
         subst (λ a. Looks pops.LoadsRead false a effects.Quiet) (sym is)
-        (goes_on pops.LoadsRead (pops.LoadsWrite s.submission.read) room false on refl
+        (goes_on pops.LoadsRead (pops.LoadsWrite s.submission.read) room false on_queue refl
         (omega arith, omega arith, λ less. absurd (omega arith)) refl (omega arith) (λ n. (omega arith, omega arith)))
 
     -- the load of the write position does so: it goes on to the cell, or ends where nothing waits
@@ -200,6 +200,7 @@ module _ {T : Type 0} (scene : Scene T) (p : ℕ) (beside : Option (ℕ × ℕ))
         on : 0 < length queued
         on = let wide = long in omega arith
 
+        -- the cases are whether the submission queue has nothing to read
         go : (b : Bool) → (s.submission.write == read) ≡ b → LooksOf (pops.LoadsWrite read) room
         go true t =
             let write = h.parts.submission.write in
@@ -233,15 +234,15 @@ module _ {T : Type 0} (scene : Scene T) (p : ℕ) (beside : Option (ℕ × ℕ))
         let low = known.1 in
         let ahead = known.2 in
         let first = oldest queue s.submission h.parts.submission (omega arith) in
-        let on = submission.cell_on queue h.parts.some h.parts.few s.submission h.parts.submission reached read in
+        let cell_within = submission.cell_on queue h.parts.some h.parts.few s.submission h.parts.submission reached read in
         let found : old (pops.LoadsCell read) ≡ get_or s.submission.cells (read % (queue + 1)) 0 =
-        old_is (pops.LoadsCell read) on
+        old_is (pops.LoadsCell read) cell_within
         ∙ submission.cell_is queue h.parts.some h.parts.few s.submission h.parts.submission reached read in
         let is : goes (pops.LoadsCell read) room (old (pops.LoadsCell read))
         ≡ GoOn (receive_at slots queue p (pops.MovesRead read) (word_of (get_or s.submission.cells (read % (queue + 1)) 0))) =
         ap (goes (pops.LoadsCell read) room) found in
         subst (λ a. Looks (pops.LoadsCell read) false a effects.Quiet) (sym is) (goes_on (pops.LoadsCell read) (pops.MovesRead read)
-        (word_of (get_or s.submission.cells (read % (queue + 1)) 0)) false on (set-get_or queued (cell_word queue read) 0) (
+        (word_of (get_or s.submission.cells (read % (queue + 1)) 0)) false cell_within (set-get_or queued (cell_word queue read) 0) (
           omega arith,
           low,
           ahead,
@@ -258,11 +259,11 @@ module _ {T : Type 0} (scene : Scene T) (p : ℕ) (beside : Option (ℕ × ℕ))
         let low = known.1 in
         let ahead = known.2 in
         let apart : s.submission.read ≢ read = grind (arith, nat_tests) in
-        let on : 1 < length queued = (let wide = long in omega arith) in
-        let found : old (pops.MovesRead read) ≡ s.submission.read = old_is (pops.MovesRead read) on in
+        let on_queue : 1 < length queued = (let wide = long in omega arith) in
+        let found : old (pops.MovesRead read) ≡ s.submission.read = old_is (pops.MovesRead read) on_queue in
         looks_by (pops.MovesRead read) room true (GoOn (receive_at slots queue p (pops.LoadsCell s.submission.read) room)) effects.Quiet
         (ap (goes_back (pops.MovesRead read)) found ∙ (rw moved refl)) (ap (goes (pops.MovesRead read) room) found ∙ (rw moved refl))
-        (ap (effect_at (pops.MovesRead read)) found ∙ (rw moved refl)) (goes_on (pops.MovesRead read) (pops.LoadsCell s.submission.read) room true on
+        (ap (effect_at (pops.MovesRead read)) found ∙ (rw moved refl)) (goes_on (pops.MovesRead read) (pops.LoadsCell s.submission.read) room true on_queue
         (submission.stays_words queue h.parts.some h.parts.few s.submission h.parts.submission reached read moved)
         (omega arith, omega arith, ahead) refl (omega arith) (λ n. (omega arith, omega arith)))
 

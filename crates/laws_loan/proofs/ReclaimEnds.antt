@@ -53,7 +53,7 @@ module _ {T : Type 0} (scene : Scene T) (wrote : List (Event T)) (stage : Reclai
         λ i q e. none_passing s.events answer home i q e in
         grind (arith, ended_then, receiver_then, sends_now, append-nil, items, home)
 
-    -- and it is a step of the machine
+    -- the end of a reclaim is a step of the machine
     pub reclaim_ends : Steps scene 0 s_end (Open (starts.Loan calls.Reclaim) wrote)
         calls.Reclaim ask false (Done answer) (end ∷ [])
     reclaim_ends =

@@ -129,22 +129,24 @@ module _ {T : Type 0} (m : Underway T) where
             refl,
           )
         where
+          -- no index up to this one is on its way to the receiver
           before : (j : ℕ) → j < index + 1 → place_at s.book.places j ≢ places.Sent
           before j low = there.at.3.stage_at.5 j (omega arith)
       next good last (Some i) comes =
           let few = there.steps in
           let low = comes.0 in
-          let at = there.at.3.stage_at in
-          let less = at.2 in
+          let stage_stands = there.at.3.stage_at in
+          let less = stage_stands.2 in
           goes_on (number + 1) i releases.ClearsFlag good (
             comes.2,
             comes.1,
             (omega arith),
-            at.3 ∙ (omega arith),
-            all_less (freed wrote) (index + release_counts stage) (i + 0) (omega arith) at.4,
-            (λ j high. ⊎_elim (λ (low : j < index + 1). at.5 j (omega arith)) (λ (up : index + 1 ≤ j). comes.3 j up (omega arith)) (cases_lt j (index + 1))),
-            at.6,
-            at.7,
+            stage_stands.3 ∙ (omega arith),
+            all_less (freed wrote) (index + release_counts stage) (i + 0) (omega arith) stage_stands.4,
+            (λ j high. ⊎_elim (λ (low : j < index + 1). stage_stands.5 j (omega arith))
+                (λ (up : index + 1 ≤ j). comes.3 j up (omega arith)) (cases_lt j (index + 1))),
+            stage_stands.6,
+            stage_stands.7,
           )
           (omega arith)
 
@@ -155,23 +157,23 @@ module _ {T : Type 0} (m : Underway T) where
           → With (reclaimed_after T (call stage) s.book.places number index release)
       leads_on (GoOn release) release_leads =
           let few = there.steps in
-          let at = there.at.3.stage_at in
+          let stage_stands = there.at.3.stage_at in
           let more = release_leads.2 in
           goes_on number index release.stage (subst (indices.Good slots words_then s.claims) (sym release_leads.1) release_leads.0) (
             frees_for release.stage release_leads.1 s.book.places index,
-            at.1,
-            at.2,
-            at.3 ∙ ap (λ n. number + n) (heavy ∙ sym release_leads.1),
-            subst (λ n. AllByRecursion (λ i. i < index + n) (freed wrote)) (heavy ∙ sym release_leads.1) at.4,
-            (λ j low. at.5 j (omega arith)),
-            at.6,
-            at.7,
+            stage_stands.1,
+            stage_stands.2,
+            stage_stands.3 ∙ ap (λ n. number + n) (heavy ∙ sym release_leads.1),
+            subst (λ n. AllByRecursion (λ i. i < index + n) (freed wrote)) (heavy ∙ sym release_leads.1) stage_stands.4,
+            (λ j low. stage_stands.5 j (omega arith)),
+            stage_stands.6,
+            stage_stands.7,
           )
           (omega arith)
       leads_on (Done state) release_leads =
-          let at = there.at.3.stage_at in
-          let below = at.1 in
-          let less = at.2 in
+          let stage_stands = there.at.3.stage_at in
+          let below = stage_stands.1 in
+          let less = stage_stands.2 in
           let low = now.parts.set.few in
           let counted : (number + 1) % 2 ^ 64 ≡ number + 1 = omega arith in
           let next_one : (index + 1) % 2 ^ 32 ≡ index + 1 = omega arith in
@@ -179,7 +181,7 @@ module _ {T : Type 0} (m : Underway T) where
           (subst (λ i. With (as_call Reclaim Number (reclaim_comes_to (call stage) s.book.places (number + 1) i))) (sym next_one)
           (next release_leads.0 release_leads.1 (next_sent s.book.places slots (index + 1)) (comes_to s.book.places slots (index + 1))))
 
-      -- so every later step of the release comes on
+      -- every later step of the release comes on
       later : With (reclaimed_after T (call stage) s.book.places number index (back_takes slots stage (old_of (words_in s) ask)))
       later =
           let value : old_of (words_in s) ask ≡ old_of s.set ask =
@@ -220,10 +222,10 @@ module _ {T : Type 0} (m : Underway T) where
       → Stands m 0 (starts.Loan calls.Reclaim) (flights.Loan (Reclaim held))
       → Comes m 0 (starts.Loan calls.Reclaim) (flights.Loan (Reclaim held))
   reclaim_steps_from held there =
-      let at = there.at in
+      let stands_at = there.at in
       let is : held ≡ record { slots = slots; queue = queue; stage = held.stage } =
-      ap {A = ℕ} {B = reclaims.Reclaim} (λ n. record { slots = n; queue = held.queue; stage = held.stage }) at.1
-      ∙ ap {A = ℕ} {B = reclaims.Reclaim} (λ n. record { slots = slots; queue = n; stage = held.stage }) at.2
+      ap {A = ℕ} {B = reclaims.Reclaim} (λ n. record { slots = n; queue = held.queue; stage = held.stage }) stands_at.1
+      ∙ ap {A = ℕ} {B = reclaims.Reclaim} (λ n. record { slots = slots; queue = n; stage = held.stage }) stands_at.2
       in
       subst (λ c. Stands m 0 (starts.Loan calls.Reclaim) (flights.Loan (Reclaim c))
       → Comes m 0 (starts.Loan calls.Reclaim) (flights.Loan (Reclaim c))) (sym is) (reclaim_steps held.stage) there

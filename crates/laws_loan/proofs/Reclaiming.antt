@@ -64,7 +64,7 @@ module _ {T : Type 0} (slots queue : ℕ) (s : Channel T) (wrote : List (Event T
       (λ (ne : index ≢ i). sym (elsewhere i ne) ∙ now)
       (cases_eq index i)
 
-  -- and what it has in passing itself was sent
+  -- what the sender has in passing itself was sent
   pub passing_sent : (i : ℕ) → spot_of i (s.events ++ e ∷ []) ≡ Passing 0 → place_at s.book.places i ≡ places.Sent
   passing_sent = grind (arith, place_at, sent_there, elsewhere, cases_eq)
 

@@ -35,7 +35,7 @@ module _ {T : Type 0} (m : Underway T) (index : ℕ) (r : Releasing T m.slots m.
   abbrev asked : ReleaseStage → Option Ask
   asked stage = ask_of (back_asks slots index stage)
 
-  -- so its step leads on, with this effect
+  -- the release's step leads on, with this effect
   abbrev pub With : ReleaseStage → Effect → After LoanFlight (Answer T) → Type 0
   With stage effect after =
       ComesBy m 0 r.start (asked stage) false after effect
@@ -46,7 +46,7 @@ module _ {T : Type 0} (m : Underway T) (index : ℕ) (r : Releasing T m.slots m.
   h : HoldsNow slots queue s t.world.latest s.events t.world.turns
   h = holds_now m
 
-  -- its call stands there
+  -- the release's call stands there
   abbrev There : ReleaseStage → Type 0
   There stage = Stands scene index r stage
 
@@ -72,8 +72,7 @@ module _ {T : Type 0} (m : Underway T) (index : ℕ) (r : Releasing T m.slots m.
       abbrev wrote_now : List (Event T)
       wrote_now = r.before ++ Freed 0 index ∷ []
 
-      -- where the release leads on so over the set, the call goes on with it, or ends with its
-      -- answer
+      -- where the release leads on so over the set, the call goes on with it, or ends with its answer
       leads_on : (release : After (Release DefaultMode) ReleaseState)
           → ReleaseLeads slots stage words_then s.claims release
           → With stage effects.Quiet (embedded r.at r.answer release)

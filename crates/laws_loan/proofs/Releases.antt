@@ -26,6 +26,7 @@ module _ (T : Type 0) (slots queue : ℕ) where
   pub gives_up_so : (index : ℕ) → ReleasesLast T slots queue index (calls.GiveUp index) (give_up_at slots queue index) [] Done 0
   gives_up_so = grind arith
 
+  -- a give-up as the release of its index
   abbrev pub gives_up : (index : ℕ) → Releasing T slots queue index
   gives_up index =
       record {
@@ -43,6 +44,7 @@ module _ (T : Type 0) (slots queue : ℕ) where
       (PoppedIndex oldest) 6
   sends_back_so = grind arith
 
+  -- a send as the release of the index that it took out, after what it has written
   abbrev pub sends_back : (own oldest : ℕ) → Releasing T slots queue oldest
   sends_back own oldest =
       record {
@@ -59,6 +61,7 @@ module _ (T : Type 0) (slots queue : ℕ) where
       (PoppedIndex index) 4
   takes_back_so = grind arith
 
+  -- a take-back as the release of the index that it took out
   abbrev pub takes_back : (index : ℕ) → Releasing T slots queue index
   takes_back index =
       record {

@@ -112,6 +112,7 @@ module _ {T : Type 0} (scene : Scene T) (index : ℕ) (r : Releasing T scene.slo
       abbrev book_freed : Book
       book_freed = book_after {T = T} s.book (Freed 0 index)
 
+      -- the channel after the flag of the index is cleared
       abbrev s_freed : Channel T
       s_freed =
           record s {

@@ -31,7 +31,7 @@ module _ {T : Type 0} (slots : ℕ) (claims : List (Option ℕ)) (sent back : Li
           let both : Waiting ≡ Free = sym there ∙ h.past i beyond in
           absurd (cc)
 
-  -- and so is the first one that was given back
+  -- the first index that was given back is below the slots
   pub back_below : (i : ℕ) (rest : List ℕ) → back ≡ i ∷ rest → i < slots
   back_below i rest front = ⊎_elim (λ (less : i < slots). less) past (cases_lt i slots)
     where

@@ -42,7 +42,7 @@ pub record Underway (T : Type 0) : Type 0 where
   pub caller : Party T
   pub since : ℕ  -- how often words had changed when the call began
 
--- its channel, with that party
+-- the scene of a call under way: its channel, with the party of the call
 abbrev pub scene_of : {T : Type 0} → Underway T → Scene T
 scene_of m =
     record {

@@ -165,8 +165,7 @@ module _ {T : Type 0} (scene : Scene T) (index : ℕ) (h : HoldsIn scene) (small
         subst (λ b. Tells queue b s.submission.waiting rest s.completion.waiting s.completion.waiting told) (sym quiet)
         (grind (arith, append-nil, items))
 
-    -- the move that takes the oldest index out shows what a turn has to: the send hands it out to
-    -- itself, and acts
+    -- the move that takes the oldest index out shows what a turn has to: the send hands it out to itself, and acts
     shows_out : Shows slots queue s s_out 0 y_out latest turns told
     shows_out =
         let write = h.parts.submission.write in
@@ -196,11 +195,11 @@ module _ {T : Type 0} (scene : Scene T) (index : ℕ) (h : HoldsIn scene) (small
     -- as the call computes it
     moves_read : Does_at moves
     moves_read =
-        let t : (s.submission.read == s.submission.read) ≡ true = grind (arith, nat_tests) in
+        let is_same : (s.submission.read == s.submission.read) ≡ true = grind (arith, nat_tests) in
         let found : value moves ≡ s.submission.read = old_is scene index h small straight moves on in
         let place = sent_is s.submission.read in
-        does_by scene index s_out moves (publishes ∷ []) (GoOn (pushes_at slots queue loads index)) (effects.TakesOut index u) (rw t refl)
-        (ap (then_of moves) found ∙ (rw t refl)) (ap (effect_of moves) found ∙ (rw (t, place) refl)) takes_out
+        does_by scene index s_out moves (publishes ∷ []) (GoOn (pushes_at slots queue loads index)) (effects.TakesOut index u) (rw is_same refl)
+        (ap (then_of moves) found ∙ (rw is_same refl)) (ap (effect_of moves) found ∙ (rw (is_same, place) refl)) takes_out
 
   -- ---- a receive has moved it before: the send has acted, and ends
 
@@ -226,8 +225,7 @@ module _ {T : Type 0} (scene : Scene T) (index : ℕ) (h : HoldsIn scene) (small
     calm : hung s.submission.read (sends_at latest) ≡ None
     calm = ap (hung s.submission.read) here ∙ (rw apart refl)
 
-    -- a send that finds the read position moved by a receive, and so has acted before, ends with
-    -- no index
+    -- a send that finds the read position moved by a receive, and so has acted before, ends with no index
     finds_room : To s_end (publishes ∷ acted ∷ []) (late read) (Done answers.PoppedNone) effects.Quiet
     finds_room = (
       rests.ends scene h straight (calls.Send index) (publishes ∷ acted ∷ []) from (asks (late read)) s.set answers.PoppedNone
@@ -319,22 +317,23 @@ module _ {T : Type 0} (scene : Scene T) (index : ℕ) (h : HoldsIn scene) (small
       stands from known.4 steps known.2 known.3)
   does (pushes.MovesRead read) here from known stands steps = go (s.submission.read == read) refl
     where
+      -- the cases are whether the read position is still what was read
       go : (b : Bool) → (s.submission.read == read) ≡ b → Does_at (pushes.MovesRead read)
       go true e =
           let same : read ≡ s.submission.read = grind (arith, nat_tests) in
-          let t : (s.submission.read == s.submission.read) ≡ true = grind (arith, nat_tests) in
+          let is_same : (s.submission.read == s.submission.read) ≡ true = grind (arith, nat_tests) in
           let last = known.3 same in
           let far = known.2 in
           let write = h.parts.submission.write in
           let front = oldest queue s.submission h.parts.submission (omega arith) in
-          let wrote : push_wrote {T = T} queue s.submission index moves ≡ publishes ∷ [] = rw t refl in
+          let wrote : push_wrote {T = T} queue s.submission index moves ≡ publishes ∷ [] = rw is_same refl in
           subst Does_at (ap (λ n. pushes.MovesRead n) (sym same)) (moves_read (subst (λ n. Here scene index (pushes.MovesRead n)) same here)
           (subst (λ n. span_of 0 s.events ≡ Open call (push_wrote queue s.submission index (pushes.MovesRead n))) same from
           ∙ ap (λ es. Open call es) wrote)
           last.0 front.0 last.1 front.1 (omega arith) steps)
       go false e =
-          let ne : s.submission.read ≢ read = grind (arith, nat_tests) in
-          let apart : (read == s.submission.read) ≡ false = (let other : read ≢ s.submission.read = λ same. ne (sym same) in grind (arith, nat_tests)) in
+          let differs : s.submission.read ≢ read = grind (arith, nat_tests) in
+          let apart : (read == s.submission.read) ≡ false = (let other : read ≢ s.submission.read = λ same. differs (sym same) in grind (arith, nat_tests)) in
           let wrote : push_wrote {T = T} queue s.submission index (late read) ≡ publishes ∷ acted ∷ [] = rw apart refl in
           moves_late read here (from ∙ ap (λ es. Open call es) wrote) e apart steps
   does (pushes.LoadsCell read) here from known stands steps =

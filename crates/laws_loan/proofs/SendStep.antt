@@ -39,10 +39,10 @@ module _ {T : Type 0} (m : Underway T) (index : ℕ) where
       → Comes m 0 (starts.Loan (calls.Send index)) (flights.Loan (send_at slots queue index stage))
   send_steps (sends.Pushes stage) there = send_pushes m index stage there
   send_steps (sends.Releases oldest stage) there =
-      let at = there.at in
-      let from = ap (span_of 0) sound.holds.same ∙ (there.span ∙ ap (λ es. Open (starts.Loan (calls.Send index)) es) at.4) in
+      let stands = there.at in
+      let from = ap (span_of 0) sound.holds.same ∙ (there.span ∙ ap (λ es. Open (starts.Loan (calls.Send index)) es) stands.4) in
       let value = old_of (words_in sound.state) (ask_of (back_asks slots oldest stage)) in
       subst (With m oldest (sends_back T slots queue index oldest) there.knows stage (release_effect oldest stage))
       (sym (goes_so T slots queue index oldest stage (back_takes slots stage value)))
       (releases_on m oldest (sends_back T slots queue index oldest) there.knows
-      stage (record { found = there.found; gives = at.5; from = from; few = there.steps }))
+      stage (record { found = there.found; gives = stands.5; from = from; few = there.steps }))

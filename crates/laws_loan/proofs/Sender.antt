@@ -21,7 +21,7 @@ module _ {T : Type 0} where
   abbrev pub any_call : After LoanFlight (Answer T) → After (Flight T) (Answer T)
   any_call after = as_call flights.Loan (λ answer. answer) after
 
-  -- its party after a step that does this operation
+  -- the sender's party after a step that does this operation
   abbrev pub party_then : Scene T → LoanStart → Option Ask → Bool → After LoanFlight (Answer T) → Party T
   party_then scene start ask back after =
       party_after (record (scene.caller) { start = starts.Loan start }) scene.since scene.changes (step_count ask)
@@ -60,6 +60,7 @@ module _ {T : Type 0} (code : Coding T) (slots queue : ℕ) (s s' : Channel T) (
 module _ {T : Type 0} (scene : Scene T) (p : ℕ) where
   open scene use {coding as code, slots, queue, state as s, latest, turns, changes}
 
+  -- the family of the channel that the scene shows
   abbrev channel : frame.Family T
   channel = family code slots queue
 

@@ -55,7 +55,7 @@ module _ {T : Type 0} (m : Underway T) where
   from_step start ask after effect s' wrote =
       step_comes m 0 start ask false after effect s' (Open (starts.Loan start) wrote)
 
-  -- of the receiver, whose call has written nothing before
+  -- a step of the receiver that leaves this book, whose call has written nothing before
   from_receiver : (p : ℕ) (start : LoanStart) (ask : Option Ask) (back : Bool) (after : After LoanFlight (Answer T))
       (effect : Effect) (k : Core ℕ) → span_of p sound.state.events ≡ Open (starts.Loan start) []
       → GivesBy scene p k (Open (starts.Loan start) []) start ask back after effect
@@ -74,35 +74,35 @@ module _ {T : Type 0} (m : Underway T) where
       → Stands 0 (starts.Loan (calls.Send index)) (flights.Loan (pushes_at slots queue stage index))
       → Comes 0 (starts.Loan (calls.Send index)) (flights.Loan (pushes_at slots queue stage index))
   send_pushes index stage there =
-      let at = there.at in
-      let from = ap (span_of 0) sound.holds.same ∙ (there.span ∙ ap (λ es. Open (starts.Loan (calls.Send index)) es) at.4) in
-      let done = sends.does scene index h small there.knows stage there.found from at.5.0 at.5.1 there.steps in
+      let stands = there.at in
+      let from = ap (span_of 0) sound.holds.same ∙ (there.span ∙ ap (λ es. Open (starts.Loan (calls.Send index)) es) stands.4) in
+      let done = sends.does scene index h small there.knows stage there.found from stands.5.0 stands.5.1 there.steps in
       let value = old scene index stage in
       from_step (calls.Send index) (asked scene index stage) (goes scene index stage value) (effect_at scene index stage value)
       done.channel_then (push_wrote queue s.submission index stage) from done.step
 
-  -- and a take-back that stands in its pop
+  -- a take-back that stands in its pop comes on as a step of the machine
   pub take_back_pops : (stage : PopStage) (found : OneWord)
       → Stands 0 (starts.Loan calls.TakeBack) (flights.Loan (pops_at slots queue stage found))
       → Comes 0 (starts.Loan calls.TakeBack) (flights.Loan (pops_at slots queue stage found))
   take_back_pops stage found there =
-      let at = there.at in
-      let from = ap (span_of 0) sound.holds.same ∙ (there.span ∙ ap (λ es. Open (starts.Loan calls.TakeBack) es) at.3) in
-      let done = take_backs.does scene h small stage found there.found from there.knows stage found at.4 there.steps in
+      let stands = there.at in
+      let from = ap (span_of 0) sound.holds.same ∙ (there.span ∙ ap (λ es. Open (starts.Loan calls.TakeBack) es) stands.3) in
+      let done = take_backs.does scene h small stage found there.found from there.knows stage found stands.4 there.steps in
       from_step calls.TakeBack (take_backs.asked scene stage) (take_backs.goes scene stage found (take_backs.old scene stage))
       (take_back_effect (take_back_stages.Pops stage found)) done.channel_then [] from done.step
 
-  -- and a give-back, of a party that has not died
+  -- a give-back of a party that has not died comes on as a step of the machine
   pub give_back_pushes : (p index : ℕ) (stage : ring_pushes.PushStage) → has_died p s.book.dead ≡ false
       → Stands p (starts.Loan (calls.GiveBack index)) (flights.Loan (give_at slots queue p index stage))
       → Comes p (starts.Loan (calls.GiveBack index)) (flights.Loan (give_at slots queue p index stage))
   give_back_pushes p index stage alive there =
-      let at = there.at in
-      let known = at.7 alive in
-      let from = ap (span_of p) sound.holds.same ∙ (there.span ∙ ap (λ es. Open (starts.Loan (calls.GiveBack index)) es) at.5) in
-      let r : ReceiverCalls scene p (calls.GiveBack index) =
-      record { holds = h; small = small; other = at.0; alive = alive; receives = known.0; from = from } in
-      let done = give_backs.does scene p index r known.1 there.knows stage known.2 there.steps in
+      let stands = there.at in
+      let known = stands.7 alive in
+      let from = ap (span_of p) sound.holds.same ∙ (there.span ∙ ap (λ es. Open (starts.Loan (calls.GiveBack index)) es) stands.5) in
+      let receiver_calls : ReceiverCalls scene p (calls.GiveBack index) =
+      record { holds = h; small = small; other = stands.0; alive = alive; receives = known.0; from = from } in
+      let done = give_backs.does scene p index receiver_calls known.1 there.knows stage known.2 there.steps in
       from_receiver p (calls.GiveBack index) (give_backs.asked scene p index stage) false (give_backs.after_of scene p index stage)
       (give_back_effect index stage) done.queue_then from done.step
 
@@ -112,12 +112,12 @@ module _ {T : Type 0} (m : Underway T) where
       → Stands p (starts.Loan calls.Receive) (flights.Loan (receive_at slots queue p stage room))
       → Comes p (starts.Loan calls.Receive) (flights.Loan (receive_at slots queue p stage room))
   receive_looks p stage room alive is there =
-      let at = there.at in
-      let known = at.5 alive in
-      let from = ap (span_of p) sound.holds.same ∙ (there.span ∙ ap (λ es. Open (starts.Loan calls.Receive) es) at.4) in
-      let r : ReceiverCalls scene p calls.Receive =
-      record { holds = h; small = small; other = at.0; alive = alive; receives = known.0; from = from } in
+      let stands = there.at in
+      let known = stands.5 alive in
+      let from = ap (span_of p) sound.holds.same ∙ (there.span ∙ ap (λ es. Open (starts.Loan calls.Receive) es) stands.4) in
+      let receiver_calls : ReceiverCalls scene p calls.Receive =
+      record { holds = h; small = small; other = stands.0; alive = alive; receives = known.0; from = from } in
       let send = beside s.book (words_in s) t.world.latest p in
       let value = receives.old scene p send stage in
       from_receiver p calls.Receive (receives.asked scene p send stage) (goes_back stage value) (receives.goes scene p send stage room value)
-      (receives.effect_at scene p send stage value) s.completion from (receives.looks scene p send r stage room is known.1 there.steps there.knows)
+      (receives.effect_at scene p send stage value) s.completion from (receives.looks scene p send receiver_calls stage room is known.1 there.steps there.knows)

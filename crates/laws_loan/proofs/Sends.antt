@@ -66,6 +66,7 @@ module _ {T : Type 0} (scene : Scene T) (index : ℕ) where
   abbrev pub effect_at : PushStage → ℕ → Effect
   effect_at stage value = push_effect (submission_word slots) queue (words_in s) index stage value
 
+  -- what a step of the send shows, where it leaves the channel so
   abbrev pub StepTo : Channel T → List (Event T) → PushStage → After LoanFlight (Answer T) → Effect → Type 0
   StepTo s' wrote stage after effect =
       StepBy scene 0 s' (Open start wrote) (calls.Send index) (asked stage) false after effect
@@ -75,7 +76,7 @@ module _ {T : Type 0} (scene : Scene T) (index : ℕ) where
     pub channel_then : Channel T
     pub step : StepTo channel_then (push_wrote queue s.submission index stage) stage (goes stage (old stage)) (effect_at stage (old stage))
 
-  -- so it comes, as the call computes it
+  -- the step comes to this, as the call computes it
   pub does_by : (s' : Channel T) (stage : PushStage) (wrote : List (Event T)) (after : After LoanFlight (Answer T)) (effect : Effect)
       → push_wrote queue s.submission index stage ≡ wrote → goes stage (old stage) ≡ after → effect_at stage (old stage) ≡ effect
       → StepTo s' wrote stage after effect → Does stage
@@ -96,8 +97,7 @@ module _ {T : Type 0} (scene : Scene T) (index : ℕ) where
     pub old_is : (stage : PushStage) → IsOn queued (push_asks queue stage index) → old stage ≡ old_of queued (ask_of (push_asks queue stage index))
     old_is stage on = submission_old slots queue s (counted_for (sends_at latest)) h.parts (push_asks queue stage index) on
 
-    -- an operation on the submission queue changes that part of the words alone, to those of the
-    -- queue as it is then
+    -- an operation on the submission queue changes that part of the words alone, to those of the queue as it is then
     pub words_are : (stage : PushStage) (k : Core ℕ) → IsOn queued (push_asks queue stage index)
         → words_after queued (ask_of (push_asks queue stage index)) ≡ layout no_roles k
         → words_after (words_in s) (asked stage) ≡ s.set ++ (layout no_roles k ++ layout no_roles s.completion)
@@ -149,8 +149,7 @@ module _ {T : Type 0} (scene : Scene T) (index : ℕ) where
       shows_on : Shows slots queue s s_on 0 y_on latest turns []
       shows_on = grind (arith, append-nil, idle, silent_tells, few_wait, sends_now)
 
-      -- a step that goes on, where nothing has moved yet, leaves the send at the push's next
-      -- stage, and writes nothing
+      -- a step that goes on, where nothing has moved yet, leaves the send at the push's next stage, and writes nothing
       pub goes_on : StepTo s_on [] now (GoOn (pushes_at slots queue after_it index)) effects.Quiet
       goes_on =
           let written = words_are now k on words in
@@ -171,27 +170,27 @@ module _ {T : Type 0} (scene : Scene T) (index : ℕ) where
       pub loads_write : Here pushes.LoadsWrite → x.steps ≤ 0 → Does pushes.LoadsWrite
       loads_write here steps =
           let some = h.parts.some in
-          let on : 0 < length queued = (let wide = long in omega arith) in
+          let on_queue : 0 < length queued = (let wide = long in omega arith) in
           does_by still pushes.LoadsWrite [] (GoOn (pushes_at slots queue (pushes.LoadsRead s.submission.write) index))
-          effects.Quiet refl (ap (goes pushes.LoadsWrite) (old_is pushes.LoadsWrite on)
-          ∙ (let t : (s.submission.write == 2 ^ 64 - 1) ≡ false = (let low = reached in grind (arith, nat_tests)) in rw t refl))
+          effects.Quiet refl (ap (goes pushes.LoadsWrite) (old_is pushes.LoadsWrite on_queue)
+          ∙ (let not_last : (s.submission.write == 2 ^ 64 - 1) ≡ false = (let low = reached in grind (arith, nat_tests)) in rw not_last refl))
           refl (goes_on pushes.LoadsWrite (pushes.LoadsRead s.submission.write) s.submission here tt from
-          refl refl refl h.parts.submission on refl refl refl refl refl
+          refl refl refl h.parts.submission on_queue refl refl refl refl refl
           (omega arith, refl, (let low = reached in omega arith)) passes_on (omega arith) (λ room stage known. known))
 
-      -- so does the load of the read position
+      -- the load of the read position does what a step should
       pub loads_read : Here (pushes.LoadsRead s.submission.write) → x.steps ≤ 1 → Does (pushes.LoadsRead s.submission.write)
       loads_read here steps =
           let some = h.parts.some in
-          let on : 1 < length queued = (let wide = long in omega arith) in
+          let on_queue : 1 < length queued = (let wide = long in omega arith) in
           let few : length s.submission.waiting ≤ queue = subst (Hangs queue s.submission) (ap (hung s.submission.read) here) h.hangs in
           let write = h.parts.submission.write in
           does_by still (pushes.LoadsRead s.submission.write) []
           (GoOn (pushes_at slots queue (pushes.StoresCell s.submission.write s.submission.read) index)) effects.Quiet
-          refl (ap (goes (pushes.LoadsRead s.submission.write)) (old_is (pushes.LoadsRead s.submission.write) on)) refl
+          refl (ap (goes (pushes.LoadsRead s.submission.write)) (old_is (pushes.LoadsRead s.submission.write) on_queue)) refl
           (goes_on (pushes.LoadsRead s.submission.write)
           (pushes.StoresCell s.submission.write s.submission.read) s.submission here tt from refl refl refl
-          h.parts.submission on refl refl refl refl refl
+          h.parts.submission on_queue refl refl refl refl refl
           (omega arith, refl, omega arith, omega arith, (let low = reached in omega arith)) passes_on (omega arith) (λ room stage known. known))
 
       -- and the store into the cell, at a read position that is not past the queue's, from which
@@ -223,7 +222,7 @@ module _ {T : Type 0} (scene : Scene T) (index : ℕ) where
                   low,
                   far,
                   submission.fill_whole queue h.parts.some h.parts.few s.submission h.parts.submission reached index below,
-                  (let up = reached in omega arith),
+                  (omega (arith, reached)),
                 )
                 passes_on (omega arith) (fill_keeps_pop queue s.submission 0 index);
           }

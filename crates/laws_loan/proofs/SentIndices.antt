@@ -88,7 +88,7 @@ module _ {T : Type 0} (slots : ℕ) (claims : List (Option ℕ)) (sent back : Li
     there Waiting e = absurd (true≢false (sym (ap is_waiting e) ∙ none_there is_waiting sent events none h.waits i))
     there Returning e = absurd (true≢false (sym (ap is_returning e) ∙ none_there is_returning back events nor h.returns i))
 
-    -- so a reclaim may free it, since the receiver is dead
+    -- a reclaim may free the index, since the receiver is dead
     pub may_free : has_died book.receiver book.dead ≡ true → IsReclaiming (span_of 0 events) → MayFree 0 i events
     may_free = grind (arith, inl, inr, there)
 

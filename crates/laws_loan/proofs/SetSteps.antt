@@ -26,7 +26,7 @@ use Rattle.laws_loan.proofs.Lists.{sum_less}
 
 -- ---- a release, in mode Default
 
--- its first step clears the flag
+-- the first step of a release clears the flag
 abbrev pub claims_then : ℕ → ReleaseStage → List (Option ℕ) → List (Option ℕ)
 claims_then index releases.ClearsFlag hs = set hs index None
 claims_then index releases.LoadsHead hs = hs
@@ -51,20 +51,19 @@ module _ (c index : ℕ) (below : index < c) (ws : List ℕ) (hs : List (Option 
     pub leads : ReleaseLeads c stage (words_after ws (released_by stage)) (claims_then index stage hs) (back_takes c stage (old_of ws (released_by stage)))
     pub unlocked : counted_in (words_after ws (released_by stage)) ≢ locked
 
-  -- the clear of the flag of an index that the sender has makes it free, and the release is
-  -- counted from then on
+  -- the clear of the flag of an index that the sender has makes it free, and the release is counted from then on
   clears : holder hs index ≡ Some 0 → Good c ws hs 0 → ReleaseStep releases.ClearsFlag
-  clears holds good_holds =
-      let wide = good_holds.wide in
+  clears holds was_good =
+      let wide = was_good.wide in
       let low = flag_within c index below in
-      let good : Good c (words_after ws (released_by releases.ClearsFlag)) (set hs index None) 1 = frees c ws hs index below 0 0 holds good_holds in
+      let good : Good c (words_after ws (released_by releases.ClearsFlag)) (set hs index None) 1 = frees c ws hs index below 0 0 holds was_good in
       let unlocked = unlocked_for c (words_after ws (released_by releases.ClearsFlag)) (set hs index None) 1 good (omega arith) in
       grind arith
 
   -- while it is counted the set is not locked
   module _ (g : Good c ws hs 1) where
     counted : (1 ≤ counted_in ws) × (counted_in ws ≤ c)
-    counted = let h = some_counted c ws hs 0 g in (h.0, h.2)
+    counted = let one_counted = some_counted c ws hs 0 g in (one_counted.0, one_counted.2)
 
     -- a head that counts one less is not locked
     less_unlocked : (x : ℕ) → borrowed x + 1 ≡ counted_in ws → counted_in (set ws 0 x) ≢ locked
@@ -85,13 +84,14 @@ module _ (c index : ℕ) (below : index < c) (ws : List ℕ) (hs : List (Option 
     exchanges : (head : ℕ) → ReleaseStep (releases.ExchangesHead head)
     exchanges head = go (head_of ws == head) refl
       where
+        -- the cases are whether the head is still what was read
         go : (b : Bool) → (head_of ws == head) ≡ b → ReleaseStep (releases.ExchangesHead head)
         go true t =
             let wide = g.wide in
-            let is : head_of ws ≡ head = grind (arith, nat_tests) in
+            let same_head : head_of ws ≡ head = grind (arith, nat_tests) in
             let new : words_after ws (released_by (releases.ExchangesHead head))
             ≡ set ws 0 (head_given_back (head_of ws) index) =
-            rw t (ap (λ h. set ws 0 (head_given_back h index)) (sym is)) in
+            rw t (ap (λ h. set ws 0 (head_given_back h index)) (sym same_head)) in
             let good : Good c (words_after ws (released_by (releases.ExchangesHead head))) hs 0 =
             subst (λ w. Good c w hs 0) (sym new) (gives c ws hs 0 g index) in
             let unlocked =
@@ -163,8 +163,7 @@ module _ (c : ℕ) (ws : List ℕ) (hs : List (Option ℕ)) (opened : counted_in
   abbrev Leads : AcquireStage → After acquire_calls.Acquire Acquired → Type 0
   Leads stage a = AcquireLeads c stage ws (words_after ws (acquired_by stage)) hs a
 
-  -- a step of an acquire is on a word of the set, leads on without a turn back, and leaves the set
-  -- unlocked
+  -- a step of an acquire is on a word of the set, leads on without a turn back, and leaves the set unlocked
   pub record AcquireStep (stage : AcquireStage) : Type 0 where
     pub on : IsOn ws (acquire_asks c stage)
     pub leads : Leads stage (acquire_takes (call_at stage) stage (old_of ws (acquired_by stage)))
@@ -201,10 +200,10 @@ module _ (c : ℕ) (ws : List ℕ) (hs : List (Option ℕ)) (opened : counted_in
     exchanges_head head next at is =
         let wide = g.wide in
         let some = g.some in
-        let t : (head_of ws == head) ≡ true = grind (arith, nat_tests) in
+        let is_same : (head_of ws == head) ≡ true = grind (arith, nat_tests) in
         let new : words_after ws (acquired_by (acquires.ExchangesHead head next))
         ≡ set ws 0 (head_taken (head_of ws) next) =
-        rw t (ap (λ h. set ws 0 (head_taken h next)) (sym is)) in
+        rw is_same (ap (λ h. set ws 0 (head_taken h next)) (sym is)) in
         let good : Good c (words_after ws (acquired_by (acquires.ExchangesHead head next))) hs 1 =
         subst (λ w. Good c w hs 1) (sym new) (takes c ws hs 0 next g opened (λ all. at.1 (ap borrowed (sym is) ∙ all))) in
         let unlocked = unlocked_for c (words_after ws (acquired_by (acquires.ExchangesHead head next))) hs 1 good (omega arith) in

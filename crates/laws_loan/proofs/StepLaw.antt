@@ -44,7 +44,7 @@ module _ {T : Type 0} (m : Underway T) where
       (record { after = any_call after; back = back; wrote = wrote; kept = registries.Loan book }))
       (wrote ++ ending_of p (starts.Loan start) (answer_in (any_call after))) (t.world.changes + change_of (words_in now) ask)
 
-  -- with this effect
+  -- the party comes on so with this effect
   abbrev pub ComesBy : ℕ → LoanStart → Option Ask → Bool → After LoanFlight (Answer T) → Effect → Type 0
   ComesBy p start ask back after effect =
       ComesWith p start ask back after (effects_of p effect (answer_in after))
@@ -73,7 +73,7 @@ module _ {T : Type 0} (m : Underway T) where
             sound.holds.same owes;
       }
 
-  -- by this effect, which leaves this book
+  -- a step that shows this and owes this comes on, by this effect, which leaves this book
   pub step_comes : (p : ℕ) (start : LoanStart) (ask : Option Ask) (back : Bool) (after : After LoanFlight (Answer T))
       (effect : Effect) (s' : Channel T) (from : Span T) → span_of p now.events ≡ from
       → StepBy scene p s' from start ask back after effect

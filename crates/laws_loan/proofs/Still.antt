@@ -46,7 +46,7 @@ module _ {T : Type 0} where
         (lists_stay is_waiting sent events e placed.waits still.moves)
         (lists_stay is_returning back events e placed.returns still.moves)
 
-    -- and so do any number of them
+    -- any number of such events keep where each index is
     pub placed_still : (events es : List (Event T)) → AreStill es → Placed slots claims sent back book events
         → Placed slots claims sent back book (events ++ es)
     placed_still events [] still placed = subst (Placed slots claims sent back book) (sym (append-nil events)) placed

@@ -29,7 +29,7 @@ module _ (queue : ℕ) (some : 1 ≤ queue) (few : queue < 2 ^ 32) (k : Core ℕ
 
   pub loads_write : push_takes (inner_push queue overflow_pushes.LoadsWrite) overflow_pushes.LoadsWrite k.write
       ≡ GoOn (inner_push queue (overflow_pushes.LoadsRead k.write))
-  loads_write = let t : (k.write == 2 ^ 64 - 1) ≡ false = grind (arith, nat_tests) in rw t refl
+  loads_write = let not_last : (k.write == 2 ^ 64 - 1) ≡ false = grind (arith, nat_tests) in rw not_last refl
 
   -- ---- the stores of a push
 
@@ -62,6 +62,7 @@ module _ (queue : ℕ) (some : 1 ≤ queue) (few : queue < 2 ^ 32) (k : Core ℕ
     pub publish_changes : change_of ws next_write ≡ 1
     publish_changes = grind (arith, false, nat_tests)
 
+    -- a queue is as it should be once a value is published into it that its cell holds
     pub publish_good : length k.waiting < queue + 1 → Holds 1 words_of_index (queue + 1) k.cells k.write v 1 → Good 1 words_of_index (queue + 1) publish
     publish_good below whole = publishes 1 words_of_index (queue + 1) k v below g whole
 
@@ -95,4 +96,4 @@ module _ (queue : ℕ) (some : 1 ≤ queue) (few : queue < 2 ^ 32) (k : Core ℕ
 
   -- where it has moved already, nothing changes
   pub stays_words : (read : ℕ) → (k.read == read) ≡ false → words_after ws (moves_from read) ≡ ws
-  stays_words read read_false = rw read_false refl
+  stays_words read not_read = rw not_read refl

@@ -39,7 +39,7 @@ with_away = grind arith
 passing_away : (p : ℕ) → p ≢ 0 → IsAway (Passing p)
 passing_away = grind arith
 
--- whose an index is that one party has
+-- an index that one party has in passing is that party's alone
 by_passing : (q p : ℕ) → IsBy p (Passing q) → p ≡ q
 by_passing = grind arith
 
@@ -72,7 +72,7 @@ module _ {T : Type 0} (slots : ℕ) (claims : List (Option ℕ)) (sent back : Li
         back back book (record book { places = set book.places i places.Loaned }) h
         (grind (arith, get_or-set_same, get_or-set_other, length-set, by_passing, held))
 
-    -- and ends
+    -- a loan that claims it ends
     pub loan_ends : spot_of i events ≡ Passing 0 → place_at book.places i ≡ places.Loaned
         → Placed slots claims sent back (record book { holders = set book.holders i (Some 0) }) (events ++ Finished 0 (Loan calls.Loan) (answers.Index i) ∷ [])
     loan_ends from loaned =
@@ -147,7 +147,7 @@ module _ {T : Type 0} (slots : ℕ) (claims : List (Option ℕ)) (sent back : Li
           claims sent sent back back book (record book { holders = set book.holders i None }) h
           (grind (arith, get_or-set_same, get_or-set_other, length-set, by_passing, theirs, sent_there, stood, with_away))
 
-      -- and puts it into the completion queue
+      -- a give-back puts it into the completion queue
       pub returns_it : spot_of i events ≡ Passing p
           → Placed slots claims sent (back ++ i ∷ []) (book_after {T = T} book (Returned p i)) (events ++ Returned p i ∷ [])
       returns_it from =

@@ -27,13 +27,13 @@ set_at table index i v within = ⊎_elim here there (cases_eq index i)
   where
     here : index ≡ i → place_at (set table index v) i ≡ (if index == i then v else place_at table i)
     here same =
-        let t : (index == i) ≡ true = grind (arith, nat_tests) in
-        rw t (subst (λ n. place_at (set table index v) n ≡ v) same (get_or-set_same table index v places.Free within))
+        let is_same : (index == i) ≡ true = grind (arith, nat_tests) in
+        rw is_same (subst (λ n. place_at (set table index v) n ≡ v) same (get_or-set_same table index v places.Free within))
 
     there : index ≢ i → place_at (set table index v) i ≡ (if index == i then v else place_at table i)
     there ne =
-        let t : (index == i) ≡ false = grind (arith, nat_tests) in
-        rw t (get_or-set_other table index i v places.Free (λ e. ne (sym e)))
+        let is_other : (index == i) ≡ false = grind (arith, nat_tests) in
+        rw is_other (get_or-set_other table index i v places.Free (λ e. ne (sym e)))
 
 module _ {T : Type 0} where
   -- what the table that is kept says of an index
@@ -53,8 +53,7 @@ module _ {T : Type 0} where
   long_after : (book : Book) (e : Event T) → length (book_after book e).places ≡ length book.places
   long_after = grind (arith, length-set)
 
-  -- the place of an index in the table, after events that move rightly, is the place before, moved
-  -- on by each of them
+  -- the place of an index in the table, after events that move rightly, is the place before, moved on by each of them
   each : (slots i : ℕ) (book : Book) (before es : List (Event T)) → length book.places ≡ slots
       → AreRight (MovesRight slots) before es
       → place_at (fold book_after book es).places i ≡ fold (place_after i) (place_at book.places i) es
@@ -126,6 +125,7 @@ module _ {T : Type 0} (code : Coding T) (slots queue : ℕ) where
         λ i. begun p start (first_of t.world.kind t.world.capacity start t.world.kept) i ∙ sym (as_before i (Begun p start) (λ place. refl))
     turn_tabled (Next p) moves = go (party_of p t.world.latest) refl (right_of (MovesRight slots) t.events (events_of t.world (Next p)) moves)
       where
+        -- the cases are what the party's latest call is
         go : (o : Option (Party T)) → party_of p t.world.latest ≡ o
             → AreRight (MovesRight slots) t.events (events_of_next t.world p o) → (i : ℕ)
             → place_in (after_next t.world p o).kept i ≡ place_of i (t.events ++ events_of_next t.world p o)

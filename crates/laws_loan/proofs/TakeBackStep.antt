@@ -39,9 +39,9 @@ module _ {T : Type 0} (m : Underway T) where
       → Comes m 0 (starts.Loan calls.TakeBack) (flights.Loan (take_back_at slots queue stage))
   take_back_steps (take_backs.Pops stage found) there = take_back_pops m stage found there
   take_back_steps (take_backs.Releases index stage) there =
-      let at = there.at in
-      let from = ap (span_of 0) sound.holds.same ∙ (there.span ∙ ap (λ es. Open (starts.Loan calls.TakeBack) es) at.3) in
+      let stands = there.at in
+      let from = ap (span_of 0) sound.holds.same ∙ (there.span ∙ ap (λ es. Open (starts.Loan calls.TakeBack) es) stands.3) in
       let value = old_of (words_in sound.state) (ask_of (back_asks slots index stage)) in
       subst (With m index (takes_back T slots queue index) there.knows stage (release_effect index stage))
       (sym (goes_so T slots queue index stage (back_takes slots stage value))) (releases_on m index (takes_back T slots queue index) there.knows stage
-      (record { found = there.found; gives = at.4; from = from; few = there.steps }))
+      (record { found = there.found; gives = stands.4; from = from; few = there.steps }))

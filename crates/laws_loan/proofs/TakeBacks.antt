@@ -76,7 +76,7 @@ module _ {T : Type 0} (scene : Scene T) where
     pub channel_then : Channel T
     pub step : StepTo channel_then stage (goes stage found (old stage)) (take_back_effect (take_backs.Pops stage found))
 
-  -- so it comes, as the call computes it
+  -- the step comes to this, as the call computes it
   does_by : (s' : Channel T) (stage : PopStage) (found : OneWord) (after : After LoanFlight (Answer T)) → goes stage found (old stage) ≡ after
       → StepTo s' stage after (take_back_effect (take_backs.Pops stage found)) → Does stage found
   does_by = grind arith
@@ -100,8 +100,7 @@ module _ {T : Type 0} (scene : Scene T) where
     old_is : (stage : PopStage) → IsOn queued (pop_asks stage) → old stage ≡ old_of queued (ask_of (pop_asks stage))
     old_is stage on = completion_old slots queue s (counted_for (sends_at latest)) h.parts (pop_asks stage) on
 
-    -- an operation on the completion queue changes that part of the words alone, to those of the
-    -- queue as it is then
+    -- an operation on the completion queue changes that part of the words alone, to those of the queue as it is then
     words_are : (stage : PopStage) (k : Core ℕ) → IsOn queued (pop_asks stage)
         → words_after queued (ask_of (pop_asks stage)) ≡ layout no_roles k
         → words_after (words_in s) (asked stage) ≡ s.set ++ (layout no_roles s.submission ++ layout no_roles k)
@@ -127,8 +126,7 @@ module _ {T : Type 0} (scene : Scene T) where
         → KeepsSet slots queue s latest (asked now) s.set 0
     keeps = grind (arith, keeps_all, words_are, idle)
 
-    -- a step that changes no word of the queue leaves the take-back at the pop's next stage, and
-    -- writes nothing
+    -- a step that changes no word of the queue leaves the take-back at the pop's next stage, and writes nothing
     goes_on : (now after_it : PopStage) (then_found : OneWord) → IsOn queued (pop_asks now)
         → words_after queued (ask_of (pop_asks now)) ≡ queued → KnowsPop one_word slots s.completion (in_one then_found) after_it
         → x.steps + 1 ≤ pop_number 1 after_it
@@ -196,8 +194,7 @@ module _ {T : Type 0} (scene : Scene T) where
       open_then : span_of 0 (s.events ++ takes ∷ []) ≡ Open start (takes ∷ [])
       open_then = span_after 0 index s.events (takes ∷ []) Returning (Passing 0) one_move spanned from
 
-      -- the store of the next read position shows what a turn has to: the first index is taken
-      -- back
+      -- the store of the next read position shows what a turn has to: the first index is taken back
       shows_taken : Shows slots queue s s_taken 0 y_taken latest turns (takes ∷ [])
       shows_taken =
           let good = completion.take_good slots some few s.completion h.parts.completion reached index rest first in
@@ -224,9 +221,9 @@ module _ {T : Type 0} (scene : Scene T) where
 
     loads_read : (room : OneWord) → x.steps ≤ 0 → Does pops.LoadsRead room
     loads_read room steps =
-        let on : 1 < length queued = (let wide = long in omega arith) in
-        does_by still pops.LoadsRead room (GoOn (pops_at slots queue load_of_write room)) (ap (goes pops.LoadsRead room) (old_is pops.LoadsRead on))
-        (goes_on pops.LoadsRead load_of_write room on refl (omega arith, refl) (omega arith))
+        let on_queue : 1 < length queued = (let wide = long in omega arith) in
+        does_by still pops.LoadsRead room (GoOn (pops_at slots queue load_of_write room)) (ap (goes pops.LoadsRead room) (old_is pops.LoadsRead on_queue))
+        (goes_on pops.LoadsRead load_of_write room on_queue refl (omega arith, refl) (omega arith))
 
     abbrev load_of_cell : PopStage
     load_of_cell = pops.LoadsCell s.completion.read (cell_word slots 1 s.completion.read) 0
@@ -241,6 +238,7 @@ module _ {T : Type 0} (scene : Scene T) where
         none : (slots == 0) ≡ false
         none = let most = some in grind (arith, nat_tests)
 
+        -- the cases are whether the completion queue is empty
         go : (same : Bool) → (s.completion.write == s.completion.read) ≡ same → Does load_of_write room
         go true e =
             let zero = none in
@@ -262,24 +260,24 @@ module _ {T : Type 0} (scene : Scene T) where
     -- the cell has the first value
     loads_cell : (room : OneWord) (v : ℕ) (rest : List ℕ) → s.completion.waiting ≡ v ∷ rest → x.steps ≤ 2 → Does load_of_cell room
     loads_cell room v rest first steps =
-        let on = completion.cell_on slots some few s.completion h.parts.completion reached s.completion.read in
+        let cell_within = completion.cell_on slots some few s.completion h.parts.completion reached s.completion.read in
         let value : old load_of_cell ≡ v =
-        old_is load_of_cell on
+        old_is load_of_cell cell_within
         ∙ completion.first_is slots some few s.completion h.parts.completion reached v rest first in
         does_by still load_of_cell room (GoOn (pops_at slots queue (pops.StoresRead s.completion.read) (word_of v)))
-        (ap (goes load_of_cell room) value) (goes_on load_of_cell (pops.StoresRead s.completion.read) (word_of v) on
+        (ap (goes load_of_cell room) value) (goes_on load_of_cell (pops.StoresRead s.completion.read) (word_of v) cell_within
         (set-get_or queued (word_at (cell_word slots 1 s.completion.read) 0) 0) (rest, refl, first) (omega arith))
 
     -- the store of the next read position does so, where the room has the first index that waits
     stores_read : (room : OneWord) (rest : List ℕ) → s.completion.waiting ≡ room.0 ∷ rest → x.steps ≤ 3
         → Does (pops.StoresRead s.completion.read) room
     stores_read room rest first steps =
-        let on : 1 < length queued = (let wide = long in omega arith) in
+        let on_queue : 1 < length queued = (let wide = long in omega arith) in
         let low : slots < 2 ^ 32 = (let less = few in omega arith) in
         does_by (s_taken room.0 rest first) (pops.StoresRead s.completion.read) room
         (GoOn (take_back_frees_at slots queue room.0 releases.ClearsFlag))
         (ap (λ i. GoOn (take_back_frees_at slots queue i releases.ClearsFlag)) (index_is room.0 slots (below room.0 rest first) low))
-        (takes_it room.0 rest first on steps)
+        (takes_it room.0 rest first on_queue steps)
 
     -- what a take-back knows leads on
     pub does : (now : PopStage) (room : OneWord) → KnowsPop one_word slots s.completion (in_one room) now → x.steps ≤ pop_number 1 now → Does now room

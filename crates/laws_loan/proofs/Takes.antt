@@ -42,8 +42,7 @@ module _ (T : Type 0) (slots queue : ℕ) (words : List ℕ) (places : List Plac
   loads : (word : ℕ) → read_at slots (words_after words (Some (record { word = word; op = Load }))) ≡ read
   loads word = ap (read_at slots) (load_leaves words word)
 
-  -- a step of a receive that goes on leaves it so many steps fewer as it takes, whatever the stage
-  -- of its pop
+  -- a step of a receive that goes on leaves it so many steps fewer as it takes, whatever the stage of its pop
   pub receive_takes : (p steps : ℕ) (room : OneWord) (stage : PopStage) → TakesOne steps (receive_at slots queue p stage room)
   receive_takes p steps room pops.FindsNone = tt
   receive_takes p steps room pops.LoadsRead =
@@ -55,6 +54,7 @@ module _ (T : Type 0) (slots queue : ℕ) (words : List ℕ) (places : List Plac
       at_stage : LoanFlight
       at_stage = receive_at slots queue p (pops.LoadsWrite r) room
 
+      -- the cases are whether the write position is the read position that was read
       go : (t : Bool) → (old_of words (asked at_stage) == r) ≡ t → TakesOne steps at_stage
       go true t = rw t tt
       go false t = let same = loads (word_at (submission_word slots) 0) in rw t (rw same (omega arith))
@@ -62,6 +62,7 @@ module _ (T : Type 0) (slots queue : ℕ) (words : List ℕ) (places : List Plac
       let same = loads (word_at (submission_word slots) (overflow.cell_word queue r)) in rw same (omega arith)
   receive_takes p steps room (pops.MovesRead r) = go (read == r) refl
     where
+      -- the cases are whether the read position is still what was read
       go : (t : Bool) → (read == r) ≡ t → TakesOne steps (receive_at slots queue p (pops.MovesRead r) room)
       go true t = rw t tt
       go false t =
@@ -90,6 +91,7 @@ module _ (T : Type 0) (slots queue : ℕ) (words : List ℕ) (places : List Plac
       at_stage : LoanFlight
       at_stage = give_at slots queue p index pushes.LoadsWrite
 
+      -- the cases are whether the write position is at its end
       go : (t : Bool) → (old_of words (asked at_stage) == 2 ^ 64 - 1) ≡ t → TakesOne steps at_stage
       go true t = rw t tt
       go false t = rw t (omega arith)

@@ -36,7 +36,7 @@ module _ {T : Type 0} where
       → flat_map tells (wrote ++ e ∷ []) ≡ flat_map tells wrote
   silent = grind (arith, flat_map-append, append-nil)
 
-  -- and the index in passing in it stays so
+  -- the index in passing in a call stays so
   pub carries_made : (waits : Option ℕ) (i : ℕ) (span : Span T) → Carries i span → Carries i (fold own_after span (made waits))
   carries_made = grind (arith, send_of, inl, silent, publishes, inr, hands_out, frees, takes_back, gives_back)
 

@@ -24,8 +24,7 @@ cell_place = grind arith
 module _ {T : Type 0} (code : Coding T) (kd : QueueKind)
     (reads : (words : List ℕ) (cell : ℕ) → item_at code kd words cell ≡ Index (get_or words cell 0))
     (one : words_of_cell code.size kd ≡ 1) where
-  -- where each cell from a position on has the index of a list, what is stored there is the
-  -- indices of that list
+  -- where each cell from a position on has the index of a list, what is stored there is the indices of that list
   stored_is : (c : ℕ) (words : List ℕ) (position : ℕ) (xs : List ℕ)
       → ((i v : ℕ) → slice_get xs i ≡ Some v → get_or words (cell_of code kd c (position + i)) 0 ≡ v)
       → stored code kd c words position (length xs) ≡ map Index xs

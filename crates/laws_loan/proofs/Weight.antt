@@ -62,7 +62,7 @@ module _ {T : Type 0} where
   sender_left slots None = most_sending slots
   sender_left slots (Some x) = sender_doing slots x.steps x.doing
 
-  -- where this is the read position
+  -- the steps that a receiver's call takes at most, where this is the read position
   abbrev pub receiver_call : ℕ → ℕ → Flight T → ℕ
   receiver_call read steps (flights.Loan (Receive p run)) = stale read run.call.call.stage + 3 - overflow_pop_number run.call.call.stage
   receiver_call read steps (flights.Loan (GiveBack p run)) = 3 - steps
@@ -114,13 +114,14 @@ module _ {T : Type 0} where
   pub receiver_moved : (read read' : ℕ) (o : Option (Party T)) → receiver_left read' o ≤ receiver_left read o + 2
   receiver_moved = grind (arith, call_moved)
 
-  -- the weight is at most 13 times the number of slots, and 11
+  -- the weight is at most 13 times the number of slots plus 11
   pub weight_most : (slots : ℕ) (w : World T) → weight slots w ≤ 13 * slots + 11
   weight_most slots w =
       let sender = sender_most slots (party_of 0 w.latest) in
       let receiver = receiver_most (read_at slots w.words) (party_of (receiver_in w.kept) w.latest) in
       go (is_lost w.kept) (omega arith) (omega arith)
     where
+      -- the cases are whether the receiver is lost
       go : (b : Bool) → sender_left slots (party_of 0 w.latest) ≤ 13 * slots + 7
           → receiver_left (read_at slots w.words) (party_of (receiver_in w.kept) w.latest) ≤ 4
           → sender_left slots (party_of 0 w.latest) + cond b 0 (receiver_left (read_at slots w.words) (party_of (receiver_in w.kept) w.latest))

@@ -59,8 +59,7 @@ more_steps = omega arith
 low_there : (bound : Bound) (n c words : ℕ) → n ≡ 2 → c ≡ 1 → words ≡ 1 → bound 2 1 1 < 14 → bound n c words < 14
 low_there bound n c words a b words_are_one few = rw (a, b, words_are_one) few
 
--- by no bound that is below 14 for two parties, one slot and values of one word has a loan channel
--- lock-free runs
+-- by no bound that is below 14 for two parties, one slot and values of one word has a loan channel lock-free runs
 pub channel : (bound : Bound) → bound 2 1 1 < 14 → HasLockFreeRuns ℕ Loan bound → ⊥
 channel bound few free =
     none_more (ends sent.events) (ends (after_turns sent turns).events) 2 ended_before ended_after

@@ -33,6 +33,7 @@ module _ {T : Type 0} (code : Coding T) where
   find_done c owner (finds.LoadsCell i found) answer due = absurd (cc)
   find_done c owner (finds.Asks i found) answer due = go (answer == 0) (nat_lt (i + 1) c)
     where
+      -- the cases are whether the answer is no and whether a further index follows
       go : (b more : Bool) → due_by (as_call {A = ℕ} calls.Find Number
           (went_on as_it_is owner tt
           (if b then Done found else
@@ -42,7 +43,7 @@ module _ {T : Type 0} (code : Coding T) where
       go false true = refl
       go false false = refl
 
-  -- nor does a recovery
+  -- a recovery that is handed an answer to its question puts none next
   recover_done : (c : ℕ) (mode : ReleaseMode) (stage : RecoverStage) (answer : ℕ)
       → is_question (want (recover_at c mode stage)) ≡ true
       → due_by (after {T = T} (recover_at c mode stage) answer) ≡ false
@@ -50,6 +51,7 @@ module _ {T : Type 0} (code : Coding T) where
   recover_done c mode (recovers.LoadsCell i) answer due = absurd (cc)
   recover_done c mode (recovers.Asks i owner) answer due = go (answer == 0) (nat_lt (i + 1) c)
     where
+      -- the cases are whether the answer is no and whether a further index follows
       go : (b more : Bool) → due_by (as_call {A = ReleaseState} calls.Recover State
           (went_on as_it_is mode tt
           (if b then GoOn

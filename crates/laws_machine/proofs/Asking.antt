@@ -130,7 +130,7 @@ module _ {T : Type 0} where
   decided w dead k p said None = tt
   decided w dead k p said (Some x) = answered w dead k p x None (number_of said) x.doing
 
-  -- of the machine that the turn leaves
+  -- where the party stands in the machine at its question, each event that says that it asks is so there
   it_asks : (new : World T) (asked : ℕ × Option (ℕ × ℕ)) (es : List (Event T))
       → asked.1 ≡ owned_of new.coding (flight_in new asked.0) → Q asked es → AllByRecursion (AsksIt new) es
   it_asks new asked [] same h = tt
@@ -157,6 +157,6 @@ module _ {T : Type 0} where
 
   pub asks_at_once : (t : Trace T) (turn : Turn T) → t.world.kind ≡ kinds.Robust → IsReached t → AsksAtOnce t (after_turn t turn)
   asks_at_once t turn is r wrote e =
-      let s = reached_sound t is r in
+      let sound_there = reached_sound t is r in
       subst (AllByRecursion (AsksIt (world_after t.world turn))) (append_cancel_left t.events (events_of t.world turn) wrote e)
-      (turn_asks t.world s.state.dead s.fit.kept turn)
+      (turn_asks t.world sound_there.state.dead sound_there.fit.kept turn)

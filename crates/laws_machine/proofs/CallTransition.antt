@@ -15,8 +15,8 @@ module _ {T : Type 0} where
   left_by (Done answer) = None
 
   stands_left : (w : World T) (p : ℕ) (a : After (Flight T) (Answer T)) → StandsAt w p a → flight_in w p ≡ left_by a
-  stands_left w p (GoOn flight) stands_at_holds = stands_at_holds
-  stands_left w p (Done answer) stands_at_holds = stands_at_holds
+  stands_left w p (GoOn flight) standing = standing
+  stands_left w p (Done answer) standing = standing
 
   module _ (old new : World T) (p : ℕ) (flight : Flight T) (here : flight_in old p ≡ Some flight) where
     pub next_left : GoesOn old (Next p) new

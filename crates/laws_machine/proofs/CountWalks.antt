@@ -76,8 +76,7 @@ module _ {T : Type 0} (code : Coding T) (c : ℕ) (ws : List ℕ) (state : Optio
     add_ends = grind (arith, acquired_ends, add_either)
 
     module _ (all : List SetAct) (done : List (Act T)) where
-      -- no operation of an add changes the number of changes, but that of the stage which adds 1
-      -- to it
+      -- no operation of an add changes the number of changes, but that of the stage which adds 1 to it
       add_calm : (stage : AddStage) → AddAt c code.size all done owner stage
           → ((index : ℕ) → stage ≢ adds.AddsChange index)
           → IsCalm c ws (ask_of (want code (add_at c value owner stage)))
@@ -117,6 +116,7 @@ module _ {T : Type 0} (code : Coding T) (c : ℕ) (ws : List ℕ) (state : Optio
     released_ends stage count (GoOn release) = refl
     released_ends stage count (Done (Ok lock)) = go (is_even count)
       where
+        -- the cases are whether the count is even
         go : (b : Bool) → removes_to (if b then GoOn (remove_call (removes.AddsChange lock)) else GoOn
             (remove_call (removes.Hides count lock)))
             ≡ 0
@@ -124,8 +124,7 @@ module _ {T : Type 0} (code : Coding T) (c : ℕ) (ws : List ℕ) (state : Optio
         go false = refl
     released_ends stage count (Done (Err failure)) = refl
 
-    -- each step of a remove adds to the number of changes what the remove's end counts, and none
-    -- where it goes on
+    -- each step of a remove adds to the number of changes what the remove's end counts, and none where it goes on
     remove_counts : (all : List SetAct) (done : List (Act T))
         (raised : change_at c (words_after ws (Some (adds_one (change_word c)))) ≡ change_at c ws + 1)
         (stage : RemoveStage)
@@ -181,7 +180,7 @@ module _ {T : Type 0} (code : Coding T) (c : ℕ) (ws : List ℕ) (state : Optio
     replace_refused true = refl
     replace_refused false = refl
 
-    -- so does each step of a replace, by its own end
+    -- each step of a replace adds what the replace's end counts
     replace_counts : (raised : change_at c (words_after ws (Some (adds_one (change_word c)))) ≡ change_at c ws + 1)
         (stage : ReplaceStage) (old : ℕ)
         → Replaces stage old
@@ -242,7 +241,7 @@ module _ {T : Type 0} (code : Coding T) (c : ℕ) (ws : List ℕ) (state : Optio
         → Quiet (recover_takes code.size (recover_call stage) stage dead_owner old)
     recover_quiet = grind (arith, either_quiet, locked, raised_quiet, locked_quiet)
 
-    -- and each step of a recovery
+    -- each step of a recovery adds what the recovery's end counts
     recover_counts : (all : List SetAct) (done : List (Act T))
         (raised : change_at c (words_after ws (Some (adds_one (change_word c)))) ≡ change_at c ws + 1)
         (stage : RecoverStage)
@@ -373,6 +372,7 @@ module _ {T : Type 0} (code : Coding T) (state : Option (ContainerState T)) (p a
       go (recovers.ChecksCount index count) due = absurd (cc)
       go (recovers.Asks index count) due = by (answer == 0)
         where
+          -- the cases are whether the answer is no
           by : (b : Bool) → ends_count {T = T} p (starts.Recover owner mode)
               (answer_in (as_call calls.Recover State
               (went_on as_it_is run.given run.room

@@ -40,8 +40,8 @@ module _ {T : Type 0} where
   adds_in n e = n + change_in e
 
   effect_none : (turn : Turn T) (e : Event T) → IsEffectOf turn e → change_in e ≡ 0
-  effect_none turn (Finished p start answer) is_effect_of_holds = absurd is_effect_of_holds
-  effect_none turn e is_effect_of_holds = refl
+  effect_none turn (Finished p start answer) is_effect = absurd is_effect
+  effect_none turn e is_effect = refl
 
   -- effects of a turn add nothing to the count of the changes
   effects_count : (turn : Turn T) (es ys : List (Event T)) (n : ℕ) → AllByRecursion (IsEffectOf turn) es → fold adds_in n (es ++ ys) ≡ fold adds_in n ys
@@ -137,20 +137,21 @@ module _ {T : Type 0} (terms : Terms) (t : Trace T) (s : frame.Sound (family_by 
         raised (old_of s.state.words (ask_of (want t.world.coding flight))))
     by_step x since found start flight stands asks wrote = absurd stands.at
 
-    -- and so after any step
+    -- the number of changes counts the changes after any step
     next_counts : CountsChanges (after_turn t (Next p))
     next_counts =
         let flies = may_next t.world p free in
         let call = under_way fam t s p flies.flight flies.is in
-        let x = call.party in
+        let caller = call.party in
         let wrote : events_of t.world (Next p)
-        ≡ events_of_step p x.start
-        (step_in t.world p x flies.flight (old_of t.world.words (ask_of (want_of t.world.coding flies.flight)))) =
-        ap (events_of_next t.world p) call.found ∙ ap (λ d. events_of_answer t.world p x (old_of t.world.words (ask_of_doing t.world.coding d)) d) call.doing
+        ≡ events_of_step p caller.start
+        (step_in t.world p caller flies.flight (old_of t.world.words (ask_of (want_of t.world.coding flies.flight)))) =
+        ap (events_of_next t.world p) call.found
+        ∙ ap (λ d. events_of_answer t.world p caller (old_of t.world.words (ask_of_doing t.world.coding d)) d) call.doing
         in
-        by_step x call.since call.found x.start flies.flight call.there (ap (ask_of_flight t.world.coding) flies.is)
-        (subst (λ kept. Wrote p (Next p) (old_of s.state.words (ask_of (want_of t.world.coding flies.flight))) kept x.start flies.flight) same_kept
-        (subst (λ ws. Wrote p (Next p) (old_of ws (ask_of (want_of t.world.coding flies.flight))) t.world.kept x.start flies.flight) same_words wrote))
+        by_step caller call.since call.found caller.start flies.flight call.there (ap (ask_of_flight t.world.coding) flies.is)
+        (subst (λ kept. Wrote p (Next p) (old_of s.state.words (ask_of (want_of t.world.coding flies.flight))) kept caller.start flies.flight) same_kept
+        (subst (λ ws. Wrote p (Next p) (old_of ws (ask_of (want_of t.world.coding flies.flight))) t.world.kept caller.start flies.flight) same_words wrote))
 
   module _ (p : ℕ) (said : Bool) (free : IsAllowed t.world (Decide p said)) where
     -- so it is after a decision, of a call that stands there
@@ -164,17 +165,17 @@ module _ {T : Type 0} (terms : Terms) (t : Trace T) (s : frame.Sound (family_by 
         counted p (Decide p said) refl (number_of said) None refl start flight wrote (omega arith)
     by_decision x since found start flight stands due wrote = absurd stands.at
 
-    -- and so after any decision
+    -- the number of changes counts the changes after any decision
     decision_counts_on : CountsChanges (after_turn t (Decide p said))
     decision_counts_on =
         let flies = decides t.world p free in
         let call = under_way fam t s p flies.flight flies.is in
-        let x = call.party in
-        let wrote : events_of t.world (Decide p said) ≡ events_of_step p x.start (step_in t.world p x flies.flight (number_of said)) =
-        ap (events_of_decision t.world p said) call.found ∙ ap (events_of_answer t.world p x (number_of said)) call.doing
+        let caller = call.party in
+        let wrote : events_of t.world (Decide p said) ≡ events_of_step p caller.start (step_in t.world p caller flies.flight (number_of said)) =
+        ap (events_of_decision t.world p said) call.found ∙ ap (events_of_answer t.world p caller (number_of said)) call.doing
         in
-        by_decision x call.since call.found x.start flies.flight call.there flies.due
-        (subst (λ kept. Wrote p (Decide p said) (number_of said) kept x.start flies.flight) same_kept wrote)
+        by_decision caller call.since call.found caller.start flies.flight call.there flies.due
+        (subst (λ kept. Wrote p (Decide p said) (number_of said) kept caller.start flies.flight) same_kept wrote)
 
   pub turn_counts : (turn : Turn T) → IsAllowed t.world turn → CountsChanges (after_turn t turn)
   turn_counts (Begin p start) free = leaves (Begin p start) None refl 0 (omega arith) (fold-append adds_in 0 t.events _ ∙ (omega arith))
@@ -196,10 +197,10 @@ module _ {T : Type 0} where
   -- where owners die, turns are few, so changes are
   few_changes : (t : Trace T) (s : frame.Sound (family t.world.coding t.world.capacity) t) → CountsChanges t → t.world.turns < 2 ^ 64 - 2
       → changes_of t.events < 2 ^ 64 - 1
-  few_changes t s counts_changes_holds small =
+  few_changes t s counted small =
       let same = s.fit.words in
       let now : change_at t.world.capacity s.state.words ≡ changes_of t.events =
-      subst (λ ws. change_at t.world.capacity ws ≡ changes_of t.events) same counts_changes_holds in
+      subst (λ ws. change_at t.world.capacity ws ≡ changes_of t.events) same counted in
       let few = s.holds.elements.change refl in
       omega arith
 
@@ -211,10 +212,11 @@ module _ {T : Type 0} where
   turn_more u turn free has_counted = (
     reached_more u turn free has_counted.0,
     λ same.
-        let is = sym (turn_making u.world turn).kind ∙ same in
-        let s = reached_sound shown u is has_counted.0 in
+        let kind_before = sym (turn_making u.world turn).kind ∙ same in
+        let sound_there = reached_sound shown u kind_before has_counted.0 in
         let passed = passes u.world turn free in
-        turn_counts dying u s (few_changes u s (has_counted.1 is) passed.turns) (has_counted.1 is) turn (allowed_by u.world turn passed.on),
+        turn_counts dying u sound_there (few_changes u sound_there (has_counted.1 kind_before) passed.turns)
+        (has_counted.1 kind_before) turn (allowed_by u.world turn passed.on),
   )
 
   -- in every reached machine the number of changes counts the changes

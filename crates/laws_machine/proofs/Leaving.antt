@@ -37,15 +37,14 @@ module _ {T : Type 0} (terms : Terms) (t : Trace T) (s : frame.Sound (family_by 
         told terms w.coding w.coding w.capacity w.words (beside_of w.words w.kept w.latest p) s.state p
         call.party.start flight answer w.kept s.fit.kept call.there.at
 
-    -- after a step the party's call is what its table leaves of it, handed the old value of its
-    -- word
+    -- after a step the party's call is what its table leaves of it, handed the old value of its word
     pub next_leaves : flight_in (world_after w (Next p)) p
         ≡ left_by (goes_of w.coding p flight (old_of w.words (ask_of (want_of w.coding flight))) w.kept)
     next_leaves =
-        let x = call.party in
+        let caller = call.party in
         ap (λ o. flight_in (after_next w p o) p) call.found
-        ∙ (ap (λ d. flight_in (after_answer w p x (ask_of_doing w.coding d) (old_of w.words (ask_of_doing w.coding d)) d) p) call.doing
-        ∙ (stepped_left w p x call.since (ask_of (want_of w.coding flight)) (step_in w p x flight (old_of w.words (ask_of (want_of w.coding flight))))
+        ∙ (ap (λ d. flight_in (after_answer w p caller (ask_of_doing w.coding d) (old_of w.words (ask_of_doing w.coding d)) d) p) call.doing
+        ∙ (stepped_left w p caller call.since (ask_of (want_of w.coding flight)) (step_in w p caller flight (old_of w.words (ask_of (want_of w.coding flight))))
         ∙ ap left_by (goes_so (old_of w.words (ask_of (want_of w.coding flight))))))
 
   -- after a decision it is what its table leaves of it, handed the answer
@@ -53,7 +52,7 @@ module _ {T : Type 0} (terms : Terms) (t : Trace T) (s : frame.Sound (family_by 
       → IsUnderWay (family_by terms t.world.coding t.world.capacity) t s p flight
       → flight_in (world_after w (Decide p said)) p ≡ left_by (goes_of w.coding p flight (number_of said) w.kept)
   decision_leaves said flight call =
-      let x = call.party in
+      let caller = call.party in
       ap (λ o. flight_in (after_decision w p said o) p) call.found
-      ∙ (ap (λ d. flight_in (after_answer w p x None (number_of said) d) p) call.doing
-      ∙ (stepped_left w p x call.since None (step_in w p x flight (number_of said)) ∙ ap left_by (goes_so flight call (number_of said))))
+      ∙ (ap (λ d. flight_in (after_answer w p caller None (number_of said) d) p) call.doing
+      ∙ (stepped_left w p caller call.since None (step_in w p caller flight (number_of said)) ∙ ap left_by (goes_so flight call (number_of said))))

@@ -64,6 +64,7 @@ module _ (T : Type 0) where
 -- ---- a step of a call
 
 module _ {T : Type 0} (c p : ℕ) (events : List (Event T)) where
+  -- what a call writes that is handed this answer, with its end if it is done
   abbrev pub wrote_by : RobustStart → RobustFlight → ℕ → List (Event T)
   wrote_by start call answer =
       effects p call answer ++ ending_of p (Robust start) (answer_in (any_call (after {T = T} call answer)))
@@ -75,8 +76,7 @@ module _ {T : Type 0} (c p : ℕ) (events : List (Event T)) where
 
   -- a call of which nothing is to be known
   module _ (call : RobustFlight) (answer : ℕ) where
-    -- what its call then knows is all that is to be shown, where its end is right whatever stands
-    -- before it
+    -- what its call then knows is all that is to be shown, where its end is right whatever stands before it
     freely : (start : RobustStart)
         → FlightKnows c p (left_by (any_call (after {T = T} call answer))) (events ++ wrote_by start call answer)
         → ((a : Answer T) → IsFree (Finished p (Robust start) a)) → Leaves start call answer

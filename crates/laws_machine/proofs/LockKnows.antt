@@ -15,6 +15,7 @@ module _ {T : Type 0} where
   abbrev pub Settled : ReleaseMode → ℕ → List (Event T) → Type 0
   Settled mode p events = (owner : ℕ) → FilledBut ⊥ mode p owner NoIndex events
 
+  -- what a recovery knows at each stage of what was filled again after it freed
   abbrev pub StageKnows : ℕ → ReleaseMode → ℕ → RecoverStage → List (Event T) → Type 0
   StageKnows c mode p recovers.LoadsCounter events = Settled mode p events
   StageKnows c mode p (recovers.LoadsCell index) events = Settled mode p events

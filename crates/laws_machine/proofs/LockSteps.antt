@@ -51,8 +51,7 @@ module _ {T : Type 0} (scene : Scene T) (inv : Inv scene) (mode : ReleaseMode) (
   abbrev Leads : List (Event T) → After calls.Recover ReleaseState → Type 0
   Leads did a = Tells c mode p (events ++ did) a
 
-  -- where what it has freed is settled, the recovery comes as it should to a cell, or to the
-  -- second look at the counter
+  -- where what it has freed is settled, the recovery comes as it should to a cell, or to the second look at the counter
   comes_to : (stage : RecoverStage) (did : List (Event T)) (index : ℕ) → Settled mode p (events ++ did) → Leads did (recover_comes_to (call_at stage) index)
   comes_to stage did index settled = go (nat_lt index c)
     where
@@ -83,8 +82,7 @@ module _ {T : Type 0} (scene : Scene T) (inv : Inv scene) (mode : ReleaseMode) (
     abbrev locks_to : Option Ask → Bool → List (Event T) → After Lock ReleaseState → Type 0
     locks_to ask back did r = Leads did (recover_locked (call_at (recovers.Locks index lock)) index r)
 
-    -- what a lock says that it has found filled is so at its begin, and stays so at each cell,
-    -- empty or filled
+    -- what a lock says that it has found filled is so at its begin, and stays so at each cell, empty or filled
     said : IsSaid scene inv (FoundFilled p events)
     said =
         record {
@@ -120,11 +118,11 @@ module _ {T : Type 0} (scene : Scene T) (inv : Inv scene) (mode : ReleaseMode) (
 
   -- ---- the second look at the counter
 
-  -- whether the second look finds the counter locked or not, the recovery's end says what it
-  -- should
+  -- whether the second look finds the counter locked or not, the recovery's end says what it should
   again : Settled mode p events → (b : Bool) → (counter_of ws == locked) ≡ b → EndSays mode (if b then states.Locked else Unlocked) p (events ++ [])
   again settled b e = subst (EndSays mode (if b then states.Locked else Unlocked) p) (sym (append-nil events)) (go mode refl b e)
     where
+      -- the cases are whether the counter is locked
       go : (m : ReleaseMode) → mode ≡ m → (b : Bool) → (counter_of ws == locked) ≡ b → EndSays m (if b then states.Locked else Unlocked) p events
       go LockIfLastIndex is true t = tt
       go Default is true t = tt
@@ -163,6 +161,7 @@ module _ {T : Type 0} (scene : Scene T) (inv : Inv scene) (mode : ReleaseMode) (
       shut LockIfLastIndex = tt
       shut Default = tt
 
+      -- the cases are whether the counter is locked
       go : (b : Bool) → Leads [] (if b then Done states.Locked else recover_comes_to (call_at recovers.LoadsCounter) 0)
       go true = shut mode
       go false = comes_to recovers.LoadsCounter [] 0 (calm h)
@@ -170,6 +169,7 @@ module _ {T : Type 0} (scene : Scene T) (inv : Inv scene) (mode : ReleaseMode) (
       go (old_of ws (ask_of (recover_asks (recovers.LoadsCell index))))
       (old_of ws (ask_of (recover_asks (recovers.LoadsCell index))) == empty)
     where
+      -- the cases are whether the cell is empty
       go : (old : ℕ) (b : Bool)
           → Leads (if b then [] else Asked p index old ∷ [])
           (if b then recover_comes_to (call_at (recovers.LoadsCell index)) (index + 1) else GoOn
@@ -179,6 +179,7 @@ module _ {T : Type 0} (scene : Scene T) (inv : Inv scene) (mode : ReleaseMode) (
   steps (recovers.Asks index owner) at k h = decided index owner 0 h
   steps (recovers.EmptiesCell index owner) at k h = go (old_of ws (ask_of (recover_asks (recovers.EmptiesCell index owner))) == owner)
     where
+      -- the cases are whether the cell still has the owner
       go : (b : Bool) → Leads (if b then FreedOf p index owner ∷ [] else [])
           (if b then GoOn (record { capacity = c; stage = recovers.Raises index raises.LoadsCounter })
           else recover_comes_to (call_at (recovers.EmptiesCell index owner)) (index + 1))

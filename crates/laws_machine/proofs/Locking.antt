@@ -57,7 +57,7 @@ module _ {T : Type 0} (t : Trace T) (is : t.world.kind ≡ kinds.Robust) (r : Is
         → FlightKnows c q (flight_in (world_after t.world turn) q) (t.events ++ es)
     other_known = grind (arith, others_stay, flight_later)
 
-    -- where all of them are the party's own
+    -- all events are the party's own
     module _ (p : ℕ) (mine : (q : ℕ) → IsParty turn q → q ≡ p) (own : AreOwn p es)
         (here : FlightKnows c p (flight_in (world_after t.world turn) p) (t.events ++ es)) where
       known_by : (q : ℕ) → FlightKnows c q (flight_in (world_after t.world turn) q) (t.events ++ es)
@@ -69,7 +69,7 @@ module _ {T : Type 0} (t : Trace T) (is : t.world.kind ≡ kinds.Robust) (r : Is
   -- ---- a turn of a call under way
 
   module _ (turn : Turn T) (p : ℕ) (mine : (q : ℕ) → IsParty turn q → q ≡ p) (answer : ℕ) where
-    -- by the party's name and call
+    -- what the turn leaves the party's call, and what it writes, are as that call's step says
     abbrev Comes : Registry T → Start T → Flight T → Type 0
     Comes kept start flight =
         (flight_in (world_after t.world turn) p ≡ left_by (goes_of t.world.coding p flight answer kept))
@@ -110,27 +110,28 @@ module _ {T : Type 0} (t : Trace T) (is : t.world.kind ≡ kinds.Robust) (r : Is
         (step_leaves t is r p x since small found start call there.here there.at there.knows knows) comes)
     by_step x since found start flight stands knows comes = absurd stands.at
 
-    -- and so any step does
+    -- any step keeps what is known
     pub next_kept : Extra (after_turn t (Next p))
     next_kept =
         let allowed = passes t.world (Next p) free in
         let flies = may_next t.world p allowed.on in
         let call = under_way fam t s p flies.flight flies.is in
-        let x = call.party in
+        let caller = call.party in
         let goes = (robust_keeps.turn t (Next p) is free r).call in
         let left = next_left t.world (world_after t.world (Next p)) p flies.flight flies.is goes in
         let wrote : events_of t.world (Next p)
-        ≡ events_of_step p x.start
-        (step_in t.world p x flies.flight (old_of t.world.words (ask_of (want_of t.world.coding flies.flight)))) =
-        ap (events_of_next t.world p) call.found ∙ ap (λ d. events_of_answer t.world p x (old_of t.world.words (ask_of_doing t.world.coding d)) d) call.doing
+        ≡ events_of_step p caller.start
+        (step_in t.world p caller flies.flight (old_of t.world.words (ask_of (want_of t.world.coding flies.flight)))) =
+        ap (events_of_next t.world p) call.found
+        ∙ ap (λ d. events_of_answer t.world p caller (old_of t.world.words (ask_of_doing t.world.coding d)) d) call.doing
         in
         let by_words =
         subst (λ ws. Comes (Next p) p (λ q its. its) (old_of ws (ask_of (want_of t.world.coding flies.flight)))
-        t.world.kept x.start flies.flight)
+        t.world.kept caller.start flies.flight)
         same_words (left, wrote) in
-        by_step x call.since call.found x.start flies.flight call.there (subst (λ o. FlightKnows c p o t.events) flies.is (h.known p))
+        by_step caller call.since call.found caller.start flies.flight call.there (subst (λ o. FlightKnows c p o t.events) flies.is (h.known p))
         (subst (λ kept. Comes (Next p) p (λ q its. its)
-        (old_of s.state.words (ask_of (want_of t.world.coding flies.flight))) kept x.start flies.flight)
+        (old_of s.state.words (ask_of (want_of t.world.coding flies.flight))) kept caller.start flies.flight)
         same_kept by_words)
 
   module _ (p : ℕ) (said : Bool) (free : refusal_of t.world (Decide p said) ≡ None) where
@@ -149,23 +150,23 @@ module _ {T : Type 0} (t : Trace T) (is : t.world.kind ≡ kinds.Robust) (r : Is
         comes)
     by_decision x since found start flight stands due knows comes = absurd stands.at
 
-    -- and so any decision does
+    -- any decision keeps what is known
     pub decision_kept : Extra (after_turn t (Decide p said))
     decision_kept =
         let allowed = passes t.world (Decide p said) free in
         let flies = may_decide t.world p said allowed.on in
         let call = under_way fam t s p flies.flight flies.is in
-        let x = call.party in
+        let caller = call.party in
         let goes = (robust_keeps.turn t (Decide p said) is free r).call in
         let left = decision_left t.world (world_after t.world (Decide p said)) p flies.flight flies.is said goes in
-        let wrote : events_of t.world (Decide p said) ≡ events_of_step p x.start (step_in t.world p x flies.flight (number_of said)) =
-        ap (events_of_decision t.world p said) call.found ∙ ap (events_of_answer t.world p x (number_of said)) call.doing
+        let wrote : events_of t.world (Decide p said) ≡ events_of_step p caller.start (step_in t.world p caller flies.flight (number_of said)) =
+        ap (events_of_decision t.world p said) call.found ∙ ap (events_of_answer t.world p caller (number_of said)) call.doing
         in
         let due =
         subst (λ o. is_due t.world.coding o ≡ true) flies.is
         (frame.is_true (is_due t.world.coding (flight_in t.world p)) (must_be_due t.world p said allowed.on)) in
-        by_decision x call.since call.found x.start flies.flight call.there due (subst (λ o. FlightKnows c p o t.events) flies.is (h.known p))
-        (subst (λ kept. Comes (Decide p said) p (λ q its. its) (number_of said) kept x.start flies.flight) same_kept (left, wrote))
+        by_decision caller call.since call.found caller.start flies.flight call.there due (subst (λ o. FlightKnows c p o t.events) flies.is (h.known p))
+        (subst (λ kept. Comes (Decide p said) p (λ q its. its) (number_of said) kept caller.start flies.flight) same_kept (left, wrote))
 
   -- ---- a call begins, an owner dies
 

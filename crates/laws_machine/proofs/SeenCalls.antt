@@ -151,6 +151,7 @@ module _ {T : Type 0} (code : Coding T) (p : ℕ) (events : List (Event T)) (st 
   changes_now : changes_of (events ++ look_wrote) ≡ now.changes
   changes_now = sym (changes_are p (events ++ look_wrote)) ∙ ap (λ (s : Seen). s.changes) (seen_did code p events (Some st) turn mine look old)
 
+  -- a look that comes to this knows what it has seen, and what it writes meets the changes
   abbrev LooksSo : ContainerStart T → After (Look T) Bool → Type 0
   LooksSo start r =
       FlightSees (left_by (any_call (look_came which shown_then r)))
@@ -174,7 +175,7 @@ module _ {T : Type 0} (code : Coding T) (p : ℕ) (events : List (Event T)) (st 
   )
 
   sees_end : (e : Event T) (s' : Seen) (number : ℕ) → seen_after p now e ≡ s' → Within s' number → Within (seen_by p (events ++ (look_wrote ++ e ∷ []))) number
-  sees_end e s' number is within_holds = subst (λ s. Within s number) (sym (seen_last code p events (Some st) turn mine look old e ∙ is)) within_holds
+  sees_end e s' number is within = subst (λ s. Within s number) (sym (seen_last code p events (Some st) turn mine look old e ∙ is)) within
 
 module _ {T : Type 0} (code : Coding T) (p : ℕ) (events : List (Event T)) (st : ContainerState T) (turn : Turn T)
     (mine : IsParty turn p) (call : Look T) (old : ℕ) where
@@ -191,31 +192,31 @@ module _ {T : Type 0} (code : Coding T) (p : ℕ) (events : List (Event T)) (st 
   looks_so : (which : LookOf) (r : After (Look T) Bool) → Out seen_now after_it which r → So which r
   looks_so which (GoOn next) out = goes_on code p events st turn mine which call old (looks_as which) next out
   looks_so kinds.GetState (Done changed) out =
-      let e : Event T = Finished p (Container starts.GetState) (looked kinds.GetState after_it changed) in (
-        sees_end code p events st turn mine kinds.GetState call old e (up_to_date seen_now) _
+      let end_event : Event T = Finished p (Container starts.GetState) (looked kinds.GetState after_it changed) in (
+        sees_end code p events st turn mine kinds.GetState call old end_event (up_to_date seen_now) _
             (own_end code p events st turn mine kinds.GetState call old seen_now (up_to_date seen_now)) out,
-        with_end code p events st turn mine kinds.GetState call old e tt,
+        with_end code p events st turn mine kinds.GetState call old end_event tt,
       )
   looks_so kinds.UpdateState (Done true) out =
-      let e : Event T = Finished p (Container starts.UpdateState) (Truth true) in
+      let end_event : Event T = Finished p (Container starts.UpdateState) (Truth true) in
       let same = changes_now code p events st turn mine kinds.UpdateState call old in
       let less = out.0 in (
-        sees_end code p events st turn mine kinds.UpdateState call old e (up_to_date seen_now) _
+        sees_end code p events st turn mine kinds.UpdateState call old end_event (up_to_date seen_now) _
             (own_end code p events st turn mine kinds.UpdateState call old seen_now (up_to_date seen_now))
             out.1,
-        with_end code p events st turn mine kinds.UpdateState call old e
+        with_end code p events st turn mine kinds.UpdateState call old end_event
             (subst (λ (s : Seen). s.least
             < changes_of (events ++ look_wrote code p events st turn mine kinds.UpdateState call old))
             (sym (seen_did code p events (Some st) turn mine (calls.Look kinds.UpdateState call) old))
             (omega arith)),
       )
   looks_so kinds.UpdateState (Done false) out =
-      let e : Event T = Finished p (Container starts.UpdateState) (Truth false) in
+      let end_event : Event T = Finished p (Container starts.UpdateState) (Truth false) in
       let same = changes_now code p events st turn mine kinds.UpdateState call old in (
-        sees_end code p events st turn mine kinds.UpdateState call old e (record seen_now { changes = seen_now.changes + 0 }) _ refl
+        sees_end code p events st turn mine kinds.UpdateState call old end_event (record seen_now { changes = seen_now.changes + 0 }) _ refl
             (within_later seen_now (record seen_now { changes = seen_now.changes + 0 })
             (record { begun = refl; least = refl; most = refl; changes = omega arith }) _ out.1),
-        with_end code p events st turn mine kinds.UpdateState call old e
+        with_end code p events st turn mine kinds.UpdateState call old end_event
             (same ∙ (out.0 ∙ ap (λ (s : Seen). s.most)
             (sym (seen_did code p events (Some st) turn mine (calls.Look kinds.UpdateState call) old)))),
       )

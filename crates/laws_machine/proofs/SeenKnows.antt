@@ -20,7 +20,7 @@ pub record Within (s : Seen) (number : ℕ) : Type 0 where
   pub most : number ≤ s.most
   pub now : s.most ≤ s.changes
 
--- and one that the look under way has met
+-- a number of changes that the look under way has met
 abbrev pub Met : Seen → ℕ → Type 0
 Met s number = (s.begun ≤ number) × (number ≤ s.changes)
 
@@ -40,7 +40,7 @@ module _ {T : Type 0} where
   HasLoaded kinds.UpdateState s state =
       Within s (seen_number state) × Met s (found_number state) × (s.least < found_number state)
 
-  -- and one that is to load it
+  -- what a look knows that is to load the number of changes
   abbrev pub IsToLoad : LookOf → Seen → Option (ContainerState T) → Type 0
   IsToLoad kinds.GetState s state = (s.begun ≤ s.changes) × (seen_number state ≡ 0)
   IsToLoad kinds.UpdateState s state =
@@ -56,6 +56,7 @@ module _ {T : Type 0} where
   CallSees (calls.Look which call) s state = LookSees which call.stage s state
   CallSees flight s state = Within s (seen_number state)
 
+  -- a look under way knows what it has seen; other calls need not
   abbrev pub FlightSees : Option (Flight T) → Seen → Option (ContainerState T) → Type 0
   FlightSees (Some (flights.Container flight)) s state = CallSees flight s state
   FlightSees flight s state = Within s (seen_number state)
@@ -155,14 +156,14 @@ module _ {T : Type 0} where
 
   -- an effect leaves what a party has seen
   effect_same : (turn : Turn T) (p : ℕ) (s : Seen) (e : Event T) → IsEffectOf turn e → seen_after p s e ≡ s
-  effect_same turn p s (Begun q start) is_effect_of_holds = absurd is_effect_of_holds
-  effect_same turn p s (Finished q start answer) is_effect_of_holds = absurd is_effect_of_holds
-  effect_same turn p s e is_effect_of_holds = ap (λ n. record s { changes = n }) (no_more_changes s.changes)
+  effect_same turn p s (Begun q start) is_effect = absurd is_effect
+  effect_same turn p s (Finished q start answer) is_effect = absurd is_effect
+  effect_same turn p s e is_effect = ap (λ n. record s { changes = n }) (no_more_changes s.changes)
     where
       no_more_changes : (n : ℕ) → n + 0 ≡ n
       no_more_changes n = omega arith
 
-  -- and so do any number of effects
+  -- any number of effects leave what a party has seen
   pub effects_same : (turn : Turn T) (p : ℕ) (events es : List (Event T)) → AllByRecursion (IsEffectOf turn) es → seen_by p (events ++ es) ≡ seen_by p events
   effects_same turn p events es h = fold-append (seen_after p) (record { changes = 0; begun = 0; least = 0; most = 0 }) events es ∙ go es (seen_by p events) h
     where

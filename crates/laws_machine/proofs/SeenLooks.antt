@@ -25,8 +25,7 @@ module _ {T : Type 0} (value_of : List ℕ → T) (size : ℕ) (s : Seen) (call 
   done_out : (state : ContainerState T) (which : LookOf) → HasLoaded which s (Some state) → Out s state which (Done true)
   done_out = grind arith
 
-  -- a look that has loaded the number of changes comes out as it should at a next index, or at its
-  -- end
+  -- a look that has loaded the number of changes comes out as it should at a next index, or at its end
   comes_out : (state : ContainerState T) (which : LookOf) (index : ℕ) → HasLoaded which s (Some state) → Out s state which (look_comes_to call index)
   comes_out state which index has_loaded = go (nat_lt index call.capacity)
     where
@@ -78,6 +77,7 @@ module _ {T : Type 0} (value_of : List ℕ → T) (size : ℕ) (s : Seen) (call 
   step_out stages.LoadsChange state which old look_sees loads = change_out state old (loads refl) which look_sees
   step_out (stages.LoadsCount index) state which old look_sees loads = go (old == slice_index_or state.seen.counts index 0)
     where
+      -- the cases are whether the count is what the last look saw
       go : (b : Bool) → Out s (then_shows state (with_count state.shown index old)) which
           (if b then look_comes_to call (index + 1) else look_finds call index old)
       go true =
@@ -88,6 +88,7 @@ module _ {T : Type 0} (value_of : List ℕ → T) (size : ℕ) (s : Seen) (call 
           (still_loaded state which (with_count state.shown index old) refl look_sees)
   step_out (stages.LoadsWord index count at) state which old look_sees loads = go (nat_lt (at + 1) size)
     where
+      -- the cases are whether a further word of the value follows
       go : (b : Bool) → Out s (then_shows state (with_word state.shown at old)) which
           (if b then at_look call (stages.LoadsWord index count (at + 1)) else at_look call
           (stages.ChecksCount index count))
@@ -95,6 +96,7 @@ module _ {T : Type 0} (value_of : List ℕ → T) (size : ℕ) (s : Seen) (call 
       go false = still_loaded state which (with_word state.shown at old) refl look_sees
   step_out (stages.ChecksCount index count) state which old look_sees loads = go (old == count)
     where
+      -- the cases are whether the count is still what was read
       go : (b : Bool)
           → Out s (then_shows state (if b then with_value value_of size state.shown index count else with_count state.shown index old))
           which (if b then look_comes_to call (index + 1) else look_finds call index old)

@@ -71,7 +71,7 @@ module _ {T : Type 0} (terms : Terms) (t : Trace T) (s : frame.Sound (family_by 
         → Grows (seen_by q t.events) (seen_by q (t.events ++ es)) → SeesThen es q
     other_known = grind (arith, seen_by, state_in, others_stay, moves, sees_later)
 
-    -- where all events are the party's own
+    -- a turn whose events are all the party's own keeps what is known
     pub known_by : (p : ℕ) (es : List (Event T)) → ((q : ℕ) → IsParty turn q → q ≡ p)
         → ((q : ℕ) → q ≢ p → is_look_of t.world q turn ≡ false) → AreOwn p es → SeesThen es p → (q : ℕ) → SeesThen es q
     known_by p es mine still own here q =
@@ -102,16 +102,16 @@ module _ {T : Type 0} (terms : Terms) (t : Trace T) (s : frame.Sound (family_by 
 
       -- an effect of the turn is of its party
       effect_own : (e : Event T) → IsEffectOf turn e → whose e ≡ Some p
-      effect_own (Begun q start) is_effect_of_holds = absurd is_effect_of_holds
-      effect_own (Finished q start answer) is_effect_of_holds = absurd is_effect_of_holds
-      effect_own (Acted q start answer) is_effect_of_holds = absurd is_effect_of_holds
-      effect_own (Died o) is_effect_of_holds = absurd is_effect_of_holds
-      effect_own e is_effect_of_holds = by_whose (whose e) is_effect_of_holds refl
+      effect_own (Begun q start) is_effect = absurd is_effect
+      effect_own (Finished q start answer) is_effect = absurd is_effect
+      effect_own (Acted q start answer) is_effect = absurd is_effect
+      effect_own (Died o) is_effect = absurd is_effect
+      effect_own e is_effect = by_whose (whose e) is_effect refl
 
   module _ (turn : Turn T) (free : IsAllowed t.world turn) (p : ℕ) (its : IsParty turn p)
       (mine : (q : ℕ) → IsParty turn q → q ≡ p) (still : (q : ℕ) → q ≢ p → is_look_of t.world q turn ≡ false)
       (answer : ℕ) where
-    -- by the party's name and call
+    -- what the turn leaves the party's call, and what it writes, are as that call's step says
     abbrev Comes : Registry T → Start T → Flight T → Type 0
     Comes kept start flight =
         (flight_in (world_after t.world turn) p ≡ left_by (goes_of t.world.coding p flight answer kept))
@@ -124,8 +124,7 @@ module _ {T : Type 0} (terms : Terms) (t : Trace T) (s : frame.Sound (family_by 
     abbrev state : Option (ContainerState T)
     state = state_of p s.state.states
 
-    -- where the call leaves this and the party's state is the one then kept, the turn keeps what
-    -- is known
+    -- where the call leaves this and the party's state is the one then kept, the turn keeps what is known
     leaves_it : (start : ContainerStart T) (flight : ContainerFlight T) (new : Option (ContainerState T))
         → Leaves t.world.coding p t.events state turn its new start flight answer
         → state_in (world_after t.world turn).kept p ≡ new
@@ -177,7 +176,7 @@ module _ {T : Type 0} (terms : Terms) (t : Trace T) (s : frame.Sound (family_by 
       writes_so None found = found
       writes_so (Some st) found = written_same p _ st s.state.states found
 
-      -- so does a look
+      -- a look keeps what is known
       look_call : (start : ContainerStart T) → start ≡ looks_as which
           → LookSees which call.stage (seen_by p t.events) state
           → (call.stage ≡ stages.LoadsChange → answer ≡ (seen_by p t.events).changes)
@@ -217,7 +216,7 @@ module _ {T : Type 0} (terms : Terms) (t : Trace T) (s : frame.Sound (family_by 
         → old_of s.state.words (ask_of (want t.world.coding (calls.Look which call))) ≡ (seen_by p t.events).changes
     loads_changes = grind (arith, same_words, counts, changes_are)
 
-    -- so does a step of a call that is no look
+    -- a step of a call that is no look keeps what is known
     step_other : (start : ContainerStart T) (flight : ContainerFlight T) (all : List SetAct) (done : List (Act T))
         → At t.world.capacity t.world.coding.size all done start flight
         → flight_in t.world p ≡ Some (flights.Container flight)
@@ -228,7 +227,7 @@ module _ {T : Type 0} (terms : Terms) (t : Trace T) (s : frame.Sound (family_by 
         ∙ (ap (λ b. (p == p) && b) (not_looking start flight all done at other) ∙ ap (λ a. a && false) (eq-eqb p p refl)))
         (rests_within start flight all done (seen_by p t.events) (state_of p s.state.states) at other sees) comes
 
-    -- and a step of any call of the container
+    -- a step of any call of the container keeps what is known
     step_by : (start : ContainerStart T) (flight : ContainerFlight T) (all : List SetAct) (done : List (Act T))
         → At t.world.capacity t.world.coding.size all done start flight
         → flight_in t.world p ≡ Some (flights.Container flight)
@@ -255,7 +254,7 @@ module _ {T : Type 0} (terms : Terms) (t : Trace T) (s : frame.Sound (family_by 
     step_by starts.IsEmpty flight all done at flies sees comes = step_other starts.IsEmpty flight all done at flies tt sees comes
     step_by starts.IsLocked flight all done at flies sees comes = step_other starts.IsLocked flight all done at flies tt sees comes
 
-    -- and a step of any call that stands there
+    -- a step of any call that stands there keeps what is known
     by_step : (x : Party T) (since : ℕ) → party_of p t.world.latest ≡ Some x → (start : Start T) (flight : Flight T)
         → StandsThere fam t s p x since start flight → flight_in t.world p ≡ Some flight
         → Comes (Next p) free p refl (λ q its. its) on_next
@@ -263,31 +262,32 @@ module _ {T : Type 0} (terms : Terms) (t : Trace T) (s : frame.Sound (family_by 
         → Extra (after_turn t (Next p))
     by_step = grind (arith, is_there, shown, step_by, seen_by, state_in, same_kept)
 
-    -- so what is known is kept by any step
+    -- any step keeps what is known
     pub next_kept : Extra (after_turn t (Next p))
     next_kept =
         let flies = may_next t.world p free in
         let call = under_way fam t s p flies.flight flies.is in
-        let x = call.party in
+        let caller = call.party in
         let left = next_leaves terms t s p flies.flight call in
         let wrote : events_of t.world (Next p)
-        ≡ events_of_step p x.start
-        (step_in t.world p x flies.flight (old_of t.world.words (ask_of (want_of t.world.coding flies.flight)))) =
-        ap (events_of_next t.world p) call.found ∙ ap (λ d. events_of_answer t.world p x (old_of t.world.words (ask_of_doing t.world.coding d)) d) call.doing
+        ≡ events_of_step p caller.start
+        (step_in t.world p caller flies.flight (old_of t.world.words (ask_of (want_of t.world.coding flies.flight)))) =
+        ap (events_of_next t.world p) call.found
+        ∙ ap (λ d. events_of_answer t.world p caller (old_of t.world.words (ask_of_doing t.world.coding d)) d) call.doing
         in
         let kept : (world_after t.world (Next p)).kept
-        ≡ (step_in t.world p x flies.flight (old_of t.world.words (ask_of (want_of t.world.coding flies.flight)))).kept =
+        ≡ (step_in t.world p caller flies.flight (old_of t.world.words (ask_of (want_of t.world.coding flies.flight)))).kept =
         ap (λ o. (after_next t.world p o).kept) call.found
         ∙ ap
-        (λ d. (after_answer t.world p x (ask_of_doing t.world.coding d) (old_of t.world.words (ask_of_doing t.world.coding d)) d).kept)
+        (λ d. (after_answer t.world p caller (ask_of_doing t.world.coding d) (old_of t.world.words (ask_of_doing t.world.coding d)) d).kept)
         call.doing
         in
-        by_step x call.since call.found x.start flies.flight call.there flies.is
+        by_step caller call.since call.found caller.start flies.flight call.there flies.is
         (subst (λ k. Comes (Next p) free p refl (λ q its. its) on_next
-        (old_of s.state.words (ask_of (want_of t.world.coding flies.flight))) k x.start flies.flight)
+        (old_of s.state.words (ask_of (want_of t.world.coding flies.flight))) k caller.start flies.flight)
         same_kept
         (subst (λ ws. Comes (Next p) free p refl (λ q its. its) on_next
-        (old_of ws (ask_of (want_of t.world.coding flies.flight))) t.world.kept x.start flies.flight)
+        (old_of ws (ask_of (want_of t.world.coding flies.flight))) t.world.kept caller.start flies.flight)
         same_words (left, wrote, kept)))
 
   -- ---- a decision
@@ -296,7 +296,7 @@ module _ {T : Type 0} (terms : Terms) (t : Trace T) (s : frame.Sound (family_by 
     abbrev DecisionComes : Registry T → Start T → Flight T → Type 0
     DecisionComes kept start flight = Comes (Decide p said) free p refl (λ q its. its) (λ q ne. refl) (number_of said) kept start flight
 
-    -- so does a decision of a call that is no look
+    -- a decision of a call that is no look keeps what is known
     decided_other : (start : ContainerStart T) (flight : ContainerFlight T) (all : List SetAct) (done : List (Act T))
         → At t.world.capacity t.world.coding.size all done start flight → IsNoLook start
         → CallSees flight (seen_by p t.events) (state_of p s.state.states)
@@ -322,18 +322,18 @@ module _ {T : Type 0} (terms : Terms) (t : Trace T) (s : frame.Sound (family_by 
         → DecisionComes now_kept start flight → Extra (after_turn t (Decide p said))
     by_decision = grind (arith, is_there, shown, decided_by, seen_by, state_in, same_kept)
 
-    -- so what is known is kept by any decision
+    -- any decision keeps what is known
     pub decision_kept : Extra (after_turn t (Decide p said))
     decision_kept =
         let flies = decides t.world p free in
         let call = under_way fam t s p flies.flight flies.is in
-        let x = call.party in
+        let caller = call.party in
         let left = decision_leaves terms t s p said flies.flight call in
-        let wrote : events_of t.world (Decide p said) ≡ events_of_step p x.start (step_in t.world p x flies.flight (number_of said)) =
-        ap (events_of_decision t.world p said) call.found ∙ ap (events_of_answer t.world p x (number_of said)) call.doing
+        let wrote : events_of t.world (Decide p said) ≡ events_of_step p caller.start (step_in t.world p caller flies.flight (number_of said)) =
+        ap (events_of_decision t.world p said) call.found ∙ ap (events_of_answer t.world p caller (number_of said)) call.doing
         in
-        let kept : (world_after t.world (Decide p said)).kept ≡ (step_in t.world p x flies.flight (number_of said)).kept =
-        ap (λ o. (after_decision t.world p said o).kept) call.found ∙ ap (λ d. (after_answer t.world p x None (number_of said) d).kept) call.doing
+        let kept : (world_after t.world (Decide p said)).kept ≡ (step_in t.world p caller flies.flight (number_of said)).kept =
+        ap (λ o. (after_decision t.world p said o).kept) call.found ∙ ap (λ d. (after_answer t.world p caller None (number_of said) d).kept) call.doing
         in
-        by_decision x call.since call.found x.start flies.flight call.there flies.is flies.due
-        (subst (λ k. DecisionComes k x.start flies.flight) same_kept (left, wrote, kept))
+        by_decision caller call.since call.found caller.start flies.flight call.there flies.is flies.due
+        (subst (λ k. DecisionComes k caller.start flies.flight) same_kept (left, wrote, kept))

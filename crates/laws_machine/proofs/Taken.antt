@@ -16,8 +16,8 @@ module _ {T : Type 0} where
     pub due : is_question (want_of w.coding flight) ≡ true
 
   due_is : (w : World T) (o : Option (Flight T)) → is_due w.coding o ≡ true → (flight : Flight T) × (o ≡ Some flight)
-  due_is w None is_due_true = absurd (cc)
-  due_is w (Some flight) is_due_true = (flight, refl)
+  due_is w None due = absurd (cc)
+  due_is w (Some flight) due = (flight, refl)
 
   pub decides : (w : World T) (p : ℕ) → is_due w.coding (flight_in w p) ≡ true → IsAsking w p
   decides w p due =

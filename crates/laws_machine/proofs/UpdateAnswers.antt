@@ -46,7 +46,7 @@ module _ {T : Type 0} (terms : Terms) (t : Trace T) (s : frame.Sound (family_by 
     abbrev SeesFirst : ContainerStart T → Option (ContainerState T) → Type 0
     SeesFirst cs state = CallSees (first t.world.capacity cs) (seen_after p seen_now (Begun p (Container cs))) state
 
-    -- its look has begun now
+    -- the party's look has begun at the changes of now
     begun_now : (if p == p then record seen_now { begun = seen_now.changes } else seen_now) ≡ record seen_now { begun = seen_now.changes }
     begun_now = grind (arith, eq-eqb)
 
@@ -61,7 +61,7 @@ module _ {T : Type 0} (terms : Terms) (t : Trace T) (s : frame.Sound (family_by 
     first_sees : (cs : ContainerStart T) → SeesFirst cs (state_of p (states_at_begin t.world.coding t.world.capacity cs p states))
     first_sees = grind (arith, found_put_same, fresh, begun_now, update_first, grown)
 
-    -- by the call that begins
+    -- a call that begins has seen what is so now
     begun_sees : (a : Start T) (flight : Flight T) → IsOwn t.world.capacity a flight
         → FlightSees (Some flight) (seen_by p (t.events ++ Begun p a ∷ []))
         (state_in (kept_after_begin t.world.coding t.world.capacity a p (now_kept terms t s may counts h)) p)
@@ -122,9 +122,9 @@ module _ {T : Type 0} where
         reached_more u turn free h.0,
         λ same.
             let is = sym (turn_making u.world turn).kind ∙ same in
-            let s = reached_sound shown u is h.0 in
+            let sound_there = reached_sound shown u is h.0 in
             let passed = passes u.world turn free in
-            turn_kept dying u s (may_go_on dying u.world.coding u.world.capacity u s passed.turns) (counts_changes u is h.0) (h.1 is) turn
+            turn_kept dying u sound_there (may_go_on dying u.world.coding u.world.capacity u sound_there passed.turns) (counts_changes u is h.0) (h.1 is) turn
             (taken_by u.world turn passed.on),
       ))
       t

@@ -47,7 +47,7 @@ module _ {T : Type 0} (t : Trace T) (is : t.world.kind ≡ kinds.Container) (r :
   pub waits : WaitsForAnswers t
   waits p = by_flight p (flight_in t.world p) refl
 
--- and after a decision it asks about none
+-- after a decision a call asks about no value
 module _ {T : Type 0} (t : Trace T) (is : t.world.kind ≡ kinds.Container) (r : IsReached t) where
   -- so after a turn that decides for a party, that party waits for no answer
   pub answered : (turn : Turn T) → refusal_of t.world turn ≡ None → IsAnswered turn (after_turn t turn)

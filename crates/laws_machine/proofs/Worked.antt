@@ -101,8 +101,8 @@ none_filled : (other : ℕ) → IsFilled other last_freed → ⊥
 none_filled other filled = go (0 == other) filled
   where
     go : (b : Bool) → is_some {T = ℕ} (if b then None else (if b then Some 1 else None)) ≡ true → ⊥
-    go true is_some_true = cc
-    go false is_some_true = cc
+    go true is_there = cc
+    go false is_there = cc
 
 -- and none is filled in a part of the events in which the index was freed
 none_since : (other : ℕ) (part rest : List (Event ℕ)) → last_freed ≡ part ++ rest → IsOneOf (Frees 0 1) (set_acts_of 1 part) → IsFilled other part → ⊥

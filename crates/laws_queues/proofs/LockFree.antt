@@ -92,6 +92,7 @@ over_pays (overflow_pushes.LoadsCell read) = 0
 over_pays stage = 2
 
 module _ {T : Type 0} where
+  -- the steps that a call has left at its stage, if nobody moves a position
   abbrev call_left : ℕ → ℕ → ℕ → QueueFlight T → ℕ
   call_left size write read (Role call) = 0
   call_left size write read (Indices (rings.Push run)) = push_left 1 run.call.stage
@@ -141,6 +142,7 @@ abbrev IsPush : {V : Type 0} → ℕ → ℕ → Push V → Type 0
 IsPush size c call = (call.capacity ≡ c) × PushStands size c call.stage
 
 module _ {T : Type 0} where
+  -- the call is one of the kind, and a push stands within its queue
   abbrev CallStands : ℕ → QueueKind → ℕ → QueueFlight T → Type 0
   CallStands size kd c (Role call) = Unit {0}
   CallStands size kd c (Length which run) = Unit {0}
@@ -161,6 +163,7 @@ module _ {T : Type 0} where
   Kept (registries.Queues roles) = Unit {0}
   Kept kept = ⊥
 
+  -- what the proof that queues are lock-free needs of a kind: where its calls stand, and the measure
   abbrev outline : QueueKind → Outline T
   outline kd =
       record {
@@ -172,7 +175,7 @@ module _ {T : Type 0} where
         measure = λ code c. measure code.size (alone_of code.size kd) (changes_of kd);
       }
 
--- ---- each step falls
+-- ---- the measure falls with each step
 
 module _ {T : Type 0} (alone changes : ℕ) (code : Coding T) (words : List ℕ) where
   abbrev M : WordMeasure T
@@ -204,7 +207,7 @@ module _ {T : Type 0} (alone changes : ℕ) (code : Coding T) (words : List ℕ)
   abbrev measuring : LengthOf → Running Len (Unit {0}) (Unit {0}) → LenStage → QueueFlight T
   measuring which run stage = Length which (record run { call = record run.call { stage = stage } })
 
-  -- each step of a call that tells a length falls in the measure
+  -- the measure falls with each step of a call that tells a length
   len_falls : (which : LengthOf) (run : Running Len (Unit {0}) (Unit {0})) (stage : LenStage) → Shown (measuring which run stage)
   len_falls which run lens.LoadsWrite = let self = same_is write in inl (load_leaves words 0, rw self (omega arith), omega arith)
   len_falls which run (lens.LoadsRead w) = go (write == w) refl
@@ -228,7 +231,7 @@ module _ {T : Type 0} (alone changes : ℕ) (code : Coding T) (words : List ℕ)
   abbrev over_popping : Running overflow_pop.Pop (Unit {0}) OneWord → PopStage → QueueFlight T
   over_popping run stage = Overflow (overflows.Pop (record run { call = record run.call { stage = stage } }))
 
-  -- each step of a pop of the overflowing queue falls
+  -- the measure falls with each step of a pop of the overflowing queue
   over_pop_falls : (run : Running overflow_pop.Pop (Unit {0}) OneWord) (stage : PopStage) → Shown (over_popping run stage)
   over_pop_falls run overflow_pops.FindsNone = tt
   over_pop_falls run overflow_pops.LoadsRead = let self = same_is read in inl (load_leaves words 1, rw self (omega arith), omega arith)
@@ -252,7 +255,7 @@ module _ {T : Type 0} (alone changes : ℕ) (code : Coding T) (words : List ℕ)
   abbrev over_pushing : Running overflow_push.Push ℕ OneWord → PushStage → QueueFlight T
   over_pushing run stage = Overflow (overflows.Push (record run { call = record run.call { stage = stage } }))
 
-  -- each step of a push of the overflowing queue falls
+  -- the measure falls with each step of a push of the overflowing queue
   over_push_falls : (run : Running overflow_push.Push ℕ OneWord) (stage : PushStage) → Shown (over_pushing run stage)
   over_push_falls run overflow_pushes.HandsBack = tt
   over_push_falls run overflow_pushes.LoadsWrite = go (write == 2 ^ 64 - 1) refl
@@ -279,7 +282,7 @@ module _ {T : Type 0} (alone changes : ℕ) (code : Coding T) (words : List ℕ)
   abbrev pushing : Running (Push ℕ) ℕ (Unit {0}) → pushes.PushStage → QueueFlight T
   pushing run stage = Indices (rings.Push (record run { call = record run.call { stage = stage } }))
 
-  -- each step of a push of the index queue falls, where the push stands among its cells
+  -- the measure falls with each step of a push of the index queue, where the push stands among its cells
   push_falls : (run : Running (Push ℕ) ℕ (Unit {0})) (c : ℕ) (stage : pushes.PushStage) → c < 2 ^ 32 → PushStands 1 c stage → Shown (pushing run stage)
   push_falls run c pushes.TheVariants.LoadsWrite fits at = go (write == 2 ^ 64 - 1) refl
     where
@@ -304,7 +307,7 @@ module _ {T : Type 0} (alone changes : ℕ) (code : Coding T) (words : List ℕ)
   abbrev popping : Running (Pop ℕ OneWord) (Unit {0}) OneWord → pops.PopStage → QueueFlight T
   popping run stage = Indices (rings.Pop (record run { call = record run.call { stage = stage } }))
 
-  -- each step of a pop of the index queue falls
+  -- the measure falls with each step of a pop of the index queue
   pop_falls : (run : Running (Pop ℕ OneWord) (Unit {0}) OneWord) (stage : pops.PopStage) → Shown (popping run stage)
   pop_falls run pops.TheVariants.LoadsRead = inl (load_leaves words 1, omega arith, omega arith)
   pop_falls run (pops.TheVariants.LoadsWrite r) = go (run.call.capacity == 0 || write == r) refl
@@ -322,7 +325,7 @@ module _ {T : Type 0} (alone changes : ℕ) (code : Coding T) (words : List ℕ)
   abbrev peeking : Running (Peek ℕ OneWord) (Unit {0}) OneWord → PeekStage → QueueFlight T
   peeking run stage = Indices (rings.Peek (record run { call = record run.call { stage = stage } }))
 
-  -- each step of a peek of the index queue falls
+  -- the measure falls with each step of a peek of the index queue
   peek_falls : (run : Running (Peek ℕ OneWord) (Unit {0}) OneWord) (stage : PeekStage) → Shown (peeking run stage)
   peek_falls run peeks.LoadsRead = inl (load_leaves words 1, omega arith, omega arith)
   peek_falls run (peeks.LoadsWrite r) = go (run.call.capacity == 0 || write == r) refl
@@ -340,7 +343,7 @@ module _ {T : Type 0} (alone changes : ℕ) (code : Coding T) (words : List ℕ)
   abbrev value_pushing : Running (Push T) T (Unit {0}) → pushes.PushStage → QueueFlight T
   value_pushing run stage = Values (rings.Push (record run { call = record run.call { stage = stage } }))
 
-  -- each step of a push of the queue of values falls, where the push stands among its cells
+  -- the measure falls with each step of a push of the queue of values, where the push stands among its cells
   value_push_falls : (run : Running (Push T) T (Unit {0})) (c : ℕ) (stage : pushes.PushStage) → code.size ≤ 128 → c < 2 ^ 32
       → PushStands code.size c stage → Shown (value_pushing run stage)
   value_push_falls run c pushes.TheVariants.LoadsWrite few fits at = go (write == 2 ^ 64 - 1) refl
@@ -368,7 +371,7 @@ module _ {T : Type 0} (alone changes : ℕ) (code : Coding T) (words : List ℕ)
   abbrev value_popping : Running (Pop T (buffers.Buffer 128)) (Unit {0}) (buffers.Buffer 128) → pops.PopStage → QueueFlight T
   value_popping run stage = Values (rings.Pop (record run { call = record run.call { stage = stage } }))
 
-  -- each step of a pop of the queue of values falls
+  -- the measure falls with each step of a pop of the queue of values
   value_pop_falls : (run : Running (Pop T (buffers.Buffer 128)) (Unit {0}) (buffers.Buffer 128)) (stage : pops.PopStage) → Shown (value_popping run stage)
   value_pop_falls run pops.TheVariants.LoadsRead = inl (load_leaves words 1, omega arith, omega arith)
   value_pop_falls run (pops.TheVariants.LoadsWrite r) = go (run.call.capacity == 0 || write == r) refl
@@ -386,7 +389,7 @@ module _ {T : Type 0} (alone changes : ℕ) (code : Coding T) (words : List ℕ)
   abbrev value_peeking : Running (Peek T (buffers.Buffer 128)) (Unit {0}) (buffers.Buffer 128) → PeekStage → QueueFlight T
   value_peeking run stage = Values (rings.Peek (record run { call = record run.call { stage = stage } }))
 
-  -- each step of a peek of the queue of values falls
+  -- the measure falls with each step of a peek of the queue of values
   value_peek_falls : (run : Running (Peek T (buffers.Buffer 128)) (Unit {0}) (buffers.Buffer 128)) (stage : PeekStage) → Shown (value_peeking run stage)
   value_peek_falls run peeks.LoadsRead = inl (load_leaves words 1, omega arith, omega arith)
   value_peek_falls run (peeks.LoadsWrite r) = go (run.call.capacity == 0 || write == r) refl
@@ -400,7 +403,7 @@ module _ {T : Type 0} (alone changes : ℕ) (code : Coding T) (words : List ℕ)
       go true t = let less : at + 1 < code.size = grind (arith, nat_tests) in rw t (inl (load_leaves words (word_at cell at), omega arith, omega arith))
       go false t = rw t tt
 
-  -- each step of a call that stands where its kind allows falls
+  -- the measure falls with each step of a call that stands where its kind allows
   call_falls : (kd : QueueKind) (c : ℕ) → code.size ≤ 128 → c < 2 ^ 32 → (flight : QueueFlight T) → CallStands code.size kd c flight → Shown flight
   call_falls kd c few fits (Role (Acquire run)) at = tt
   call_falls kd c few fits (Role (Release run)) at = tt
@@ -409,8 +412,7 @@ module _ {T : Type 0} (alone changes : ℕ) (code : Coding T) (words : List ℕ)
   call_falls queue_kinds.IndexQueue c few fits (Indices (rings.Push run)) at = push_falls run c run.call.stage fits at.1
   call_falls queue_kinds.IndexQueue c few fits (Indices (rings.Pop run)) at = pop_falls run run.call.stage
   call_falls queue_kinds.IndexQueue c few fits (Indices (rings.Peek run)) at = peek_falls run run.call.stage
-  call_falls queue_kinds.Queue c few fits (Values (rings.Push run)) at =
-      value_push_falls run c run.call.stage few fits at.1
+  call_falls queue_kinds.Queue c few fits (Values (rings.Push run)) at = value_push_falls run c run.call.stage few fits at.1
   call_falls queue_kinds.Queue c few fits (Values (rings.Pop run)) at = value_pop_falls run run.call.stage
   call_falls queue_kinds.Queue c few fits (Values (rings.Peek run)) at = value_peek_falls run run.call.stage
   call_falls queue_kinds.Overflow c few fits (Overflow (overflows.Push run)) at = over_push_falls run run.call.stage

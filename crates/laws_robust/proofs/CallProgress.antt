@@ -126,8 +126,7 @@ number_of c (IsLocked run) backs = 0
 
 -- ---- where they stand, and what they have done
 
--- an acquire at its stage: it has filled its index once it raises the counter, and nothing
--- before
+-- an acquire at its stage: it has filled its index once it raises the counter, and nothing before
 abbrev pub AcquireAt : ℕ → ℕ → List SetAct → AcquireStage → Type 0
 AcquireAt c owner all acquires.LoadsCounter = all ≡ []
 AcquireAt c owner all (acquires.FillsCell counter index) = (index < c) × (all ≡ [])
@@ -151,6 +150,7 @@ ReleaseAt c index owner mode all (releases.Raises raise) = all ≡ Frees index o
 ReleaseAt c index owner mode all (releases.Locks lock) =
     (mode ≡ LockIfLastIndex) × LockAt c lock × (all ≡ Frees index owner ∷ [])
 
+-- a find stands at an index within the capacity, and has taken and freed nothing
 abbrev pub FindAt : ℕ → List SetAct → FindStage → Type 0
 FindAt c all (finds.LoadsCell index found) = (index < c) × (all ≡ [])
 FindAt c all (finds.Asks index found) = (index < c) × (all ≡ [])

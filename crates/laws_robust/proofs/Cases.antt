@@ -5,7 +5,7 @@ pub by_bool : {A : Type 0} → (b : Bool) → (b ≡ true → A) → (b ≡ fals
 by_bool true t f = t refl
 by_bool false t f = f refl
 
--- where the goal speaks of the test
+-- a goal that speaks of a test is shown in its two cases
 pub on_bool : (P : Bool → Type 0) (b : Bool) → (b ≡ true → P true) → (b ≡ false → P false) → P b
 on_bool P true t f = t refl
 on_bool P false t f = f refl

@@ -230,6 +230,7 @@ module _ (words : List ℕ) where
     robust_leaves (Release run) = release_leaves words some run.call.stage run.given
     robust_leaves (Find run) = find_leaves run.call.stage
       where
+        -- no stage of a find changes the counter
         find_leaves : (stage : FindStage) → counter_of (words_after words (ask_of (find_asks stage))) ≡ counter_of words
         find_leaves (finds.LoadsCell index found) = other_then words some (cell_word index) Load (omega arith)
         find_leaves (finds.Asks index found) = refl

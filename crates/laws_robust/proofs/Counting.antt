@@ -46,11 +46,11 @@ module _ {T : Type 0} (p : ℕ) (P : ℕ → List (Event T) → Type 0) where
 
   -- a count within its bound
   pub count_within : (k number : ℕ) (events : List (Event T)) → IsCount p P k number events → number ≤ k
-  count_within k number events count = let most = count_most count.chosen k in let is = count.is in omega arith
+  count_within k number events count = omega (arith, count_most count.chosen k, count.is)
 
   -- the count has come to `k` indices
   module _ (k number : ℕ) (events : List (Event T)) (h : IsCount p P k number events) where
-    -- at a later moment of the call
+    -- the count has come to `k` indices still at a later moment of the call
     pub count_later : (es : List (Event T)) → BeginsNone p es → IsCount p P k number (events ++ es)
     count_later es none =
         record {
@@ -63,15 +63,15 @@ module _ {T : Type 0} (p : ℕ) (P : ℕ → List (Event T) → Type 0) where
     module _ (b : Bool) (new : ℕ) (adds : new ≡ (if b then 1 else 0) + number) (once : b ≡ true → P k events) (not : b ≡ false → P k events → ⊥) where
       -- each index that is counted had what is asked of it at some time of the call
       pub still_once : (i : ℕ) → i < k + 1 → chosen_with h.chosen k b i ≡ true → HeldSometime p (P i) events
-      still_once i below chosen_with_true = ⊎_elim here there (cases_eq i k)
+      still_once i below chosen_here = ⊎_elim here there (cases_eq i k)
         where
           here : i ≡ k → HeldSometime p (P i) events
           here same =
-              let chose : b ≡ true = sym (with_here h.chosen k b) ∙ (ap (chosen_with h.chosen k b) (sym same) ∙ chosen_with_true) in
+              let chose : b ≡ true = sym (with_here h.chosen k b) ∙ (ap (chosen_with h.chosen k b) (sym same) ∙ chosen_here) in
               subst (λ j. HeldSometime p (P j) events) (sym same) (held_now p (P k) events (once chose))
 
           there : i ≢ k → HeldSometime p (P i) events
-          there ne = h.once i (omega arith) (sym (with_there h.chosen k b i ne) ∙ chosen_with_true)
+          there ne = h.once i (omega arith) (sym (with_there h.chosen k b i ne) ∙ chosen_here)
 
       chosen_now : (z : Bool) → b ≡ z → HeldThroughout p (P k) events → z ≡ true
       chosen_now true e held_throughout = refl
@@ -80,8 +80,7 @@ module _ {T : Type 0} (p : ℕ) (P : ℕ → List (Event T) → Type 0) where
       pub still_through : (i : ℕ) → i < k + 1 → HeldThroughout p (P i) events → chosen_with h.chosen k b i ≡ true
       still_through i below held_throughout = let by_chosen_now = chosen_now in grind arith
 
-      -- a count with one index more, which has what is asked and is counted, or has not and is
-      -- not
+      -- a count with one index more, which has what is asked and is counted, or has not and is not
       pub count_next : IsCount p P (k + 1) new events
       count_next =
           let next : suc k ≡ k + 1 = omega arith in

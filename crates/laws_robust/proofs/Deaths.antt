@@ -60,12 +60,11 @@ module _ {T : Type 0} (by : GoneBy) (c : ℕ) (words dead : List ℕ) (events : 
         does = Each-append (SetDoes c) events es g.does (alive, tt);
         answers = Each-append (AnswersBy by (IsWorn by words) c) events es g.answers (tt, tt);
         owned = λ calm.
-            let h = g.owned (calm_less by events es calm) in
             let filled = same_filled in
             let holder = same_holder in
             let settled = same_settled in
             let right = same_right in
-            grind arith;
+            grind (arith, g.owned (calm_less by events es calm));
         holds = λ calm. Each-append HoldsRight events es (g.holds (calm_less by events es calm)) (tt, tt);
       }
 

@@ -43,6 +43,7 @@ module _ {T : Type 0} (code : Coding T) (c : ℕ) (t : Trace T) (s : frame.Sound
   abbrev own : Registry T
   own = registries.Owners s.state.dead
 
+  -- the registry of the machine is who of the owners is dead
   same_kept : t.world.kept ≡ own
   same_kept = s.fit.kept
 
@@ -85,6 +86,7 @@ module _ {T : Type 0} (code : Coding T) (c : ℕ) (t : Trace T) (s : frame.Sound
   -- ---- a yes tells a recovery
 
   module _ (p : ℕ) (mode : ReleaseMode) where
+    -- a yes to a recovery that stands so tells it to free
     abbrev Hears : RobustFlight → Type 0
     Hears flight =
         is_question (want flight) ≡ true
@@ -130,12 +132,13 @@ module _ {T : Type 0} (code : Coding T) (c : ℕ) (t : Trace T) (s : frame.Sound
   next_right q free None found = tt
   next_right q free (Some x) found = go x.doing refl
     where
+      -- the cases are whether the party's call is over or under way
       go : (doing : Doing T) → x.doing ≡ doing
           → AllByRecursion (ToldRight t (Next q))
           (events_of_answer t.world q x (old_of t.world.words (ask_of_doing t.world.coding doing)) doing)
       go (Over others) same_doing = tt
       go (Going flight since) same_doing =
-          let here : flight_in t.world q ≡ Some flight = ap (λ o. flight_of (doing_of o)) found ∙ ap (λ same_doing. flight_of (Some same_doing)) same_doing in
+          let here : flight_in t.world q ≡ Some flight = ap (λ o. flight_of (doing_of o)) found ∙ ap (λ d. flight_of (Some d)) same_doing in
           let asks : is_question (want_of t.world.coding flight) ≡ false = rw here at free in
           flight_right (Next q) q (old_of t.world.words (ask_of (want_of t.world.coding flight))) x since flight found same_doing (λ due some. absurd (cc))
 

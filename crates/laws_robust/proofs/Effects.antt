@@ -77,6 +77,7 @@ module _ {T : Type 0} (scene : Scene T) where
   abbrev ws : List ℕ
   ws = scene.set.words
 
+  -- the owners that are dead before the turn
   abbrev dead : List ℕ
   dead = scene.set.dead
 
@@ -92,7 +93,7 @@ module _ {T : Type 0} (scene : Scene T) where
     pub bound : counter_of words' ≤ locked
     pub stuck : counter_of ws ≡ greatest → counter_of words' ≡ greatest
 
-  -- nor any word but the counter
+  -- these words differ in the counter alone
   pub record Stays (words' : List ℕ) : Type 0 where
     pub leaves : Leaves words'
     pub others : (n : ℕ) → 1 ≤ n → get_or words' n 0 ≡ get_or ws n 0
@@ -126,8 +127,7 @@ module _ {T : Type 0} (scene : Scene T) where
     same_dead : (owner : ℕ) → is_dead owner (events ++ es) ≡ is_dead owner events
     same_dead owner = fold-append (dead_after owner) false events es ∙ keeps.dead owner (is_dead owner events)
 
-    -- a step that leaves the cells and the lock, and hands indices on as it may, does to the
-    -- set what it may
+    -- a step that leaves the cells and the lock, and hands indices on as it may, does to the set what it may
     pub hands_on : AreOwn p es → AreRight (SetDoes c) events es → AreRight (AnswersBy by (IsWorn by words') c) events es → Hands es
         → (counter_of words' ≡ counter_of ws → counter_of ws < greatest → (i : ℕ) → holder_of i events ≡ None → holder_of i (events ++ es) ≡ None)
         → Does scene words' es
@@ -198,14 +198,14 @@ module _ {T : Type 0} (scene : Scene T) where
     -- a cell tells with whom its index is filled
     module _ (i : ℕ) (below : i < c) where
       pub filled_by : (owner : ℕ) → owner < empty → cell ws i ≡ owner → filled_of i events ≡ Some owner
-      filled_by owner fits here = let is = g.cells i below in grind arith
+      filled_by owner fits here = grind (arith, g.cells i below)
 
       pub filled_none : cell ws i ≡ empty → filled_of i events ≡ None
-      filled_none here = let is = g.cells i below in let fits = g.filled i in grind arith
+      filled_none here = let fits = g.filled i in grind (arith, g.cells i below)
 
       -- a cell that is not empty holds an owner
       pub filled_some : cell ws i ≢ empty → (cell ws i < empty) × (filled_of i events ≡ Some (cell ws i))
-      filled_some other = let is = g.cells i below in let fits = g.filled i in grind arith
+      filled_some other = let fits = g.filled i in grind (arith, g.cells i below)
 
     -- ---- a step that is quiet
 
@@ -278,7 +278,7 @@ module _ {T : Type 0} (scene : Scene T) where
       fill_cells = grind (arith, filled_then, cell_set, within_words, cell_stays)
 
       fill_filled : (j o : ℕ) → filled_of j (events ++ fill) ≡ Some o → (j < c) × (o < empty)
-      fill_filled j o e = let is = filled_then j in let was = g.filled j o in grind arith
+      fill_filled j o e = let was = g.filled j o in grind (arith, filled_then j)
 
       fill_owned : AreOwned events → AreOwned (events ++ fill)
       fill_owned = grind (arith, filled_then, fill_holder, fill_settled, fill_right)
@@ -287,13 +287,12 @@ module _ {T : Type 0} (scene : Scene T) where
       fill_counter = ap counter_of new ∙ counter_stays ws i owner
 
       fill_dead_out : (j o : ℕ) → is_dead o events ≡ true → filled_of j (events ++ fill) ≡ Some o → filled_of j events ≡ Some o
-      fill_dead_out j o is_dead_true e = let is = filled_then j in grind arith
+      fill_dead_out j o is_gone e = grind (arith, filled_then j)
 
       fill_by : (q j o : ℕ) → IsBy q j o events → IsBy q j o (events ++ fill)
-      fill_by q j o is_by_holds = let filled = filled_then j in let right = fill_right j in grind arith
+      fill_by q j o by_party = let filled = filled_then j in let right = fill_right j in grind arith
 
-      -- a step that fills an empty cell with an owner who may fill it does to the set what it
-      -- may
+      -- a step that fills an empty cell with an owner who may fill it does to the set what it may
       pub fills : Does scene words' fill
       fills =
           record {
@@ -310,7 +309,7 @@ module _ {T : Type 0} (scene : Scene T) where
                       λ t. let low = g.low (sym fill_locked ∙ t) in
                       let is : counter_of words' ≡ counter_of ws = ap counter_of new ∙ counter_stays ws i owner in
                       omega arith;
-                  bound = let is = fill_counter in let bound = g.bound in omega arith;
+                  bound = let bound = g.bound in omega (arith, fill_counter);
                   died = λ o. g.died o ∙ sym (fill_dead o);
                   does = Each-append (SetDoes c) events fill g.does ((below, none, alive, was_open), tt);
                   answers =

@@ -65,8 +65,8 @@ module _ {T : Type 0} where
       let same : a ≡ answer = cc in
       record { party = party; name = name; done = ap Some same }
   ends_alone turn q p (x ∷ xs) start start' outcome answer are e =
-      let is : x ≡ Finished p start' answer = cc in
-      absurd (subst (IsEffectOf turn) is are.0)
+      let same_event : x ≡ Finished p start' answer = cc in
+      absurd (subst (IsEffectOf turn) same_event are.0)
 
   done_is : (owner number : ℕ) (r : After find_calls.Find ℕ)
       → answer_in (any_call {T = T} (as_call calls.Find Number (went_on as_it_is owner tt r))) ≡ Some (Number number)
@@ -133,16 +133,16 @@ module _ {T : Type 0} where
         → (due ≡ false → answer ≡ old_of s.state.words (ask_of (want_of t.world.coding flight)))
         → Wrote (registries.Owners s.state.dead) start flight
         → IsCount p (IsFilledWith owner) c number t.events
-    counted due told (Robust start) (flights.Robust flight) stands_there_holds asks loads wrote =
-        let there = is_there Death code c t s q x since found start flight stands_there_holds in
+    counted due told (Robust start) (flights.Robust flight) standing asks loads wrote =
+        let there = is_there Death code c t s q x since found start flight standing in
         let end = wrote_end start flight wrote in
         let at = subst (λ a. At c (all (scene_of Death code c t s q x since)) a flight) (robust_name start owner end.name) there.at in
         subst (λ n. IsCount n (IsFilledWith owner) c number t.events) end.party
         (find_tells (scene_of Death code c t s q x since) (inv_of Death code c t s q x since found small) owner
         number due flight at there.knows asks answer loads told end.done)
-    counted due told start flight stands_there_holds asks loads wrote = absurd stands_there_holds.at
+    counted due told start flight standing asks loads wrote = absurd standing.at
 
-    -- by the words and what is kept beside them
+    -- a step that is decided by the words, and by what is kept beside them
     module _ (flight : Flight T) (doing : x.doing ≡ Going flight since) (e : Wrote t.world.kept x.start flight) where
       there : StandsThere (family code c) t s q x since x.start flight
       there = stands_there (family code c) t s q x since flight found doing
@@ -153,8 +153,7 @@ module _ {T : Type 0} where
       pub own_party : q ≡ p
       own_party = own_end x.start flight there by_owners
 
-      -- a find that wrote its end when it was handed what it had loaded, or a yes, has counted
-      -- over the whole set
+      -- a find that wrote its end when it was handed what it had loaded, or a yes, has counted over the whole set
       pub all_counted : (due : Bool) → (due ≡ true → answer ≢ 0) → is_question (want_of t.world.coding flight) ≡ due
           → (due ≡ false → answer ≡ old_of t.world.words (ask_of (want_of t.world.coding flight)))
           → IsCount p (IsFilledWith owner) c number t.events
@@ -166,8 +165,7 @@ module _ {T : Type 0} where
 
   -- ---- any turn
 
-  -- `c` is the capacity, `t` the run so far, `s` what is sound of it; party `p` finds for the
-  -- owner
+  -- `c` is the capacity, `t` the run so far, `s` what is sound of it; party `p` finds for the owner
   module _ (code : Coding T) (c : ℕ) (t : Trace T) (s : frame.Sound (family code c) t) (p owner number : ℕ) where
     abbrev Ended : List (Event T) → Type 0
     Ended es = es ≡ Finished p (Robust (starts.Find owner)) (Number number) ∷ []
@@ -201,17 +199,17 @@ module _ {T : Type 0} where
     next_tells q small free None found ended = absurd (cc)
     next_tells q small free (Some x) found ended = go x.doing refl ended
       where
+        -- the cases are whether the party's call is over or under way
         go : (doing : Doing T) → x.doing ≡ doing
             → Ended (events_of_answer t.world q x (old_of t.world.words (ask_of_doing t.world.coding doing)) doing)
             → IsCount p (IsFilledWith owner) c number t.events
         go (Over others) same_doing ended = absurd (cc)
         go (Going flight since) same_doing ended =
-            let here : flight_in t.world q ≡ Some flight = ap (λ o. flight_of (doing_of o)) found ∙ ap (λ same_doing. flight_of (Some same_doing)) same_doing in
+            let here : flight_in t.world q ≡ Some flight = ap (λ o. flight_of (doing_of o)) found ∙ ap (λ d. flight_of (Some d)) same_doing in
             all_counted (handed q small found since (Next q) refl (old_of t.world.words (ask_of (want_of t.world.coding flight)))) flight same_doing ended false
             (λ told. absurd (cc)) (rw here at free) (λ no. refl)
 
-    -- a decision that wrote only that the find is done, and that is no no to its party, tells
-    -- of the whole set
+    -- a decision that wrote only that the find is done, other than a no to its party, tells of the whole set
     decision_tells : (q : ℕ) (said : Bool) → t.world.turns < 2 ^ 64 - 2
         → is_due t.world.coding (flight_in t.world q) ≡ true → ◌≢◌ {A = Turn T} (Decide q said) (Decide p false)
         → (o : Option (Party T))
@@ -224,10 +222,11 @@ module _ {T : Type 0} where
         go (Over others) same_doing ended = absurd (cc)
         go (Going flight since) same_doing ended = by said refl
           where
+            -- the cases are whether the decision was yes
             by : (b : Bool) → said ≡ b → IsCount p (IsFilledWith owner) c number t.events
             by true is =
                 let here : flight_in t.world q ≡ Some flight =
-                ap (λ o. flight_of (doing_of o)) found ∙ ap (λ same_doing. flight_of (Some same_doing)) same_doing in
+                ap (λ o. flight_of (doing_of o)) found ∙ ap (λ d. flight_of (Some d)) same_doing in
                 all_counted (handed q small found since (Decide q said) refl (number_of said)) flight same_doing ended true
                 (λ told zero. let one : number_of said ≡ 1 = ap number_of is in absurd (omega arith))
                 (rw here at due) (λ no. absurd (cc))
@@ -239,8 +238,7 @@ module _ {T : Type 0} where
   not_due : (w : World T) (q : ℕ) → call_refusal w (Next q) ≡ None → is_due w.coding (flight_in w q) ≡ false
   not_due w q e = grind arith
 
-  -- a turn that wrote only that the find is done, and that is no no to its party, tells of the
-  -- whole set
+  -- a turn that wrote only that the find is done, other than a no to its party, tells of the whole set
   tells : (code : Coding T) (c : ℕ) (t : Trace T) (turn : Turn T) → refusal_of t.world turn ≡ None → frame.Sound (family code c) t → (p owner number : ℕ)
       → events_of t.world turn ≡ Finished p (Robust (starts.Find owner)) (Number number) ∷ []
       → turn ≢ Decide p false → IsCount p (IsFilledWith owner) c number t.events
@@ -254,7 +252,7 @@ module _ {T : Type 0} where
       ne (party_of q t.world.latest) refl e
   tells code c t (Die o) r sound p owner number e ne = absurd (cc)
 
-  -- each find that ends in a turn that is no no to it has counted over the whole set
+  -- each find that ends in a turn other than a no to its party has counted over the whole set
   pub finds_all : (code : Coding T) (c : ℕ) (t : Trace T) (turn : Turn T) → refusal_of t.world turn ≡ None
       → frame.Sound (family code c) t → FindsAll t turn (after_turn t turn)
   finds_all code c t turn r sound =

@@ -29,7 +29,7 @@ module _ {T : Type 0} (scene : Scene T) (inv : Inv scene) (owner : ℕ) (fits : 
   abbrev call_at : FindStage → calls.Find
   call_at stage = record { capacity = c; stage = stage }
 
-  -- so many indices below the bound had the owner
+  -- as many indices below the bound had the owner
   abbrev Counted : ℕ → ℕ → Type 0
   Counted bound number = IsCount p (IsFilledWith owner) bound number events
 
@@ -84,13 +84,13 @@ module _ {T : Type 0} (scene : Scene T) (inv : Inv scene) (owner : ℕ) (fits : 
         find_comes_to (call_at (finds.LoadsCell k found)) (k + 1) found))
         (cell ws k == owner)
         (λ t.
-        let is : cell ws k ≡ owner = grind (arith, nat_tests) in
+        let has_owner : cell ws k ≡ owner = grind (arith, nat_tests) in
         let paid = knows.paid in
         goes_quietly scene inv (Find owner) (find_at c owner (finds.Asks k (one_more found)))
         (Some (loads (cell_word k))) false here (stays_same scene inv _ (loads_same ws (cell_word k)))
         (omega arith)
         (refl, refl, fits, (below, none))
-        (record { paid = omega arith; scanned = tt; owns = tt; says = one_counts k found below knows.says is; gone = tt }))
+        (record { paid = omega arith; scanned = tt; owns = tt; says = one_counts k found below knows.says has_owner; gone = tt }))
         (λ t.
         let other : cell ws k ≢ owner = grind (arith, nat_tests) in
         let paid = knows.paid in
@@ -127,6 +127,7 @@ module _ {T : Type 0} (scene : Scene T) (inv : Inv scene) (owner : ℕ) (fits : 
       → find_after (record { capacity = c; stage = finds.LoadsCell k found }) owner (cell scene.set.words k) ≡ Done number → Counted c number
   find_loads_all k found at knows number e = go (cell ws k == owner) refl e
     where
+      -- the cases are whether the cell has the owner
       go : (b : Bool) → (cell ws k == owner) ≡ b
           → ◌≡◌ {A = After calls.Find ℕ}
           (if b then GoOn (at_find (call_at (finds.LoadsCell k found)) (finds.Asks k (one_more found)))
@@ -143,6 +144,7 @@ module _ {T : Type 0} (scene : Scene T) (inv : Inv scene) (owner : ℕ) (fits : 
       → find_after (record { capacity = c; stage = finds.Asks k found }) owner answer ≡ Done number → Counted c number
   find_asks_all k found at knows answer number yes_told e = go (answer == 0) refl e
     where
+      -- the cases are whether the answer is no
       go : (b : Bool) → (answer == 0) ≡ b
           → ◌≡◌ {A = After calls.Find ℕ}
           (if b then Done found else find_comes_to (call_at (finds.Asks k found)) (k + 1) found)

@@ -18,23 +18,22 @@ use Rattle.laws_robust.proofs.Past.{since_begun}
 use Rattle.laws_robust.proofs.Rights.{AreOwned}
 use Rattle.laws_robust.proofs.CallProgress.{At}
 
--- where a call stands and what it knows as it begins
+-- the place of a call, and what it knows as it begins
 pub record IsFirst (T : Type 0) (by : GoneBy) (c : ℕ) (words : List ℕ) (events : List (Event T)) (p changes : ℕ)
     (start : RobustStart) (flight : RobustFlight) : Type 0 where
   pub at : At c [] start flight
   pub knows : Knows c flight (view by words (events ++ Begun p (Robust start) ∷ []) p changes changes 0)
 
 none_of : {A : Type 0} (one : SetAct) (done : List SetAct) → done ≡ [] → IsOneOf one done → A
-none_of one done none is_one_of_holds = absurd (no_more is_one_of_holds.before one is_one_of_holds.after (sym none ∙ is_one_of_holds.is))
+none_of one done none is_one = absurd (no_more is_one.before one is_one.after (sym none ∙ is_one.is))
 
 is_below : (owner : ℕ) → is_owner owner ≡ true → owner < empty
-is_below owner is_owner_true = grind (arith, nat_tests)
+is_below owner owner_valid = grind (arith, nat_tests)
 
 -- party `p` begins a call on a set of capacity `c`
 module _ {T : Type 0} (by : GoneBy) (c : ℕ) (words : List ℕ) (events : List (Event T)) (p changes : ℕ)
     (some : 1 ≤ c) (owned : IsCalm by events → AreOwned events) where
-  -- each call that is not refused stands at its first stage, and knows what that tells, as it
-  -- begins
+  -- each call that is not refused stands at its first stage, and knows what that tells, as it begins
   pub first_is : (start : RobustStart) → names_owner start ≡ true → (dead : List ℕ)
       → first_row (call_rows c dead start) ≡ None → set_acts_of p (events ++ Begun p (Robust start) ∷ []) ≡ []
       → IsFirst T by c words events p changes start (first c start)
@@ -44,7 +43,7 @@ module _ {T : Type 0} (by : GoneBy) (c : ℕ) (words : List ℕ) (events : List 
       let low = row_passed (nat_le c index) BadIndex (first_row ((has_died owner dead, OwnerIsDead) ∷ [])) r in
       let t : nat_le c index ≡ false = low.0 in
       let below : index < c = grind (arith, nat_tests) in
-      let es : List (Event T) = Begun p (Robust (starts.Release index owner mode)) ∷ [] in
+      let written : List (Event T) = Begun p (Robust (starts.Release index owner mode)) ∷ [] in
       record {
         at = (refl, refl, is_below owner named, below, refl);
         knows =

@@ -62,13 +62,13 @@ module _ {T : Type 0} (scene : Scene T) (inv : Inv scene) where
     cells_then = grind (arith, filled_then, cell_set, empty, within_words, cell_stays)
 
     filled_was : (j o : ℕ) → filled_of j (events ++ es) ≡ Some o → filled_of j events ≡ Some o
-    filled_was j o e = let is = filled_then j in grind arith
+    filled_was j o e = grind (arith, filled_then j)
 
     still_owned : AreOwned events → AreOwned (events ++ es)
     still_owned = grind (arith, filled_then, holder_then, settled_then, right_then)
 
     unheld_then : (j : ℕ) → holder_of j events ≡ None → holder_of j (events ++ es) ≡ None
-    unheld_then j none = let is = holder_then j in grind arith
+    unheld_then j none = grind (arith, holder_then j)
 
     owned_then : IsCalm by (events ++ es) → (q : ℕ) → q ≢ p → (j o : ℕ) → is_gone by o events ≡ false → IsBy q j o events → IsBy q j o (events ++ es)
     owned_then = grind (arith, filled_then, right_then)
@@ -86,8 +86,8 @@ module _ {T : Type 0} (scene : Scene T) (inv : Inv scene) where
                 cells = cells_then;
                 filled = λ j o e. g.filled j o (filled_was j o e);
                 lock = ap (λ n. n == locked) counter_same ∙ (g.lock ∙ sym same_lock);
-                low = λ t. let low = g.low (sym same_lock ∙ t) in let is = counter_same in omega arith;
-                bound = let is = counter_same in let bound = g.bound in omega arith;
+                low = λ t. omega (arith, g.low (sym same_lock ∙ t), counter_same);
+                bound = let bound = g.bound in omega (arith, counter_same);
                 died = λ o. g.died o ∙ sym (same_dead o);
                 does = Each-append (SetDoes c) events es g.does ((filled, lives), tt);
                 answers =
@@ -106,7 +106,7 @@ module _ {T : Type 0} (scene : Scene T) (inv : Inv scene) where
                 set_acts = ap (λ s. set_acts (wrote_in s)) (span_of-other p q events es ne (refl, tt));
                 owned = λ calm j o alive h. owned_then calm q ne j o alive h;
                 unheld = λ calm j o alive h none. unheld_then j none;
-                held = λ calm j o alive h here. let none = mine calm q ne o alive in let is = holder_then j in grind arith;
-                settled = λ calm j o alive h none. let not = unsettled calm o alive in let is = settled_then j in grind arith;
+                held = λ calm j o alive h here. let none = mine calm q ne o alive in grind (arith, holder_then j);
+                settled = λ calm j o alive h none. let not = unsettled calm o alive in grind (arith, settled_then j);
               };
         }

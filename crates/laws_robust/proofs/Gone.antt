@@ -16,8 +16,8 @@ or_true true = refl
 or_true false = refl
 
 was_false : (b : Bool) → (b ≡ true → true ≡ false) → b ≡ false
-was_false true same_true = same_true refl
-was_false false same_true = refl
+was_false true not_true = not_true refl
+was_false false not_true = refl
 
 module _ {T : Type 0} where
   -- ---- who is gone
@@ -47,7 +47,7 @@ module _ {T : Type 0} where
       → is_gone by owner (events ++ Told p index owner ∷ []) ≡ true
   gone_told = grind (arith, gone_more, fold-append, false, eq-eqb)
 
-  -- and so is he for whom a container's recovery begins
+  -- an owner for whom a container's recovery begins is gone
   pub gone_begun : (p owner : ℕ) (mode : ReleaseMode) (events : List (Event T))
       → is_gone Word owner (events ++ Begun p (Container (containers.Recover owner mode)) ∷ []) ≡ true
   gone_begun = grind (arith, fold-append, false, eq-eqb)
@@ -55,8 +55,8 @@ module _ {T : Type 0} where
   -- ---- honest runs
 
   pub honest_less : (by : GoneBy) (events es : List (Event T)) → IsHonestBy by (events ++ es) → IsHonestBy by events
-  honest_less Death events es is_honest_by_holds = tt
-  honest_less Word events es is_honest_by_holds = Each-less ActsForRight events es is_honest_by_holds
+  honest_less Death events es honest = tt
+  honest_less Word events es honest = Each-less ActsForRight events es honest
 
   pub calm_less : (by : GoneBy) (events es : List (Event T)) → IsCalm by (events ++ es) → IsCalm by events
   calm_less by events es calm = (Each-less FreesRight events es calm.0, honest_less by events es calm.1)
@@ -83,16 +83,15 @@ module _ {T : Type 0} where
     filled_before : (e : Event T) (old : Option ℕ) → ActsForRight events e → filled_after i old e ≡ Some owner → old ≡ Some owner
     filled_before e old lives h = grind arith
 
-  -- in an honest run an index that is filled with an owner who was gone earlier was filled with
-  -- him then
+  -- in an honest run an index that is filled with an owner who was gone earlier was filled with him then
   lost_so_far : (i owner : ℕ) (events es : List (Event T)) → IsHonest (events ++ es)
       → is_gone Word owner events ≡ true → filled_of i (events ++ es) ≡ Some owner → filled_of i events ≡ Some owner
   lost_so_far i owner events [] honest gone h = subst (λ xs. filled_of i xs ≡ Some owner) (append-nil events) h
   lost_so_far i owner events (e ∷ es) honest gone h =
-      let is : events ++ e ∷ es ≡ (events ++ e ∷ []) ++ es = sym (append_assoc events (e ∷ []) es) in
+      let joined : events ++ e ∷ es ≡ (events ++ e ∷ []) ++ es = sym (append_assoc events (e ∷ []) es) in
       let later : filled_of i (events ++ e ∷ []) ≡ Some owner =
-      lost_so_far i owner (events ++ e ∷ []) es (subst IsHonest is honest)
-      (gone_more Word owner events (e ∷ []) gone) (subst (λ xs. filled_of i xs ≡ Some owner) is h) in
+      lost_so_far i owner (events ++ e ∷ []) es (subst IsHonest joined honest)
+      (gone_more Word owner events (e ∷ []) gone) (subst (λ xs. filled_of i xs ≡ Some owner) joined h) in
       filled_before i owner events gone e (filled_of i events) (honest events es e refl) (sym (fold-append (filled_after i) None events (e ∷ [])) ∙ later)
 
   -- what an owner who is gone has lost stays lost to him
@@ -105,31 +104,30 @@ module _ {T : Type 0} where
   -- ---- answers, in the words of a machine whose owners die
 
   ask_right : (before : List (Event T)) (e : Event T) → AsksBy Death before e → AsksRight before e
-  ask_right before (Told p i o) asks_by_holds = asks_by_holds
-  ask_right before e asks_by_holds = asks_by_holds
+  ask_right before (Told p i o) asked = asked
+  ask_right before e asked = asked
 
   pub asks_right : (events : List (Event T)) → Each (AsksBy Death) events → Each AsksRight events
   asks_right events asks before after e is = ask_right before e (asks before after e is)
 
   module _ (worn worn' : Type 0) (on : worn → worn') where
     still_right : (by : GoneBy) (c : ℕ) (before : List (Event T)) (e : Event T) → AnswersBy by worn c before e → AnswersBy by worn' c before e
-    still_right by c before e answers_by_holds = grind arith
+    still_right by c before e answered = grind arith
 
     -- a counter that was at its end still is
     pub answers_on : (by : GoneBy) (c : ℕ) (events : List (Event T)) → Each (AnswersBy by worn c) events → Each (AnswersBy by worn' c) events
     answers_on by c events answers before after e is = still_right by c before e (answers before after e is)
 
   module _ (worn : Type 0) (not_worn : worn → ⊥) where
-    -- in an honest run whose counter is not at its end an answer is right as on a machine whose
-    -- owners die
+    -- in an honest run whose counter is not at its end an answer is right as on a machine whose owners die
     answer_right : (by : GoneBy) (c : ℕ) (before : List (Event T)) (e : Event T) → IsHonestBy by before → AnswersBy by worn c before e → AnswersRight c before e
-    answer_right by c before (Finished p (Robust (Acquire owner)) (NoIndex OutOfIndices)) honest answers_by_holds =
-        (answers_by_holds.0, ⊎_elim (λ w. absurd (not_worn w)) (λ k. k) answers_by_holds.1)
-    answer_right by c before (Finished p (Robust (Release index owner LockIfLastIndex)) (State Unlocked)) honest answers_by_holds =
-        (answers_by_holds.0, ⊎_elim (λ w. absurd (not_worn w)) (λ k. k) answers_by_holds.1)
-    answer_right by c before (Finished p (Robust (Recover mode)) (State Unlocked)) honest answers_by_holds =
-        (answers_by_holds.0, record { gone = answers_by_holds.1.gone honest; asked = answers_by_holds.1.asked })
-    answer_right by c before e honest answers_by_holds = answers_by_holds
+    answer_right by c before (Finished p (Robust (Acquire owner)) (NoIndex OutOfIndices)) honest answered =
+        (answered.0, ⊎_elim (λ w. absurd (not_worn w)) (λ k. k) answered.1)
+    answer_right by c before (Finished p (Robust (Release index owner LockIfLastIndex)) (State Unlocked)) honest answered =
+        (answered.0, ⊎_elim (λ w. absurd (not_worn w)) (λ k. k) answered.1)
+    answer_right by c before (Finished p (Robust (Recover mode)) (State Unlocked)) honest answered =
+        (answered.0, record { gone = answered.1.gone honest; asked = answered.1.asked })
+    answer_right by c before e honest answered = answered
 
     pub answers_right : (by : GoneBy) (c : ℕ) (events : List (Event T)) → IsHonestBy by events
         → Each (AnswersBy by worn c) events → Each (AnswersRight c) events

@@ -54,7 +54,7 @@ module _ {T : Type 0} (scene : Scene T) (inv : Inv scene) where
       other_index : (q : ℕ) → q ≢ p → (j o : ℕ) → IsBy q j o events → j ≢ i
       other_index q ne j o h is = let ours = (mine calm).right in grind arith
 
-      -- nor may it be given back
+      -- an index that may be given back is another one than this
       unsettled : (j o : ℕ) → settled_of j events ≡ Some o → j ≢ i
       unsettled = grind (arith, calm_less)
 
@@ -93,7 +93,7 @@ module _ {T : Type 0} (scene : Scene T) (inv : Inv scene) where
 
     raises : (es : List (Event T)) → counter_of words' ≡ counter_of ws → counter_of ws < greatest → (j : ℕ) → holder_of j events ≡ None
         → holder_of j (events ++ es) ≡ None
-    raises es still less j none = let is = raised_more scene inv words' raised less in absurd (omega arith)
+    raises es still less j none = absurd (omega (arith, raised_more scene inv words' raised less))
 
     -- the call goes on: the party has the right to it, and its owner holds it
     pub owns_then : IsCalm by (events ++ Granted p i owner ∷ [])

@@ -55,8 +55,7 @@ module _ {T : Type 0} (scene : Scene T) (inv : Inv scene) (owner : ℕ) (fits : 
   WhyNot failures.IsLocked = (is_locked events ≡ true) × ((all scene ≡ []) ⊎ FilledLate owner (all scene))
   WhyNot failures.OutOfIndices = (is_locked events ≡ false) × (IsWorn by ws ⊎ AllOnce c (now scene)) × (all scene ≡ [])
 
-  -- what the caller of an acquire shows: of each step that goes on, of the fill, of each
-  -- failure, and of the grant
+  -- what the caller of an acquire shows: of each step that goes on, of the fill, of each failure, and of the grant
   pub record Caller (Lead : Option Ask → Bool → List (Event T) → After calls.Acquire Acquired → Type 0) : Type 0 where
     pub quiet : (next : AcquireStage) (ask : Option Ask) (back : Bool) → words_after ws ask ≡ ws
         → AcquireAt c owner (all scene) next → Knows c (acquire_at c owner next) (sees scene ask back)
@@ -88,8 +87,7 @@ module _ {T : Type 0} (scene : Scene T) (inv : Inv scene) (owner : ℕ) (fits : 
           → Lead ask back [] (GoOn (at_acquire (call_at stage) (acquires.FillsCell (counter_of ws) 0)))
       begins_cells = grind (arith, finds_counter, held_now, unlocked)
 
-      -- an acquire that sees the counter fails if that is locked or at its end, and else goes
-      -- to the first cell
+      -- an acquire that sees the counter fails if that is locked or at its end, and else goes to the first cell
       finds : Lead ask back [] (acquire_sees (call_at stage) (counter_of ws))
       finds =
           by_eq (Lead ask back []) (counter_of ws) locked (Done (Err failures.IsLocked)) _ finds_locked
@@ -103,8 +101,7 @@ module _ {T : Type 0} (scene : Scene T) (inv : Inv scene) (owner : ℕ) (fits : 
 
     -- ---- the exchange of a cell
 
-    -- the acquire has come to cell `i` with this counter; `s` bounds its steps, and `k` is what
-    -- it knows
+    -- the acquire has come to cell `i` with this counter; `s` bounds its steps, and `k` is what it knows
     module _ (number i : ℕ) (below : i < c) (none : all scene ≡ []) (s : steps ≤ extra + (1 + i + backs * (c + 1)))
         (k : Knows c (acquire_at c owner (acquires.FillsCell number i)) (now scene)) where
       abbrev filling : AcquireStage
@@ -159,8 +156,7 @@ module _ {T : Type 0} (scene : Scene T) (inv : Inv scene) (owner : ℕ) (fits : 
 
     -- ---- the exchange of the counter for itself
 
-    -- the step in which an acquire exchanges the counter for itself leads to what the caller
-    -- makes of it
+    -- the step in which an acquire exchanges the counter for itself leads to what the caller makes of it
     checks_step : (number : ℕ) → all scene ≡ [] → steps ≤ extra + (1 + c + backs * (c + 1))
         → Knows c (acquire_at c owner (acquires.ChecksCounter number)) (now scene)
         → Lead (Some (exchanges 0 number number))
@@ -218,6 +214,7 @@ module _ {T : Type 0} (scene : Scene T) (inv : Inv scene) (owner : ℕ) (fits : 
 
     -- ---- any step
 
+    -- a step of an acquire at the stage leads to what the caller makes of it
     abbrev pub StepAt : AcquireStage → Type 0
     StepAt stage =
         Lead (ask_of (acquire_asks stage owner))

@@ -63,8 +63,7 @@ module _ {T : Type 0} (scene : Scene T) (inv : Inv scene) (index owner : ℕ) (m
   Ends words' LockIfLastIndex states.Locked = is_locked events ≡ true
   Ends words' LockIfLastIndex states.Unlocked = (is_locked events ≡ false) × (IsWorn by words' ⊎ FilledSinceFreed p owner index events)
 
-  -- what the caller of a release shows: of each step that goes on, of the free, and of each of
-  -- its ends
+  -- what the caller of a release shows: of each step that goes on, of the free, and of each of its ends
   pub record Caller (Lead : Option Ask → Bool → List (Event T) → After calls.Release Released → Type 0) : Type 0 where
     pub quiet : (next : ReleaseStage) (ask : Option Ask) (back : Bool) → Stays scene (words_after ws ask)
         → ReleaseAt c index owner mode (all scene) next
@@ -98,13 +97,12 @@ module _ {T : Type 0} (scene : Scene T) (inv : Inv scene) (index owner : ℕ) (m
       owns_it = grind (arith, calm_less)
 
       mine : IsCalm by (events ++ FreedOf p index owner ∷ []) → (q : ℕ) → q ≢ p → (o : ℕ) → is_gone by o events ≡ false → IsBy q index o events → ⊥
-      mine calm q ne o lives is_by_holds = ne (one_party _ p q (owns_it calm).right is_by_holds.right)
+      mine calm q ne o lives by_party = ne (one_party _ p q (owns_it calm).right by_party.right)
 
       unsettled : IsCalm by (events ++ FreedOf p index owner ∷ []) → (o : ℕ) → is_gone by o events ≡ false → settled_of index events ≡ Some o → ⊥
       unsettled = grind (arith, calm_less, owns_it, right_of)
 
-      -- a release that finds its owner in the cell frees the index, and goes on to raise the
-      -- counter
+      -- a release that finds its owner in the cell frees the index, and goes on to raise the counter
       empties : cell ws index ≡ owner
           → Lead exchange false (FreedOf p index owner ∷ []) (GoOn (call_at (releases.Raises raises.LoadsCounter)))
       empties is =
@@ -129,7 +127,7 @@ module _ {T : Type 0} (scene : Scene T) (inv : Inv scene) (index owner : ℕ) (m
           (if b then GoOn (at_release (call_at releases.EmptiesCell) (releases.Raises raises.LoadsCounter)) else
           Done (Err IndexIsNotOwnedByProvidedOwner)))
           (cell ws index == owner)
-          (λ t. let is : cell ws index ≡ owner = grind (arith, nat_tests) in empties is)
+          (λ t. let has_owner : cell ws index ≡ owner = grind (arith, nat_tests) in empties has_owner)
           (λ t. let other : cell ws index ≢ owner = grind (arith, nat_tests) in refuses other)
 
     -- ---- the raise of the counter
@@ -146,8 +144,7 @@ module _ {T : Type 0} (scene : Scene T) (inv : Inv scene) (index owner : ℕ) (m
           → Lead ask back [] (release_raised (call_at (releases.Raises raise)) m (Done state))
       closes = grind arith
 
-      -- the step in which a release raises the counter leads on: to the lock in its mode, or to
-      -- its end
+      -- the step in which a release raises the counter leads on: to the lock in its mode, or to its end
       raises_step : raises_to (Some (raise_ask raise)) (raise_goes_back raise (counter_of ws)) (raise_after raise (counter_of ws))
       raises_step =
           raise_step scene inv raises_to raise k.paid
@@ -222,6 +219,7 @@ module _ {T : Type 0} (scene : Scene T) (inv : Inv scene) (index owner : ℕ) (m
 
     -- ---- any step
 
+    -- a step of a release at the stage leads to what the caller makes of it
     abbrev pub StepAt : ReleaseStage → Type 0
     StepAt stage =
         Lead (ask_of (release_asks stage (record { index = index; owner = owner; mode = mode })))

@@ -50,7 +50,7 @@ abbrev pub IsWorn : GoneBy → List ℕ → Type 0
 IsWorn Death words = ⊥
 IsWorn Word words = counter_of words ≡ greatest
 
--- and so there it is always ahead of it
+-- where owners die the counter has to be ahead of its end
 abbrev pub HasRoom : GoneBy → List ℕ → Type 0
 HasRoom Death words = IsAhead words
 HasRoom Word words = Unit {0}
@@ -152,6 +152,7 @@ module _ {T : Type 0} where
       → Good by c words dead events turns → turns < 2 ^ 64 - 2 → HasRoom by words
   room_of_few = grind (arith, ahead_of_few)
 
+  -- the set after a turn that leaves these words and writes these events
   abbrev pub set_then : Scene T → List ℕ → List (Event T) → RobustSet T
   set_then scene words es =
       record { words = words; dead = scene.set.dead; events = scene.events ++ es }
@@ -182,7 +183,7 @@ module _ {T : Type 0} where
   -- a call stands there by what its party has written
   pub at_written : (c : ℕ) (w w' : List (Event T)) (start : Start T) (flight : Flight T) → w' ≡ w
       → FlightAt c (set_acts w) start flight → FlightAt c (set_acts w') start flight
-  at_written c w w' start flight same flight_at_holds = subst (λ x. FlightAt c (set_acts x) start flight) (sym same) flight_at_holds
+  at_written c w w' start flight same standing = subst (λ x. FlightAt c (set_acts x) start flight) (sym same) standing
 
   module _ (scene : Scene T) (words' : List ℕ) (from : Span T) (y : Party T) (es : List (Event T)) (changes' : ℕ) (s : Shows scene words' from y es changes')
       (h : Holds scene.by scene.capacity scene.set scene.latest scene.events scene.turns)

@@ -20,8 +20,7 @@ use Rattle.laws_robust.proofs.Decisions.{finds_up_to, tells_once, yes_tells}
 use Rattle.laws_robust.proofs.Written.{all_effects}
 
 module _ {T : Type 0} (code : Coding T) (c : ℕ) where
-  -- what a turn in which a call goes on writes down is what it did to the set, and then the
-  -- call's end
+  -- what a turn in which a call goes on writes down is what it did to the set, and then the call's end
   writes : (t : Trace T) (turn : Turn T) (p : ℕ) → IsParty turn p → (answer : ℕ) (s : RobustSet T) (start : Start T) (flight : Flight T)
       → (family code c).At s p start flight
       → Writes (outline Death) t turn (answered_from t p t.world.coding answer s.words (registries.Owners s.dead) start flight)

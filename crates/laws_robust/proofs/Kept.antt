@@ -63,13 +63,13 @@ module _ {T : Type 0} where
   -- what holds of the machine is what is promised of a set where owners die
   pub set_kept : (code : Coding T) (t : Trace T) → (s : frame.Sound (family code t.world.capacity) t) → IsRobustSet t
   set_kept code t s =
-      let g = s.holds.good in
+      let set_good = s.holds.good in
       record {
-        does = g.does;
+        does = set_good.does;
         asks = asks_right t.events s.holds.asks;
-        holds = λ well_formed. g.holds (well_formed, tt);
-        answers = answers_right ⊥ (λ worn. worn) Death t.world.capacity t.events tt g.answers;
-        cells = λ index below. ap (λ ws. cell ws index) s.fit.words ∙ g.cells index below;
-        lock = rw s.fit.words g.lock;
-        dead = subst (λ kept. KeepsDead kept t.events) (sym s.fit.kept) (λ owner. g.died owner);
+        holds = λ well_formed. set_good.holds (well_formed, tt);
+        answers = answers_right ⊥ (λ worn. worn) Death t.world.capacity t.events tt set_good.answers;
+        cells = λ index below. ap (λ ws. cell ws index) s.fit.words ∙ set_good.cells index below;
+        lock = rw s.fit.words set_good.lock;
+        dead = subst (λ kept. KeepsDead kept t.events) (sym s.fit.kept) (λ owner. set_good.died owner);
       }

@@ -144,7 +144,7 @@ LockSays c Says (locks.Counts count) = CountSays c Says count
 LockSays c Says (locks.ExchangesCounter counter) = Unit {0}
 
 count_says : (c : ℕ) (P Q : ℕ → ℕ → Type 0) → ((k n : ℕ) → P k n → Q k n) → (count : Count) → CountSays c P count → CountSays c Q count
-count_says c h k follows count count_says_holds = grind arith
+count_says c h k follows count said = grind arith
 
 lock_says : (c : ℕ) (P Q : ℕ → ℕ → Type 0) → ((k n : ℕ) → P k n → Q k n) → (lock : Lock) → LockSays c P lock → LockSays c Q lock
 lock_says = grind (arith, count_says)
@@ -166,7 +166,7 @@ module _ {T : Type 0} where
   abbrev pub IsPaid : View T → Type 0
   IsPaid v = v.backs + v.since ≤ v.changes
 
-  -- and so is one more, unless this is so
+  -- a turn back more is paid too, unless this is so
   abbrev pub PaidUnless : Type 0 → View T → Type 0
   PaidUnless P v = (P × IsPaid v) ⊎ (v.backs + v.since + 1 ≤ v.changes)
 
@@ -199,7 +199,7 @@ module _ {T : Type 0} where
       → IsBy v.party index owner v.events × (holder_of index v.events ≡ None)
   AcquireOwns owner stage v = Unit {0}
 
-  -- and to the index that it may give back
+  -- a release has a right to the index that it may give back
   abbrev pub ReleaseOwns : ℕ → ℕ → ReleaseStage → View T → Type 0
   ReleaseOwns index owner releases.EmptiesCell v =
       IsCalm v.by v.events → is_gone v.by owner v.events ≡ false
@@ -282,6 +282,7 @@ module _ {T : Type 0} where
       → (is_gone v.by owner v.events ≡ true)
       × (IsHonestBy v.by v.events → (filled_of i v.events ≢ Some owner) ⊎ Now i owner)
 
+  -- only a recovery knows of owners that are gone
   abbrev pub Gone : RobustFlight → View T → Type 0
   Gone (Recover run) v = GoneBut (FreesNow run.call.stage) v
   Gone flight v = Unit {0}
@@ -298,7 +299,7 @@ module _ {T : Type 0} where
 
   -- ---- what a turn does that leaves these words and writes these events
 
-  -- to any party
+  -- what the turn does to any party
   pub record Goes (words words' : List ℕ) (events es : List (Event T)) : Type 0 where
     pub grows : counter_of words ≤ counter_of words'
     pub stuck : counter_of words ≡ greatest → counter_of words' ≡ greatest
@@ -308,7 +309,7 @@ module _ {T : Type 0} where
     pub lives : (owner : ℕ) → is_dead owner (events ++ es) ≡ false → is_dead owner events ≡ false
     pub well_formed : IsWellFormed (events ++ es) → IsWellFormed events
 
-  -- to this party, which does not take it
+  -- what the turn leaves this party, which does not take it
   pub record Spares (by : GoneBy) (q : ℕ) (events es : List (Event T)) : Type 0 where
     pub none : BeginsNone q es
     pub set_acts : set_acts_of q (events ++ es) ≡ set_acts_of q events
@@ -330,19 +331,19 @@ module _ {T : Type 0} where
     later = record { by = by; words = words'; events = events ++ es; party = q; since = since; changes = changes'; backs = backs }
 
     pub held_paid : (held : Option ℕ) → Paid held before → Paid held later
-    held_paid held paid_holds = grind arith
+    held_paid held was_paid = grind arith
 
     -- what a scan knows of the cells that it found is so after another party's turn
     pub still_scanned : (s : Option Scan) → Scanned s before → Scanned s later
-    still_scanned None scanned_holds = tt
-    still_scanned (Some s) scanned_holds =
-        let low = scanned_holds.0 in
+    still_scanned None had_scanned = tt
+    still_scanned (Some s) had_scanned =
+        let low = had_scanned.0 in
         let grows = goes.grows in (
           omega arith,
-          λ end. goes.stuck (scanned_holds.1 end),
+          λ end. goes.stuck (had_scanned.1 end),
           λ less none is calm i below.
               let same : counter_of words' ≡ counter_of words = omega arith in
-              goes.grants same (omega arith) i (scanned_holds.2 less none (sym same ∙ is) (calm_less by events es calm) i below),
+              goes.grants same (omega arith) i (had_scanned.2 less none (sym same ∙ is) (calm_less by events es calm) i below),
         )
 
     acquire_owns : (owner : ℕ) (stage : AcquireStage) → AcquireOwns owner stage before → AcquireOwns owner stage later
@@ -350,13 +351,13 @@ module _ {T : Type 0} where
 
     -- a release that may give its index back may do so after another party's turn
     release_owns : (index owner : ℕ) (stage : ReleaseStage) → ReleaseOwns index owner stage before → ReleaseOwns index owner stage later
-    release_owns index owner releases.EmptiesCell release_owns_holds =
+    release_owns index owner releases.EmptiesCell owned =
         λ calm alive settled.
         let lives = gone_less by owner events es alive in
         spares.owned calm index owner lives
-        (release_owns_holds (calm_less by events es calm) lives
+        (owned (calm_less by events es calm) lives
         (since_less q (λ part. settled_of index part ≡ Some owner) events es spares.none settled))
-    release_owns index owner stage release_owns_holds = tt
+    release_owns index owner stage owned = tt
 
     still_owns : (flight : RobustFlight) → Owns flight before → Owns flight later
     still_owns = grind (arith, acquire_owns, release_owns)
@@ -382,14 +383,14 @@ module _ {T : Type 0} where
 
     -- what a recovery knows of moments is so after another party's turn
     recover_says : (c : ℕ) (stage : RecoverStage) → RecoverSays c stage before → RecoverSays c stage later
-    recover_says c recovers.LoadsCounter recover_says_holds = tt
-    recover_says c (recovers.LoadsCell index) recover_says_holds = (once_later IsUnlocked recover_says_holds.0, asked_later index recover_says_holds.1)
-    recover_says c (recovers.Asks index owner) recover_says_holds = (once_later IsUnlocked recover_says_holds.0, asked_later (index + 1) recover_says_holds.1)
-    recover_says c (recovers.EmptiesCell index owner) recover_says_holds =
-        (once_later IsUnlocked recover_says_holds.0, asked_later (index + 1) recover_says_holds.1)
-    recover_says c (recovers.Raises index raise) recover_says_holds = (once_later IsUnlocked recover_says_holds.0, asked_later (index + 1) recover_says_holds.1)
-    recover_says c (recovers.Locks index lock) recover_says_holds = (once_later IsUnlocked recover_says_holds.0, asked_later (index + 1) recover_says_holds.1)
-    recover_says c recovers.LoadsCounterAgain recover_says_holds = asked_later c recover_says_holds
+    recover_says c recovers.LoadsCounter said = tt
+    recover_says c (recovers.LoadsCell index) said = (once_later IsUnlocked said.0, asked_later index said.1)
+    recover_says c (recovers.Asks index owner) said = (once_later IsUnlocked said.0, asked_later (index + 1) said.1)
+    recover_says c (recovers.EmptiesCell index owner) said =
+        (once_later IsUnlocked said.0, asked_later (index + 1) said.1)
+    recover_says c (recovers.Raises index raise) said = (once_later IsUnlocked said.0, asked_later (index + 1) said.1)
+    recover_says c (recovers.Locks index lock) said = (once_later IsUnlocked said.0, asked_later (index + 1) said.1)
+    recover_says c recovers.LoadsCounterAgain said = asked_later c said
 
     still_says : (c : ℕ) (flight : RobustFlight) → Says c flight before → Says c flight later
     still_says = grind (arith, acquire_says, release_says, find_says, recover_says, count_says, count_later)
@@ -404,8 +405,8 @@ module _ {T : Type 0} where
         )
 
     still_gone : (flight : RobustFlight) → Gone flight before → Gone flight later
-    still_gone (Recover run) gone_holds = gone_later (FreesNow run.call.stage) gone_holds
-    still_gone flight gone_holds = tt
+    still_gone (Recover run) was_gone = gone_later (FreesNow run.call.stage) was_gone
+    still_gone flight was_gone = tt
 
     pub knows_later : (c : ℕ) (flight : RobustFlight) → Knows c flight before → Knows c flight later
     knows_later = grind (arith, held_paid, still_scanned, still_owns, still_says, still_gone)

@@ -126,8 +126,7 @@ module _ {T : Type 0} (code : Coding T) (c : ℕ) where
   dies : (kept : Registry T) (owner : ℕ) → Kept kept → Kept (kept_after_death kept owner)
   dies = grind arith
 
-  -- all that is owed for the measure holds of the calls that do not lock, in a set of an
-  -- admitted capacity
+  -- all that is owed for the measure holds of the calls that do not lock, in a set of an admitted capacity
   laws : capacity_error kinds.Robust c ≡ None → TableLaws outline code c
   laws admitted =
       record {

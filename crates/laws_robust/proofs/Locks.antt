@@ -53,8 +53,7 @@ module _ {T : Type 0} (scene : Scene T) (inv : Inv scene) where
     still_owned : IsCalm by (events ++ es) → AreOwned (events ++ es)
     still_owned = grind (arith, calm_less, same_filled, same_holder, same_settled, same_right)
 
-    -- a step that sets the counter to locked, while nobody holds an index, does to the set what
-    -- it may
+    -- a step that sets the counter to locked, while nobody holds an index, does to the set what it may
     pub locks : Does scene words' (Locked p ∷ more)
     locks =
         record {
@@ -68,7 +67,7 @@ module _ {T : Type 0} (scene : Scene T) (inv : Inv scene) where
                 filled = λ i owner e. g.filled i owner (sym (same_filled i) ∙ e);
                 lock = eq-eqb (counter_of words') locked shut ∙ sym now_locked;
                 low = λ t. both_ways (is_locked (events ++ es)) t now_locked;
-                bound = let is = shut in omega arith;
+                bound = omega (arith, shut);
                 died = λ o. g.died o ∙ sym (same_dead o);
                 does = Each-append (SetDoes c) events es g.does (unlocked scene inv (not_shut scene inv less), right);
                 answers =
@@ -82,13 +81,12 @@ module _ {T : Type 0} (scene : Scene T) (inv : Inv scene) where
                     Each-append HoldsRight events es (g.holds less) (none less, quiet.holds (events ++ Locked p ∷ []));
               };
           goes =
-              let is = shut in
               let bound = g.bound in
               let filled = same_filled in
               let holder = same_holder in
               let dead = same_dead in
               let well_formed = well_formed_less events es in
-              grind arith;
+              grind (arith, shut);
           spares = λ q ne.
               record {
                 none = others_begin_none q p es ne (refl, own);

@@ -25,8 +25,7 @@ module _ {T : Type 0} (scene : Scene T) (inv : Inv scene) where
   abbrev ws : List ℕ
   ws = scene.set.words
 
-  -- so many were filled: none before the first index, as many past an empty cell, and one more
-  -- past a filled one
+  -- so many were filled: none before the first index, as many past an empty cell, and one more past a filled one
   said : IsSaid scene inv (Borrowed (now scene))
   said =
       record {

@@ -1,4 +1,4 @@
--- A measure of the calls of a robust index set that do not lock, and that each step and each decision of them falls.
+-- A measure of the calls of a robust index set that do not lock. It falls with each step and each decision of them.
 use Rattle.std.proofs.Common.{◌≡◌, ℕ, ◌+◌, ◌-◌, ◌*◌, ◌≤◌, ◌==◌, inl, inr, nat_lt, Bool, true, false, cond}
 use Rattle.std.proofs.Common.{List, get_or, set, get_or-set_other, refl, sym, subst, arith}
 use Rattle.std.proofs.lemmas.Bool.Decides.{nat_tests}
@@ -182,7 +182,7 @@ module _ {T : Type 0} where
         measure = λ code c. measure c;
       }
 
--- ---- each step falls
+-- ---- the measure falls with each step
 
 module _ {T : Type 0} (code : Coding T) (c : ℕ) (words : List ℕ) where
   abbrev pub M : WordMeasure T
@@ -214,6 +214,7 @@ module _ {T : Type 0} (code : Coding T) (c : ℕ) (words : List ℕ) where
       (as_acquire (acquire_sees (record { capacity = c; stage = stage }) now) owner)
   acquire_sees_falls new owner stage same enough = go (now == locked) refl (now == greatest) refl (nat_lt 0 c) refl
     where
+      -- the cases are whether the counter is locked, whether the counter is at its end and whether there is a place
       go : (t : Bool) → (now == locked) ≡ t → (u : Bool) → (now == greatest) ≡ u → (v : Bool) → nat_lt 0 c ≡ v
           → FallsIn M words new 1 (flights.Robust (acquire_at c owner stage))
           (as_acquire (acquire_sees (record { capacity = c; stage = stage }) now) owner)
@@ -222,7 +223,7 @@ module _ {T : Type 0} (code : Coding T) (c : ℕ) (words : List ℕ) where
       go false t false u true v = let self = same_is now in rw (t, u, v) (inl (same, rw self (omega arith), omega arith))
       go false t false u false v = let self = same_is now in rw (t, u, v) (inl (same, rw self (omega arith), omega arith))
 
-  -- each step of an acquire falls
+  -- the measure falls with each step of an acquire
   acquire_falls : (owner : ℕ) (stage : AcquireStage) → Shown (acquire_at c owner stage)
   acquire_falls owner acquires.LoadsCounter =
       acquire_sees_falls _ owner acquires.LoadsCounter (load_leaves words 0) (omega arith)
@@ -232,6 +233,7 @@ module _ {T : Type 0} (code : Coding T) (c : ℕ) (words : List ℕ) where
       stage : AcquireStage
       stage = acquires.FillsCell counter index
 
+      -- the cases are whether the cell is empty, whether a further index follows and whether the counter is still what was read
       go : (t : Bool) → (get_or words (cell_word index) 0 == empty) ≡ t → (u : Bool) → nat_lt (index + 1) c ≡ u
           → (v : Bool) → (now == counter) ≡ v → Shown (acquire_at c owner stage)
       go true t u e true v = rw t (inr (rw v (omega arith), inl (cell_leaves index owner, omega arith)))
@@ -251,6 +253,7 @@ module _ {T : Type 0} (code : Coding T) (c : ℕ) (words : List ℕ) where
       rw t (acquire_sees_falls _ owner (acquires.ChecksCounter counter) (load_leaves words 0) (rw t (omega arith))))
   acquire_falls owner (acquires.Raises index raises.LoadsCounter) = go (now == locked) refl (now == greatest) refl
     where
+      -- the cases are whether the counter is locked and whether the counter is at its end
       go : (t : Bool) → (now == locked) ≡ t → (u : Bool) → (now == greatest) ≡ u
           → Shown (acquire_at c owner (acquires.Raises index raises.LoadsCounter))
       go true t u e = rw t tt
@@ -259,6 +262,7 @@ module _ {T : Type 0} (code : Coding T) (c : ℕ) (words : List ℕ) where
   acquire_falls owner (acquires.Raises index (raises.ExchangesCounter counter)) =
       go (now == counter) refl (now == locked) refl (now == greatest) refl
     where
+      -- the cases are whether the counter is still what was read, whether the counter is locked and whether the counter is at its end
       go : (s : Bool) → (now == counter) ≡ s → (t : Bool) → (now == locked) ≡ t → (u : Bool) → (now == greatest) ≡ u
           → Shown (acquire_at c owner (acquires.Raises index (raises.ExchangesCounter counter)))
       go true s t e u f = rw s tt
@@ -268,7 +272,7 @@ module _ {T : Type 0} (code : Coding T) (c : ℕ) (words : List ℕ) where
 
   -- ---- a release
 
-  -- each step of a release that does not lock falls
+  -- the measure falls with each step of a release that does not lock
   release_falls : (index owner : ℕ) (stage : ReleaseStage) → ReleaseStands stage → Shown (release_at c index owner stage)
   release_falls index owner releases.EmptiesCell stands =
       by_bool (get_or words (cell_word index) 0 == owner)
@@ -276,6 +280,7 @@ module _ {T : Type 0} (code : Coding T) (c : ℕ) (words : List ℕ) where
       (λ t. rw t tt)
   release_falls index owner (releases.Raises raises.LoadsCounter) stands = go (now == locked) refl (now == greatest) refl
     where
+      -- the cases are whether the counter is locked and whether the counter is at its end
       go : (t : Bool) → (now == locked) ≡ t → (u : Bool) → (now == greatest) ≡ u
           → Shown (release_at c index owner (releases.Raises raises.LoadsCounter))
       go true t u e = rw t tt
@@ -284,6 +289,7 @@ module _ {T : Type 0} (code : Coding T) (c : ℕ) (words : List ℕ) where
   release_falls index owner (releases.Raises (raises.ExchangesCounter counter)) stands =
       go (now == counter) refl (now == locked) refl (now == greatest) refl
     where
+      -- the cases are whether the counter is still what was read, whether the counter is locked and whether the counter is at its end
       go : (s : Bool) → (now == counter) ≡ s → (t : Bool) → (now == locked) ≡ t → (u : Bool) → (now == greatest) ≡ u
           → Shown (release_at c index owner (releases.Raises (raises.ExchangesCounter counter)))
       go true s t e u f = rw s tt
@@ -294,10 +300,11 @@ module _ {T : Type 0} (code : Coding T) (c : ℕ) (words : List ℕ) where
 
   -- ---- a find
 
-  -- each step of a find falls
+  -- the measure falls with each step of a find
   find_falls : (owner : ℕ) (stage : FindStage) → Shown (find_at c owner stage)
   find_falls owner (finds.LoadsCell index found) = go (get_or words (cell_word index) 0 == owner) refl (nat_lt (index + 1) c) refl
     where
+      -- the cases are whether the cell has the owner and whether a further index follows
       go : (t : Bool) → (get_or words (cell_word index) 0 == owner) ≡ t → (u : Bool) → nat_lt (index + 1) c ≡ u
           → Shown (find_at c owner (finds.LoadsCell index found))
       go true t u e = rw t (inl (load_leaves words (cell_word index), omega arith, omega arith))
@@ -309,10 +316,11 @@ module _ {T : Type 0} (code : Coding T) (c : ℕ) (words : List ℕ) where
 
   -- ---- a number of borrowed indices
 
-  -- each step of a count falls
+  -- the measure falls with each step of a count
   borrowed_falls : (count : Count) → Shown (borrowed_at c count)
   borrowed_falls counts.LoadsCounter = go (now == locked) refl (nat_lt 0 c) refl (now == greatest) refl
     where
+      -- the cases are whether the counter is locked, whether there is a place and whether the counter is at its end
       go : (t : Bool) → (now == locked) ≡ t → (u : Bool) → nat_lt 0 c ≡ u → (v : Bool) → (now == greatest) ≡ v
           → Shown (borrowed_at c counts.LoadsCounter)
       go true t u e v f = rw t tt
@@ -321,6 +329,7 @@ module _ {T : Type 0} (code : Coding T) (c : ℕ) (words : List ℕ) where
       go false t false u false v = let self = same_is now in rw (t, u, v) (inl (load_leaves words 0, rw self (omega arith), omega arith))
   borrowed_falls (counts.LoadsCell counter index filled) = go (nat_lt (index + 1) c) refl (counter == greatest) refl (now == counter) refl
     where
+      -- the cases are whether a further index follows, whether the counter that was read is at its end and whether the counter is still what was read
       go : (u : Bool) → nat_lt (index + 1) c ≡ u → (v : Bool) → (counter == greatest) ≡ v → (t : Bool) → (now == counter) ≡ t
           → Shown (borrowed_at c (counts.LoadsCell counter index filled))
       go true u v e true t =
@@ -353,10 +362,11 @@ module _ {T : Type 0} (code : Coding T) (c : ℕ) (words : List ℕ) where
       rw u (inl (same, omega arith, omega arith)))
       (λ u. rw u (inl (same, omega arith, omega arith)))
 
-  -- each step of a recovery that does not lock falls
+  -- the measure falls with each step of a recovery that does not lock
   recover_falls : (stage : RecoverStage) → RecoverStands stage → Shown (recover_at c stage)
   recover_falls recovers.LoadsCounter stands = go (now == locked) refl (nat_lt 0 c) refl
     where
+      -- the cases are whether the counter is locked and whether there is a place
       go : (t : Bool) → (now == locked) ≡ t → (u : Bool) → nat_lt 0 c ≡ u → Shown (recover_at c recovers.LoadsCounter)
       go true t u e = rw t tt
       go false t true u = rw (t, u) (inl (load_leaves words 0, omega arith, omega arith))
@@ -380,6 +390,7 @@ module _ {T : Type 0} (code : Coding T) (c : ℕ) (words : List ℕ) where
       stage : RecoverStage
       stage = recovers.Raises index raises.LoadsCounter
 
+      -- the cases are whether the counter is locked and whether the counter is at its end
       go : (t : Bool) → (now == locked) ≡ t → (u : Bool) → (now == greatest) ≡ u → Shown (recover_at c stage)
       go true t u e = rw t tt
       go false t true u = rw (t, u) (comes_fall _ 1 index stage (load_leaves words 0) (omega arith) (omega arith) (omega arith))
@@ -390,6 +401,8 @@ module _ {T : Type 0} (code : Coding T) (c : ℕ) (words : List ℕ) where
       stage : RecoverStage
       stage = recovers.Raises index (raises.ExchangesCounter counter)
 
+      -- the cases are whether the counter is still what was read, whether the counter is locked, whether the counter is
+      -- at its end and whether a further index follows
       go : (s : Bool) → (now == counter) ≡ s → (t : Bool) → (now == locked) ≡ t → (u : Bool) → (now == greatest) ≡ u
           → (v : Bool) → nat_lt (index + 1) c ≡ v → Shown (recover_at c stage)
       go true s t e u f true v =
@@ -402,7 +415,7 @@ module _ {T : Type 0} (code : Coding T) (c : ℕ) (words : List ℕ) where
   recover_falls (recovers.Locks index lock) stands = absurd stands
   recover_falls recovers.LoadsCounterAgain stands = tt
 
-  -- each step of any call that does not lock falls
+  -- the measure falls with each step of any call that does not lock
   pub call_falls : (flight : RobustFlight) → CallStands c flight → Shown flight
   call_falls (calls.Acquire run) at =
       subst (λ n. Shown (acquire_at n run.given run.call.stage)) (sym at) (acquire_falls run.given run.call.stage)

@@ -96,12 +96,12 @@ module _ {T : Type 0} where
   pub reached_open_sound : (t : Trace T) → t.world.kind ≡ kinds.Robust → IsReachedOpen t
       → frame.Sound (family_by Word t.world.coding t.world.capacity) t
   reached_open_sound t is reached_open =
-      let w = t.world in
-      kept_by open_refusal (frame.Sound (family_by Word w.coding w.capacity))
-      (λ u turn e s. open_turn_sound w.coding w.capacity u turn e s) t
+      let world = t.world in
+      kept_by open_refusal (frame.Sound (family_by Word world.coding world.capacity))
+      (λ u turn e s. open_turn_sound world.coding world.capacity u turn e s) t
       (opening_there (outline Word) (May Word) (all_turns Word) t is reached_open.coded reached_open.admitted) reached_open
 
-  -- and nobody dies
+  -- in an open run nobody dies
   pub reached_open_lives : (t : Trace T) → t.world.kind ≡ kinds.Robust → IsReachedOpen t → AllLive t.events
   reached_open_lives t is reached_open =
       let code = t.world.coding in

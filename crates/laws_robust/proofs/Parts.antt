@@ -45,7 +45,7 @@ more_if n t = grind arith
 
 -- where the counter is at its end none locks
 none_locks : {X : Type 0} (P : X → Type 0) (a b : X) (zero last : Bool) → last ≡ true → P b → P (if zero && not last then a else b)
-none_locks h a b zero last last_is_true k = grind arith
+none_locks h a b zero last is_last k = grind arith
 
 module _ {T : Type 0} (scene : Scene T) (inv : Inv scene) where
   open scene use {by as by, capacity as c, party as p, steps as steps, backs as backs, turns as turns, events as events}
@@ -150,8 +150,7 @@ module _ {T : Type 0} (scene : Scene T) (inv : Inv scene) where
 
   -- ---- a count, which says this where it has come to so many cells and found so many filled
 
-  -- it is so before the first cell, and goes on to be so past an empty cell and past a filled
-  -- one
+  -- it is so before the first cell, and goes on to be so past an empty cell and past a filled one
   pub record IsSaid (Says : ℕ → ℕ → Type 0) : Type 0 where
     pub none : Says 0 0
     pub empty_next : (k filled : ℕ) → k < c → filled_of k events ≡ None → Says k filled → Says (k + 1) filled
@@ -185,6 +184,7 @@ module _ {T : Type 0} (scene : Scene T) (inv : Inv scene) where
           → filled ≤ c → Says c filled → IsPaid (sees scene ask false) → CountSteps count (2 + c) ask false
           → Lead ask false (Done (ends.Filled filled greatest))
 
+      -- all cells are loaded, and the counter is moved on by the count
       abbrev pub CountEnds : Count → Type 0
       CountEnds count =
           (filled : ℕ) (ask : Option Ask) → counter_of ws < greatest
@@ -208,7 +208,7 @@ module _ {T : Type 0} (scene : Scene T) (inv : Inv scene) where
         same_counter = ap counter_of same
 
         low : number ≤ counter_of (words_after ws ask)
-        low = let is = same_counter in omega arith
+        low = omega (arith, same_counter)
 
         -- a count that has come to one cell more goes to the next, or to its end
         count_comes : Lead ask false (count_comes_to c number (k + 1) new)

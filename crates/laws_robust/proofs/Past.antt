@@ -23,6 +23,7 @@ module _ {T : Type 0} (p : ℕ) where
   begins_one (Begun q s ∷ bs) start since begins_none = begins_one bs start since begins_none.1
   begins_one (e ∷ bs) start since begins_none = begins_one bs start since begins_none
 
+  -- a party that begins nothing in a run begins nothing in its first part
   begins_none_less : (es more : List (Event T)) → BeginsNone p (es ++ more) → BeginsNone p es
   begins_none_less [] more begins_none = tt
   begins_none_less (Begun q s ∷ es) more begins_none = (begins_none.0, begins_none_less es more begins_none.1)
@@ -49,8 +50,8 @@ module _ {T : Type 0} (p : ℕ) where
       record { since = xs; is = ap (λ (a : Event T). a ∷ xs) h; within = begins_none_less xs es (subst (BeginsNone p) t within) }
   began_earlier (x ∷ xs) es (b ∷ bs) start since e none within =
       let h : x ≡ b = cc in
-      let t : xs ++ es ≡ bs ++ Begun p start ∷ since = cc in
-      one_behind x b xs bs start h (began_earlier xs es bs start since t none within)
+      let joined : xs ++ es ≡ bs ++ Begun p start ∷ since = cc in
+      one_behind x b xs bs start h (began_earlier xs es bs start since joined none within)
 
   -- what stood before a call began, in a run that has gone on
   pub since_less : (P : List (Event T) → Type 0) (events es : List (Event T)) → BeginsNone p es
@@ -59,8 +60,7 @@ module _ {T : Type 0} (p : ℕ) where
       let k = began_earlier events es h.before h.start h.since h.is none h.within in
       record { before = h.before; start = h.start; since = k.since; is = k.is; within = k.within; holds = h.holds }
 
-  -- where a run ends with a begin of the party, its last begin is that one, and what was before
-  -- is the run without it
+  -- where a run ends with a begin of the party, its last begin is that one, and what was before is the run without it
   last_begin : (events before : List (Event T)) (start s : Start T) (since : List (Event T))
       → events ++ Begun p start ∷ [] ≡ before ++ Begun p s ∷ since → BeginsNone p since → events ≡ before
   last_begin [] [] start s since e within = refl
@@ -72,11 +72,11 @@ module _ {T : Type 0} (p : ℕ) where
       absurd (begins_one xs start [] (subst (BeginsNone p) t within))
   last_begin (x ∷ xs) (b ∷ bs) start s since e within =
       let h : x ≡ b = cc in
-      let t : xs ++ Begun p start ∷ [] ≡ bs ++ Begun p s ∷ since = cc in
-      let rest : xs ≡ bs = last_begin xs bs start s since t within in
+      let joined : xs ++ Begun p start ∷ [] ≡ bs ++ Begun p s ∷ since = cc in
+      let rest : xs ≡ bs = last_begin xs bs start s since joined within in
       ap (λ (a : Event T). a ∷ xs) h ∙ ap (λ (ys : List (Event T)). b ∷ ys) rest
 
-  -- of a call that has just begun
+  -- what was so as the latest call began is so of the run before a call that has just begun
   pub since_begun : (P : List (Event T) → Type 0) (events : List (Event T)) (start : Start T)
       → SinceBegin p (λ part since. P part) (events ++ Begun p start ∷ []) → P events
   since_begun = grind (arith, last_begin)

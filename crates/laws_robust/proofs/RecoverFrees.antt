@@ -215,8 +215,7 @@ module _ {T : Type 0} (scene : Scene T) (inv : Inv scene) (mode : ReleaseMode) (
                 (λ i o e. absurd (cc));
           })
 
-    -- the step in which a recovery empties the cell shows what it has to, whether it finds the
-    -- owner or not
+    -- the step in which a recovery empties the cell shows what it has to, whether it finds the owner or not
     pub empties_cell : StepOf scene (Recover mode) (recover_at c mode (recovers.EmptiesCell index owner))
     empties_cell =
         on_bool (λ b. Lead (Some (exchanges (cell_word index) owner empty)) false
@@ -224,7 +223,7 @@ module _ {T : Type 0} (scene : Scene T) (inv : Inv scene) (mode : ReleaseMode) (
         (if b then GoOn (at_recover (call_at (recovers.EmptiesCell index owner)) (recovers.Raises index raises.LoadsCounter))
         else recover_comes_to (call_at (recovers.EmptiesCell index owner)) (index + 1)))
         (cell ws index == owner)
-        (λ t. let is : cell ws index ≡ owner = grind (arith, nat_tests) in empties is)
+        (λ t. let has_owner : cell ws index ≡ owner = grind (arith, nat_tests) in empties has_owner)
         (λ t. let other : cell ws index ≢ owner = grind (arith, nat_tests) in misses other)
 
   -- ---- the second look at the counter
@@ -280,8 +279,7 @@ module _ {T : Type 0} (scene : Scene T) (inv : Inv scene) (mode : ReleaseMode) (
         back here stays few (refl, refl, (course, just, e, tt))
         (record { paid = paid; scanned = tt; owns = tt; says = k.says; gone = k.gone })
 
-    -- the step in which a recovery raises the counter leads on: to the lock in its mode, or to
-    -- the next index
+    -- the step in which a recovery raises the counter leads on: to the lock in its mode, or to the next index
     pub raises_step : raises_to (Some (raise_ask raise)) (raise_goes_back raise (counter_of ws)) (raise_after raise (counter_of ws))
     raises_step =
         let one = at_least_one c mode in

@@ -79,8 +79,7 @@ module _ {T : Type 0} (scene : Scene T) (inv : Inv scene) (mode : ReleaseMode) (
       stands_there : AllFollow (Stands promise c) (Open (Robust (Recover mode)) (wrote_of p events)) locking
       stands_there = grind (arith, promise)
 
-      -- a recovery that locks the set goes to the next index, or to the second look at the
-      -- counter
+      -- a recovery that locks the set goes to the next index, or to the second look at the counter
       locks_set : Lead ask false locking (recover_comes_to (call_at (recovers.Locks index lock)) (index + 1))
       locks_set =
           comes_loudly scene inv mode here index course.within (recovers.Locks index lock) ask false few
@@ -122,8 +121,7 @@ module _ {T : Type 0} (scene : Scene T) (inv : Inv scene) (mode : ReleaseMode) (
 
   -- ---- any step
 
-  -- any step of a recovery that stands at a stage, and knows what the stage tells, shows what
-  -- it has to
+  -- any step of a recovery that stands at a stage, and knows what the stage tells, shows what it has to
   pub recover_step : (stage : RecoverStage) → RecoverAt c mode (all scene) stage
       → Knows c (recover_at c mode stage) (now scene) → steps ≤ recover_number c mode stage backs
       → StepOf scene (Recover mode) (recover_at c mode stage)

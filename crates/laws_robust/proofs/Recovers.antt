@@ -62,8 +62,7 @@ module _ {T : Type 0} (scene : Scene T) (inv : Inv scene) (mode : ReleaseMode) (
 
   -- ---- the end
 
-  -- a recovery ends with a state that is right, in a step that leaves all words but the
-  -- counter, and within its steps
+  -- a recovery ends with a state that is right, in a step that leaves all words but the counter, and within its steps
   pub ends_so : (state : ReleaseState) (ask : Option Ask) (back : Bool) → Stays scene (words_after ws ask)
       → AnswersBy by (IsWorn by (words_after ws ask)) c events (Finished p (Robust (Recover mode)) (State state))
       → steps + step_count ask ≤ 2 + c * for_index c mode + backs_then scene back * for_back c mode
@@ -108,8 +107,7 @@ module _ {T : Type 0} (scene : Scene T) (inv : Inv scene) (mode : ReleaseMode) (
         (freed : FreedWereAsked (done ++ set_acts (did ++ [])))
         (open_once : WasOpen (then_sees scene ask back (did ++ [])))
         (says : AskedBelow (index + 1) (then_sees scene ask back (did ++ []))) (gone : GoneBut (λ i o. ⊥) (then_sees scene ask back (did ++ []))) where
-      -- a step that writes an event brings a recovery to the next index, or to the second look
-      -- at the counter
+      -- a step that writes an event brings a recovery to the next index, or to the second look at the counter
       pub comes_loudly : Lead ask back did (recover_comes_to (call_at stage) (index + 1))
       comes_loudly =
           by_test (λ s. Lead ask back did (GoOn (at_recover (call_at stage) s))) (nat_lt (index + 1) c)
@@ -140,7 +138,7 @@ module _ {T : Type 0} (scene : Scene T) (inv : Inv scene) (mode : ReleaseMode) (
     open_then was_open = held_later p IsUnlocked events es begins was_open
 
     still_one_then : (one : SetAct) → IsOneOf one done → IsOneOf one (set_acts_of p (events ++ es))
-    still_one_then one is_one_of_holds = subst (IsOneOf one) (sym more) (still_one one d done is_one_of_holds)
+    still_one_then one is_one = subst (IsOneOf one) (sym more) (still_one one d done is_one)
 
     pub asked_then : (k : ℕ) → AskedBelow k (now scene) → (i owner : ℕ) → i < k
         → HeldThroughout p (StillToFree p owner i) (events ++ es) → IsOneOf (Asks i owner) (set_acts_of p (events ++ es))
@@ -167,8 +165,7 @@ module _ {T : Type 0} (scene : Scene T) (inv : Inv scene) (mode : ReleaseMode) (
 
   -- ---- the load of the counter
 
-  -- the step in which a recovery loads the counter leads on: it ends locked, or goes to the
-  -- first index
+  -- the step in which a recovery loads the counter leads on: it ends locked, or goes to the first index
   pub loads_counter : done ≡ [] → steps ≤ 0
       → Knows c (recover_at c mode recovers.LoadsCounter) (now scene)
       → StepOf scene (Recover mode) (recover_at c mode recovers.LoadsCounter)
@@ -298,8 +295,7 @@ module _ {T : Type 0} (scene : Scene T) (inv : Inv scene) (mode : ReleaseMode) (
                 (λ i o. ⊥) k.gone (λ i o never. absurd never) (λ i o e. absurd (cc));
           })
 
-    -- the step in which a recovery loads a cell shows what it has to, whether it is empty or
-    -- not
+    -- the step in which a recovery loads a cell shows what it has to, whether it is empty or not
     pub loads_cell : StepOf scene (Recover mode) (recover_at c mode (recovers.LoadsCell index))
     loads_cell =
         on_bool (λ b. Lead (Some (loads (cell_word index))) false (if b then [] else Asked p index (cell ws index) ∷ [])

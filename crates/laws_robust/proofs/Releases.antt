@@ -131,8 +131,7 @@ module _ {T : Type 0} (scene : Scene T) (inv : Inv scene) (index owner : ℕ) (f
         → StepAt scene inv index owner mode fits below lives began 0 (Lead mode) caller stage
     held = held_step scene inv index owner mode fits below lives began 0 (Lead mode) caller
 
-    -- any step of a release that stands at a stage, and knows what the stage tells, shows what
-    -- it has to
+    -- any step of a release that stands at a stage, and knows what the stage tells, shows what it has to
     pub release_step : (stage : ReleaseStage) → ReleaseAt c index owner mode (all scene) stage
         → Knows c (release_at c index owner mode stage) (now scene) → steps ≤ release_number c mode stage backs
         → StepOf scene (Release index owner mode) (release_at c index owner mode stage)

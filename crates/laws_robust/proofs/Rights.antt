@@ -17,9 +17,8 @@ taken_by p owner (Settled other) = if other == owner then By p else Settled othe
 taken_by p owner (By q) = By q
 
 module _ {T : Type 0} where
-  -- a fill gives the right to its party; the end of that call settles the index for its owner;
-  -- then a release for him, or a remove, gives it to its party as it begins; and a free takes
-  -- it
+  -- a fill gives the right to its party; the end of that call settles the index for its owner; then a release for him,
+  -- or a remove, gives it to its party as it begins; and a free takes it
   abbrev pub right_after : ℕ → Right → Event T → Right
   right_after i right (Filled p index owner) = if index == i then By p else right
   right_after i right (Finished p (Robust (Acquire owner)) (Index index)) =

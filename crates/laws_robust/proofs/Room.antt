@@ -1,5 +1,5 @@
--- A measure of every call of a robust index set, by the room that its counter has left: each step that leaves the counter falls,
--- and each that moves it leaves less room.
+-- A measure of every call of a robust index set, by the room that its counter has left. It falls with each step that leaves
+-- the counter as it is. Each step that moves the counter leaves less room.
 use Rattle.std.proofs.Common.{◌≡◌, ◌≢◌, ℕ, ◌+◌, ◌-◌, ◌*◌, ◌^◌, ◌≤◌, ◌<◌, ◌==◌, ◌⊎◌, inl, inr, nat_lt, Bool, true, false, cond, if◌then◌else◌}
 use Rattle.std.proofs.Common.{refl, sym, subst, arith, ◌∙◌}
 use Rattle.std.proofs.lemmas.Bool.Decides.{nat_tests}
@@ -80,7 +80,7 @@ rises k other =
     next_low : one_more k ≤ locked
     next_low = omega arith
 
--- and a lock leaves none
+-- a counter that is locked has less room
 pub shuts : (k : ℕ) → (k == locked) ≡ false → room locked + 1 ≤ room k
 shuts k other =
     by_bool (nat_lt locked k)
@@ -106,7 +106,7 @@ module _ (c : ℕ) where
   release_left now (releases.Raises raise) = raise_left now raise + (c - 1 + 3)
   release_left now (releases.Locks lock) = lock_left now lock
 
-  -- for the indices after this one
+  -- the steps that the indices after this one take
   abbrev pub rest : ℕ → ℕ
   rest index = (c - (index + 1)) * (c - 1 + 7)
 
@@ -187,12 +187,14 @@ module _ (c n new : ℕ) where
   pub raise_to : (raise : Raise) → RaiseAt raise → new ≡ raise_then raise n → RaiseTo raise (raise_after raise n)
   raise_to raises.LoadsCounter at is = go (n == locked) refl (n == greatest) refl
     where
+      -- the cases are whether the counter is locked and whether the counter is at its end
       go : (t : Bool) → (n == locked) ≡ t → (u : Bool) → (n == greatest) ≡ u → RaiseTo raises.LoadsCounter (raise_sees n)
       go true t u e = rw t (inl is)
       go false t true u = rw (t, u) (inl is)
       go false t false u = let me = self in rw (t, u) (is, rw me (omega arith))
   raise_to (raises.ExchangesCounter k) at is = go (n == k) refl (n == locked) refl (n == greatest) refl
     where
+      -- the cases are whether the counter is still what was read, whether the counter is locked and whether the counter is at its end
       go : (s : Bool) → (n == k) ≡ s → (t : Bool) → (n == locked) ≡ t → (u : Bool) → (n == greatest) ≡ u
           → RaiseTo (raises.ExchangesCounter k) (raise_after (raises.ExchangesCounter k) n)
       go true s t e u f =
@@ -214,6 +216,7 @@ module _ (c n new : ℕ) where
   count_to : (count : Count) (cell : ℕ) → CountAt count → new ≡ count_then count n → CountTo count (count_after c count (count_old count n cell))
   count_to counts.LoadsCounter cell at is = go (n == locked) refl (nat_lt 0 c) refl (n == greatest) refl
     where
+      -- the cases are whether the counter is locked, whether there is a place and whether the counter is at its end
       go : (t : Bool) → (n == locked) ≡ t → (u : Bool) → nat_lt 0 c ≡ u → (v : Bool) → (n == greatest) ≡ v
           → CountTo counts.LoadsCounter (count_after c counts.LoadsCounter n)
       go true t u e v f = rw t (inl is)
@@ -222,6 +225,7 @@ module _ (c n new : ℕ) where
       go false t false u false v = let me = self in rw (t, u, v) (is, rw me (omega arith))
   count_to (counts.LoadsCell k index filled) cell at is = go (nat_lt (index + 1) c) refl (k == greatest) refl (n == k) refl
     where
+      -- the cases are whether a further index follows, whether the counter that was read is at its end and whether the counter is still what was read
       go : (u : Bool) → nat_lt (index + 1) c ≡ u → (v : Bool) → (k == greatest) ≡ v → (t : Bool) → (n == k) ≡ t
           → CountTo (counts.LoadsCell k index filled) (count_after c (counts.LoadsCell k index filled) cell)
       go true u v e true t = let less : index + 2 ≤ c = grind (arith, nat_tests) in rw u (is, rw t (omega arith))
@@ -244,25 +248,27 @@ module _ (c n new : ℕ) where
 
   -- a lock whose count has a step less has one less itself, or the counter has less room
   counted_to : (count : Count) (a : After Count Counted) → CountTo count a → LockTo (locks.Counts count) (lock_counted a)
-  counted_to count (GoOn next) count_to_holds = inl count_to_holds
-  counted_to count (Done ends.Locked) count_to_holds = count_to_holds
-  counted_to count (Done (ends.Filled filled counter)) count_to_holds = go (filled == 0) refl (counter == greatest) refl count_to_holds
+  counted_to count (GoOn next) count_falls = inl count_falls
+  counted_to count (Done ends.Locked) count_falls = count_falls
+  counted_to count (Done (ends.Filled filled counter)) count_falls = go (filled == 0) refl (counter == greatest) refl count_falls
     where
+      -- the cases are whether no cell was found filled and whether the counter that was read is at its end
       go : (z : Bool) → (filled == 0) ≡ z → (g : Bool) → (counter == greatest) ≡ g
           → (((new ≡ n) × ((counter == greatest) ≡ true)) ⊎ (room new + 1 ≤ room n))
           → LockTo (locks.Counts count) (lock_counted (Done (ends.Filled filled counter)))
-      go false z g e (inl count_to_holds) = rw z (inl count_to_holds.0)
-      go false z g e (inr count_to_holds) = rw z (inr count_to_holds)
-      go true z true g (inl count_to_holds) = rw (z, g) (inl count_to_holds.0)
-      go true z true g (inr count_to_holds) = rw (z, g) (inr count_to_holds)
-      go true z false g (inl count_to_holds) = let both : false ≡ true = sym g ∙ count_to_holds.1 in absurd (cc)
-      go true z false g (inr count_to_holds) = rw (z, g) (inr count_to_holds)
+      go false z g e (inl same_counter) = rw z (inl same_counter.0)
+      go false z g e (inr less_room) = rw z (inr less_room)
+      go true z true g (inl same_counter) = rw (z, g) (inl same_counter.0)
+      go true z true g (inr less_room) = rw (z, g) (inr less_room)
+      go true z false g (inl same_counter) = let both : false ≡ true = sym g ∙ same_counter.1 in absurd (cc)
+      go true z false g (inr less_room) = rw (z, g) (inr less_room)
 
   -- a step of a lock takes one of its own or leaves less room
   pub lock_to : (lock : Lock) (cell : ℕ) → LockAt lock → new ≡ lock_then lock n → LockTo lock (lock_after c lock (lock_old lock n cell))
   lock_to (locks.Counts count) cell at is = counted_to count (count_after c count (count_old count n cell)) (count_to count cell at is)
   lock_to (locks.ExchangesCounter k) cell at is = go (n == k) refl (n == locked) refl
     where
+      -- the cases are whether the counter is still what was read and whether the counter is locked
       go : (s : Bool) → (n == k) ≡ s → (t : Bool) → (n == locked) ≡ t
           → LockTo (locks.ExchangesCounter k) (lock_after c (locks.ExchangesCounter k) n)
       go true s true t =
@@ -284,6 +290,7 @@ module _ (c n new : ℕ) where
   acquire_sees_to : (call : acquiring.Acquire) → call.capacity ≡ c → new ≡ n → (was : ℕ) → c - 1 + 3 ≤ was → AcquireTo was (acquire_sees call n)
   acquire_sees_to call cap same was enough = go (n == locked) refl (n == greatest) refl (nat_lt 0 call.capacity) refl
     where
+      -- the cases are whether the counter is locked, whether the counter is at its end and whether there is a place
       go : (t : Bool) → (n == locked) ≡ t → (u : Bool) → (n == greatest) ≡ u → (v : Bool) → nat_lt 0 call.capacity ≡ v
           → AcquireTo was (acquire_sees call n)
       go true t u e v f = rw t tt
@@ -293,9 +300,9 @@ module _ (c n new : ℕ) where
 
   acquire_raises : (call : acquiring.Acquire) (index : ℕ) (raise : Raise) (a : After Raise ReleaseState) → RaiseTo raise a
       → AcquireTo (raise_left n raise) (acquire_raised call index a)
-  acquire_raises call index raise (GoOn next) raise_to_holds = inl raise_to_holds
-  acquire_raises call index raise (Done states.Locked) raise_to_holds = tt
-  acquire_raises call index raise (Done states.Unlocked) raise_to_holds = tt
+  acquire_raises call index raise (GoOn next) raise_falls = inl raise_falls
+  acquire_raises call index raise (Done states.Locked) raise_falls = tt
+  acquire_raises call index raise (Done states.Unlocked) raise_falls = tt
 
   -- a step of an acquire takes one of its own or leaves less room
   pub acquire_to : (call : acquiring.Acquire) (stage : AcquireStage) (cell : ℕ) → call.capacity ≡ c → AcquireAt stage → new ≡ acquire_then stage n
@@ -304,6 +311,7 @@ module _ (c n new : ℕ) where
       acquire_sees_to call cap is (acquire_left c n acquires.LoadsCounter) (omega arith)
   acquire_to call (acquires.FillsCell k index) cell cap at is = go (cell == empty) refl (nat_lt (index + 1) call.capacity) refl (n == k) refl
     where
+      -- the cases are whether the cell is empty, whether a further index follows and whether the counter is still what was read
       go : (t : Bool) → (cell == empty) ≡ t → (u : Bool) → nat_lt (index + 1) call.capacity ≡ u → (v : Bool) → (n == k) ≡ v
           → AcquireTo (acquire_left c n (acquires.FillsCell k index)) (acquire_takes call (acquires.FillsCell k index) cell)
       go true t u e true v = rw t (inl (is, rw v (omega arith)))
@@ -326,14 +334,14 @@ module _ (c n new : ℕ) where
 
   release_raises : (call : releasing.Release) (mode : ReleaseMode) (raise : Raise) (a : After Raise ReleaseState) → RaiseTo raise a
       → ReleaseTo (raise_left n raise + (c - 1 + 3)) (release_raised call mode a)
-  release_raises call mode raise (GoOn next) raise_to_holds = inl (raise_to_holds.0, (let le = raise_to_holds.1 in omega arith))
-  release_raises call Default raise (Done state) raise_to_holds = tt
-  release_raises call LockIfLastIndex raise (Done state) raise_to_holds = less_by 1 (raise_left n raise + (c - 1 + 3)) (c - 1 + 2) (omega arith) raise_to_holds
+  release_raises call mode raise (GoOn next) raise_falls = inl (raise_falls.0, omega (arith, raise_falls.1))
+  release_raises call Default raise (Done state) raise_falls = tt
+  release_raises call LockIfLastIndex raise (Done state) raise_falls = less_by 1 (raise_left n raise + (c - 1 + 3)) (c - 1 + 2) (omega arith) raise_falls
 
   release_locks : (call : releasing.Release) (lock : Lock) (a : After Lock ReleaseState) → LockTo lock a
       → ReleaseTo (lock_left c n lock) (release_locked call a)
-  release_locks call lock (GoOn next) lock_to_holds = lock_to_holds
-  release_locks call lock (Done state) lock_to_holds = tt
+  release_locks call lock (GoOn next) lock_falls = lock_falls
+  release_locks call lock (Done state) lock_falls = tt
 
   -- a step of a release takes one of its own or leaves less room
   pub release_to : (call : releasing.Release) (stage : ReleaseStage) (given : GiveBack) (cell : ℕ) → call.capacity ≡ c → ReleaseAt stage
@@ -354,8 +362,7 @@ module _ (c n new : ℕ) where
   RecoverTo steps was (GoOn next) = Less steps was (recover_left c n next.stage)
   RecoverTo steps was (Done state) = Unit {0}
 
-  -- a recovery with steps enough left comes to the next index, where the counter stays or has
-  -- less room
+  -- a recovery with steps enough left comes to the next index, where the counter stays or has less room
   recover_comes : (call : recovering.Recover) (index steps was : ℕ) → call.capacity ≡ c → rest c index + steps ≤ was → StaysOrMoves
       → RecoverTo steps was (recover_comes_to call (index + 1))
   recover_comes call index steps was cap enough stays_or_moves =
@@ -369,25 +376,27 @@ module _ (c n new : ℕ) where
   -- a recovery whose raise has a step less has one less itself, or the counter has less room
   recover_raises : (call : recovering.Recover) (index : ℕ) (mode : ReleaseMode) (raise : Raise) (a : After Raise ReleaseState) → call.capacity ≡ c
       → RaiseTo raise a → RecoverTo 1 (rest c index + (c - 1 + 4) + raise_left n raise) (recover_raised call index mode a)
-  recover_raises call index mode raise (GoOn next) cap raise_to_holds = inl (raise_to_holds.0, (let le = raise_to_holds.1 in omega arith))
-  recover_raises call index mode raise (Done states.Locked) cap raise_to_holds = tt
-  recover_raises call index Default raise (Done states.Unlocked) cap raise_to_holds =
-      recover_comes call index 1 (rest c index + (c - 1 + 4) + raise_left n raise) cap (omega arith) raise_to_holds
-  recover_raises call index LockIfLastIndex raise (Done states.Unlocked) cap raise_to_holds =
-      less_by 1 (rest c index + (c - 1 + 4) + raise_left n raise) (rest c index + 1 + (c - 1 + 2)) (omega arith) raise_to_holds
+  recover_raises call index mode raise (GoOn next) cap raise_falls = inl (raise_falls.0, omega (arith, raise_falls.1))
+  recover_raises call index mode raise (Done states.Locked) cap raise_falls = tt
+  recover_raises call index Default raise (Done states.Unlocked) cap raise_falls =
+      recover_comes call index 1 (rest c index + (c - 1 + 4) + raise_left n raise) cap (omega arith) raise_falls
+  recover_raises call index LockIfLastIndex raise (Done states.Unlocked) cap raise_falls =
+      less_by 1 (rest c index + (c - 1 + 4) + raise_left n raise) (rest c index + 1 + (c - 1 + 2)) (omega arith) raise_falls
 
+  -- a recovery whose lock has a step less has one less itself, or the counter has less room
   recover_locks : (call : recovering.Recover) (index : ℕ) (lock : Lock) (a : After Lock ReleaseState) → call.capacity ≡ c → LockTo lock a
       → RecoverTo 1 (rest c index + 1 + lock_left c n lock) (recover_locked call index a)
-  recover_locks call index lock (GoOn next) cap (inl h) = inl (h.0, (let le = h.1 in omega arith))
+  recover_locks call index lock (GoOn next) cap (inl h) = inl (h.0, omega (arith, h.1))
   recover_locks call index lock (GoOn next) cap (inr h) = inr h
-  recover_locks call index lock (Done state) cap lock_to_holds =
-      recover_comes call index 1 (rest c index + 1 + lock_left c n lock) cap (omega arith) lock_to_holds
+  recover_locks call index lock (Done state) cap lock_falls =
+      recover_comes call index 1 (rest c index + 1 + lock_left c n lock) cap (omega arith) lock_falls
 
   -- a step of a recovery takes one of its own, but for a question, or leaves less room
   pub recover_to : (call : recovering.Recover) (stage : RecoverStage) (mode : ReleaseMode) (cell : ℕ) → call.capacity ≡ c → RecoverAt stage
       → new ≡ recover_then stage n → RecoverTo (recover_steps stage) (recover_left c n stage) (recover_takes call stage mode (recover_old stage n cell))
   recover_to call recovers.LoadsCounter mode cell cap at is = go (n == locked) refl (nat_lt 0 call.capacity) refl
     where
+      -- the cases are whether the counter is locked and whether there is a place
       go : (t : Bool) → (n == locked) ≡ t → (u : Bool) → nat_lt 0 call.capacity ≡ u
           → RecoverTo 1 (recover_left c n recovers.LoadsCounter) (recover_takes call recovers.LoadsCounter mode n)
       go true t u e = rw t tt
@@ -444,9 +453,9 @@ module _ (c n new : ℕ) where
 
   borrows : (call : counting.BorrowedIndices) (count : Count) (a : After Count Counted) → CountTo count a
       → BorrowedTo (count_left c n count) (borrowed_counted call a)
-  borrows call count (GoOn next) count_to_holds = inl count_to_holds
-  borrows call count (Done ends.Locked) count_to_holds = tt
-  borrows call count (Done (ends.Filled filled counter)) count_to_holds = tt
+  borrows call count (GoOn next) count_falls = inl count_falls
+  borrows call count (Done ends.Locked) count_falls = tt
+  borrows call count (Done (ends.Filled filled counter)) count_falls = tt
 
   pub borrowed_to : (call : counting.BorrowedIndices) (cell : ℕ) → call.capacity ≡ c → CountAt call.count → new ≡ count_then call.count n
       → BorrowedTo (count_left c n call.count) (borrowed_counted call (count_after call.capacity call.count (count_old call.count n cell)))

@@ -1,4 +1,4 @@
--- Each step of each call of a robust index set falls by the measure of the room, whatever the mode. So calls keep ending in every run.
+-- The measure of the room falls with each step of each call of a robust index set, whatever the mode. So calls keep ending in every run.
 use Rattle.std.proofs.Common.{◌≡◌, ℕ, ◌+◌, ◌-◌, ◌*◌, ◌^◌, ◌≤◌, ◌<◌, ◌==◌, inl, inr, Bool, true, Option, Some, None}
 use Rattle.std.proofs.Common.{List, length, get_or, refl, sym, subst, arith}
 use Rattle.steps.specs.Indices.Robust.Acquire.{Acquired, acquire_takes}
@@ -95,7 +95,7 @@ module _ (c now : ℕ) where
   lock_most (locks.Counts count) = count_most count
   lock_most (locks.ExchangesCounter k) = one_of _ 0 (c - 1 + 3) (2 * (c - 1) + 4) (omega arith) (omega arith)
 
-  -- an acquire has no more steps left than twice the indices but one, and four
+  -- an acquire of a set of c indices has at most 2 * (c - 1) + 4 steps left
   acquire_most : (stage : AcquireStage) → acquire_left c now stage ≤ 2 * (c - 1) + 4
   acquire_most acquires.LoadsCounter = omega arith
   acquire_most (acquires.FillsCell k index) =
@@ -144,31 +144,30 @@ module _ (T : Type 0) (c n new : ℕ) where
 
   acquires_so : (owner : ℕ) (was : ℕ) (a : After acquiring.Acquire Acquired) → AcquireTo c n new was a
       → CallTo 1 was (as_call calls.Acquire acquire_answer (went_on as_it_is owner tt a))
-  acquires_so owner was (GoOn next) acquire_to_holds = acquire_to_holds
-  acquires_so owner was (Done result) acquire_to_holds = tt
+  acquires_so owner was (GoOn next) falls = falls
+  acquires_so owner was (Done result) falls = tt
 
   releases_so : (given : GiveBack) (was : ℕ) (a : After releasing.Release Released) → ReleaseTo c n new was a
       → CallTo 1 was (as_call calls.Release release_answer (went_on as_it_is given tt a))
-  releases_so given was (GoOn next) release_to_holds = release_to_holds
-  releases_so given was (Done result) release_to_holds = tt
+  releases_so given was (GoOn next) falls = falls
+  releases_so given was (Done result) falls = tt
 
   finds_so : (owner steps was : ℕ) (a : After finding.Find ℕ) → FindTo c n new steps was a
       → CallTo steps was (as_call calls.Find answers.Number (went_on as_it_is owner tt a))
-  finds_so owner steps was (GoOn next) find_to_holds = find_to_holds
-  finds_so owner steps was (Done result) find_to_holds = tt
+  finds_so owner steps was (GoOn next) falls = falls
+  finds_so owner steps was (Done result) falls = tt
 
   recovers_so : (mode : ReleaseMode) (steps was : ℕ) (a : After recovering.Recover ReleaseState) → RecoverTo c n new steps was a
       → CallTo steps was (as_call calls.Recover answers.State (went_on as_it_is mode tt a))
-  recovers_so mode steps was (GoOn next) recover_to_holds = recover_to_holds
-  recovers_so mode steps was (Done result) recover_to_holds = tt
+  recovers_so mode steps was (GoOn next) falls = falls
+  recovers_so mode steps was (Done result) falls = tt
 
   borrows_so : (was : ℕ) (a : After counting.BorrowedIndices ℕ) → BorrowedTo c n new was a
       → CallTo 1 was (as_call calls.BorrowedIndices answers.Number (went_on as_it_is tt tt a))
-  borrows_so was (GoOn next) borrowed_to_holds = borrowed_to_holds
-  borrows_so was (Done result) borrowed_to_holds = tt
+  borrows_so was (GoOn next) falls = falls
+  borrows_so was (Done result) falls = tt
 
-  -- a step of any call takes one of its own, but for a question, or leaves the counter less
-  -- room
+  -- a step of any call takes one of its own, but for a question, or leaves the counter less room
   call_to : (flight : RobustFlight) (cell : ℕ) → CallAt c flight → new ≡ robust_then flight n
       → CallTo (robust_steps flight) (own c n flight) (after {T = T} flight (robust_old flight n cell))
   call_to (calls.Acquire run) cell at is =
@@ -249,9 +248,9 @@ module _ {T : Type 0} (code : Coding T) (c : ℕ) (some : 1 ≤ c) where
     to_falls steps s flight (GoOn next) low one (inr h) =
         let less = moves h (flights.Robust flight) (flights.Robust next) in
         inr (omega (arith, low, one), inl (moved_by h, omega arith))
-    to_falls steps s flight (Done answer) low one call_to_holds = tt
+    to_falls steps s flight (Done answer) low one falls = tt
 
-  -- each step of any call that may stand there falls
+  -- the measure falls with each step of any call that may stand there
   call_falls : (words : List ℕ) (flight : RobustFlight) → CallAt c flight → 0 < length words
       → StepFalls (measure {T = T} c) code words (flights.Robust flight)
   call_falls words flight at there =
@@ -315,28 +314,28 @@ module _ {T : Type 0} (code : Coding T) (c : ℕ) where
 
     acquire_goes : (owner : ℕ) (a : After acquiring.Acquire Acquired) → AcquireThen c a
         → Goes (as_call calls.Acquire acquire_answer (went_on as_it_is owner tt a))
-    acquire_goes owner (GoOn next) acquire_then_holds = acquire_then_holds
-    acquire_goes owner (Done result) acquire_then_holds = tt
+    acquire_goes owner (GoOn next) may_stand = may_stand
+    acquire_goes owner (Done result) may_stand = tt
 
     release_goes : (given : GiveBack) (a : After releasing.Release Released) → ReleaseThen c a
         → Goes (as_call calls.Release release_answer (went_on as_it_is given tt a))
-    release_goes given (GoOn next) release_then_holds = release_then_holds
-    release_goes given (Done result) release_then_holds = tt
+    release_goes given (GoOn next) may_stand = may_stand
+    release_goes given (Done result) may_stand = tt
 
     find_goes : (owner : ℕ) (a : After finding.Find ℕ) → FindThen c a
         → Goes (as_call calls.Find answers.Number (went_on as_it_is owner tt a))
-    find_goes owner (GoOn next) find_then_holds = find_then_holds
-    find_goes owner (Done result) find_then_holds = tt
+    find_goes owner (GoOn next) may_stand = may_stand
+    find_goes owner (Done result) may_stand = tt
 
     recover_goes : (mode : ReleaseMode) (a : After recovering.Recover ReleaseState) → RecoverThen c a
         → Goes (as_call calls.Recover answers.State (went_on as_it_is mode tt a))
-    recover_goes mode (GoOn next) recover_then_holds = recover_then_holds
-    recover_goes mode (Done result) recover_then_holds = tt
+    recover_goes mode (GoOn next) may_stand = may_stand
+    recover_goes mode (Done result) may_stand = tt
 
     borrow_goes : (a : After counting.BorrowedIndices ℕ) → BorrowThen c a
         → Goes (as_call calls.BorrowedIndices answers.Number (went_on as_it_is tt tt a))
-    borrow_goes (GoOn next) borrow_then_holds = borrow_then_holds
-    borrow_goes (Done result) borrow_then_holds = tt
+    borrow_goes (GoOn next) may_stand = may_stand
+    borrow_goes (Done result) may_stand = tt
 
     -- a call that goes on stands where it may stand
     call_goes : (flight : RobustFlight) (old : ℕ) → CallAt c flight → Goes (after flight old)

@@ -99,6 +99,7 @@ module _ (c n new : ℕ) where
   lock_moves (locks.Counts count) at is = count_moves count at is
   lock_moves (locks.ExchangesCounter k) at is = go (n == k) refl (n == locked) refl
     where
+      -- the cases are whether the counter is still what was read and whether the counter is locked
       go : (s : Bool) → (n == k) ≡ s → (t : Bool) → (n == locked) ≡ t → StaysOrMoves c n new
       go true s true t =
           let shut : new ≡ locked = rw s at is in
@@ -148,9 +149,9 @@ LockThen (Done state) = Unit {0}
 
 -- a count that goes on, or ends, within a lock leaves the lock where it may stand
 counted_then : (a : After Count Counted) → CountThen a → LockThen (lock_counted a)
-counted_then (GoOn next) count_then_holds = count_then_holds
-counted_then (Done ends.Locked) count_then_holds = tt
-counted_then (Done (ends.Filled filled counter)) count_then_holds = go (filled == 0) refl (counter == greatest) refl
+counted_then (GoOn next) may_stand = may_stand
+counted_then (Done ends.Locked) may_stand = tt
+counted_then (Done (ends.Filled filled counter)) may_stand = go (filled == 0) refl (counter == greatest) refl
   where
     go : (z : Bool) → (filled == 0) ≡ z → (g : Bool) → (counter == greatest) ≡ g
         → LockThen (lock_counted (Done (ends.Filled filled counter)))

@@ -16,11 +16,11 @@ by_latest one all latest = record { before = latest.before; after = []; is = lat
 
 -- one of them is one of the earlier ones, or the last
 pub was_one : (one d : SetAct) (all : List SetAct) → IsOneOf one (all ++ d ∷ []) → IsOneOf one all ⊎ (d ≡ one)
-was_one one d all is_one_of_holds = go (split_last all d is_one_of_holds.before one is_one_of_holds.after is_one_of_holds.is)
+was_one one d all is_one = go (split_last all d is_one.before one is_one.after is_one.is)
   where
-    go : SplitAt all d is_one_of_holds.before one is_one_of_holds.after → IsOneOf one all ⊎ (d ≡ one)
+    go : SplitAt all d is_one.before one is_one.after → IsOneOf one all ⊎ (d ≡ one)
     go (Last p q) = inr q
-    go (Earlier rest p) = inl (record { before = is_one_of_holds.before; after = rest; is = p })
+    go (Earlier rest p) = inl (record { before = is_one.before; after = rest; is = p })
 
 -- ---- the indices that were asked about
 

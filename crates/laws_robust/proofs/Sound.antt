@@ -77,8 +77,7 @@ module _ {T : Type 0} (scene : Scene T) (inv : Inv scene) where
       acts_for_dead scene.set.dead flight ≡ false → scene.steps ≤ standing.number_of c flight scene.backs
       → Knows c flight (now scene) → StepOf scene start flight
 
-  -- each step of any call that stands at its place, and acts for nobody dead, shows what it has
-  -- to
+  -- each step of any call that stands at its place, and acts for nobody dead, shows what it has to
   pub step_moves : (start : RobustStart) (flight : RobustFlight) → IsHere scene start → At c (all scene) start flight → Moves start flight
   step_moves (starts.Acquire owner) (calls.Acquire run) here at =
       subst (Moves (starts.Acquire owner))
@@ -222,8 +221,7 @@ module _ {T : Type 0} (by : GoneBy) (code : Coding T) (c : ℕ) (t : Trace T) (s
 
     -- ---- a step
 
-    -- a step of a call that stands there and passes the rows comes from there to a sound
-    -- machine
+    -- a step of a call that stands there and passes the rows comes from there to a sound machine
     comes : HasRoom by t.world.words → (start : Start T) (flight : Flight T)
         → first_row (going_rows code (registries.Owners s.state.dead) (Some flight) None) ≡ None
         → StandsThere (family_by by code c) t s p x since start flight
@@ -251,18 +249,18 @@ module _ {T : Type 0} (by : GoneBy) (code : Coding T) (c : ℕ) (t : Trace T) (s
         → MayDecideIn flight said → is_question (want_of code flight) ≡ true
         → StandsThere (family_by by code c) t s p x since start flight
         → DecidesFrom (family_by by code c) t s p x since code (number_of said) s.state.words (registries.Owners s.state.dead) start flight
-    decides room said (Robust start) (flights.Robust flight) may_decide_in_holds asks stands_there =
+    decides room said (Robust start) (flights.Robust flight) may_decide asks stands_there =
         let there = is_there start flight stands_there in
         let moves =
         decision_moves (scene_of p x since) (inv_with room) said start flight there.here there.at
-        may_decide_in_holds asks there.steps there.knows in
+        may_decide asks there.steps there.knows in
         record {
           state = _;
           fit = record { kept = refl; words = refl };
           holds = holds_more (scene_of p x since) _ (Open (Robust start) (wrote_of p t.events)) _ _ _ moves s.holds s.inv;
           owes = owes (scene_of p x since) _ (Open (Robust start) (wrote_of p t.events)) _ _ _ moves s.holds s.inv there.here;
         }
-    decides room said start flight may_decide_in_holds asks stands_there = absurd stands_there.at
+    decides room said start flight may_decide asks stands_there = absurd stands_there.at
 
     -- one that passes the machine's rows may
     pub passes_in : (flight : Flight T) (said : Bool)
@@ -281,10 +279,10 @@ module _ {T : Type 0} (by : GoneBy) (code : Coding T) (c : ℕ) (t : Trace T) (s
         (party_at_begin (Robust start) (flights.Robust flight) t.world.changes)
         (Begun p (Robust start) ∷ []) t.world.changes
     begins_now start flight known span may =
-        let y : Party T = party_at_begin (Robust start) (flights.Robust flight) t.world.changes in
-        let scene = scene_of p y t.world.changes in
+        let party_after : Party T = party_at_begin (Robust start) (flights.Robust flight) t.world.changes in
+        let scene = scene_of p party_after t.world.changes in
         let does = begins scene s.holds.good (Robust start) in
-        let shows : Shows scene s.state.words (span_of p t.events) y (Begun p (Robust start) ∷ []) t.world.changes =
+        let shows : Shows scene s.state.words (span_of p t.events) party_after (Begun p (Robust start) ∷ []) t.world.changes =
         record {
           does = does;
           asks = (tt, tt);
@@ -304,8 +302,8 @@ module _ {T : Type 0} (by : GoneBy) (code : Coding T) (c : ℕ) (t : Trace T) (s
         record {
           state = _;
           fit = record { kept = refl; words = refl };
-          holds = holds_more scene s.state.words (span_of p t.events) y (Begun p (Robust start) ∷ []) t.world.changes shows s.holds s.inv;
-          owes = owes scene s.state.words (span_of p t.events) y (Begun p (Robust start) ∷ []) t.world.changes shows s.holds s.inv refl;
+          holds = holds_more scene s.state.words (span_of p t.events) party_after (Begun p (Robust start) ∷ []) t.world.changes shows s.holds s.inv;
+          owes = owes scene s.state.words (span_of p t.events) party_after (Begun p (Robust start) ∷ []) t.world.changes shows s.holds s.inv refl;
         }
 
     span_begun : (start : RobustStart) → span_of p (t.events ++ Begun p (Robust start) ∷ []) ≡ Open (Robust start) []
@@ -319,10 +317,10 @@ module _ {T : Type 0} (by : GoneBy) (code : Coding T) (c : ℕ) (t : Trace T) (s
         (party_at_begin start flight t.world.changes) (Begun p start ∷ []) t.world.changes
     begin_comes (Robust start) (flights.Robust flight) may named passed =
         let own = begins_own T c (registries.Owners s.state.dead) (Robust start) (flights.Robust flight) named in
-        let g = s.holds.good in
+        let set_good = s.holds.good in
         begins_now start flight
         (subst (λ f. IsFirst T by c s.state.words t.events p t.world.changes start f) own.0
-        (first_is by c s.state.words t.events p t.world.changes g.some g.owned start own.1 s.state.dead passed
+        (first_is by c s.state.words t.events p t.world.changes set_good.some set_good.owned start own.1 s.state.dead passed
         (ap (λ a. set_acts (wrote_in a)) (span_begun start))))
         (span_begun start) may
     begin_comes start flight may named passed = absurd (begins_own T c (registries.Owners s.state.dead) start flight named)
@@ -332,8 +330,8 @@ module _ {T : Type 0} (by : GoneBy) (code : Coding T) (c : ℕ) (t : Trace T) (s
   -- the death of an owner who may die comes to a sound machine
   death_comes : (o : ℕ) → MayDie t.world o → frame.ComesByDeath (family_by by code c) t s o
   death_comes o may =
-      let g = s.holds.good in
-      let alive : is_dead o t.events ≡ false = sym (g.died o) ∙ subst (λ kept. families.is_dead kept o ≡ false) s.fit.kept may.lives in
+      let set_good = s.holds.good in
+      let alive : is_dead o t.events ≡ false = sym (set_good.died o) ∙ subst (λ kept. families.is_dead kept o ≡ false) s.fit.kept may.lives in
       record {
         state = record { words = s.state.words; dead = dead_with o s.state.dead; events = t.events ++ Died o ∷ [] };
         fit = record { kept = ap (λ kept. kept_after_death kept o) s.fit.kept; words = s.fit.words };
@@ -341,7 +339,7 @@ module _ {T : Type 0} (by : GoneBy) (code : Coding T) (c : ℕ) (t : Trace T) (s
             record {
               same = refl;
               begun = λ p x found. omega arith;
-              good = death_good by c s.state.words s.state.dead t.events t.world.turns o g alive;
+              good = death_good by c s.state.words s.state.dead t.events t.world.turns o set_good alive;
               asks = Each-append (AsksBy by) t.events (Died o ∷ []) s.holds.asks (tt, tt);
             };
         calls = λ q start flight at.
@@ -349,7 +347,7 @@ module _ {T : Type 0} (by : GoneBy) (code : Coding T) (c : ℕ) (t : Trace T) (s
             ap wrote_in (span_of-death q t.events o) ∙ sym (ap (wrote_of q) s.holds.same) in
             (at_written c (wrote_of q s.state.events) (wrote_of q (t.events ++ Died o ∷ [])) start flight wrote at, wrote);
         calls_know =
-            λ q since backs flight h. death_known by c s.state.words s.state.dead t.events t.world.turns o g alive q
+            λ q since backs flight h. death_known by c s.state.words s.state.dead t.events t.world.turns o set_good alive q
             since t.world.changes backs flight h;
       }
 

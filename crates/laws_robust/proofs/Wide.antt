@@ -33,6 +33,8 @@ module _ {T : Type 0} where
 
   pub reached_open_wide : (t : Trace T) → t.world.kind ≡ kinds.Robust → IsReachedOpen t → length t.world.words ≡ t.world.capacity + 1
   reached_open_wide t is reached_open =
-      let w = t.world in
-      kept_by {T = T} open_refusal (λ u. length u.world.words ≡ w.capacity + 1) (λ u turn e h. turn_wide u.world turn ∙ h) t
-      (subst (λ kind. length (opening w.coding kind w.capacity w.parties).world.words ≡ w.capacity + 1) (sym is) (opening_wide w.capacity)) reached_open
+      let world = t.world in
+      kept_by {T = T} open_refusal (λ u. length u.world.words ≡ world.capacity + 1) (λ u turn e h. turn_wide u.world turn ∙ h) t
+      (subst (λ kind. length (opening world.coding kind world.capacity world.parties).world.words ≡ world.capacity + 1)
+      (sym is) (opening_wide world.capacity))
+      reached_open

@@ -54,6 +54,7 @@ module _ {T : Type 0} where
   FlightAt code holder k p (any_starts.Atomic start) (flights.Atomic flight) = At code holder k p start flight
   FlightAt code holder k p start flight = ⊥
 
+  -- what a call knows that is under way on the value
   abbrev pub Knowing : Core → ℕ → ℕ → ℕ → Flight T → Type 0
   Knowing k since changes backs (flights.Atomic flight) = KnowsFlight k since changes backs flight
   Knowing k since changes backs flight = ⊥
@@ -73,6 +74,7 @@ module _ {T : Type 0} where
     pub others : (q : ℕ) → q ≢ scene.party → (start : AtomicStart T) (flight : AtomicFlight T)
         → At scene.coding scene.state.holder scene.state.core q start flight → At scene.coding s'.holder s'.core q start flight
 
+  -- what the family of the value gives the machine: its state, its words, and what each call knows
   abbrev pub outline : Outline T
   outline =
       record {
@@ -121,8 +123,7 @@ module _ {T : Type 0} where
         within = preserves.within;
         counted =
             (let a = h.counted in
-            let b = preserves.counted in
-            let c : length (stored (scene.events ++ es)) ≡ length (stored scene.events) + length (stored es) =
+            let sum_is : length (stored (scene.events ++ es)) ≡ length (stored scene.events) + length (stored es) =
             ap length (flat_map-append stores scene.events es) ∙ length-append (stored scene.events) (stored es) in
-            omega arith);
+            omega (arith, preserves.counted));
       }

@@ -30,6 +30,7 @@ load_number size loading.LoadsVersion backs = 0
 load_number size (loading.LoadsCell version cell at) backs = 1 + at + backs * (1 + size)
 load_number size (loading.ChecksVersion version) backs = 1 + size + backs * (1 + size)
 
+-- at most so many steps a call has taken at its stage, having turned back so often
 abbrev pub number_of : {T : Type 0} → ℕ → AtomicFlight T → ℕ → ℕ
 number_of size (Acquire run) backs = 0
 number_of size (Release run) backs = 0

@@ -131,6 +131,7 @@ module _ {T : Type 0} (scene : Scene T Value) (inv : Inv outline scene) (small :
       → DoesOf room (loading.ChecksVersion version)
   checks_version room version long low copied paid s = go (k.version == version) refl
     where
+      -- the cases are whether the version is still what was read
       go : (b : Bool) → (k.version == version) ≡ b → DoesOf room (checking version)
       go true t =
           let same : version ≡ k.version = grind (arith, nat_tests) in

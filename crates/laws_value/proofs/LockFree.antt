@@ -56,6 +56,7 @@ version_cell : (size n : ℕ) → size * (n % 2) ≤ size
 version_cell = grind arith
 
 module _ {T : Type 0} where
+  -- the steps that a call has left at its stage, if the version stays
   abbrev call_left : ℕ → ℕ → AtomicFlight T → ℕ
   call_left size now (calls.Acquire run) = 0
   call_left size now (calls.Release run) = 0
@@ -86,6 +87,7 @@ module _ {T : Type 0} where
   Kept (registries.Atomic producer) = Unit {0}
   Kept kept = ⊥
 
+  -- what the proof that the value is lock-free needs: where calls stand, and the measure
   abbrev outline : Outline T
   outline =
       record {
@@ -100,7 +102,7 @@ module _ {T : Type 0} where
   abbrev storing : Running (Store T) T (Unit {0}) → StoreStage → AtomicFlight T
   storing run stage = calls.Store (record run { call = record run.call { stage = stage } })
 
-  -- ---- each step falls
+  -- ---- the measure falls with each step
 
   module _ (code : Coding T) (few : code.size ≤ 128) (words : List ℕ) where
     abbrev Shown : AtomicFlight T → Type 0
@@ -117,8 +119,7 @@ module _ {T : Type 0} where
         get_or-set_other words (word_at cell at) 0 new 0 (λ e. absurd (omega arith)) in
         rw same (omega arith)
 
-    -- each step of a store falls in the measure, where the store stands among the words of its
-    -- cell
+    -- the measure falls with each step of a store, where the store stands among the words of its cell
     store_falls : (run : Running (Store T) T (Unit {0})) (stage : StoreStage) → StoreStands code.size stage → Shown (storing run stage)
     store_falls run stores.LoadsVersion at = go (now == 2 ^ 64 - 1) refl
       where
@@ -130,6 +131,7 @@ module _ {T : Type 0} where
         leaves : (new : ℕ) → LeavesAll (measure code.size) words (set words (word_at cell at) new)
         leaves new = cell_leaves cell at new stands.0 stands.1 stands.2
 
+        -- the cases are whether a further word of the value follows
         go : (t : Bool) → nat_lt (at + 1) code.size ≡ t → Shown (storing run (stores.StoresCell cell at))
         go true t =
             let less : at + 1 < code.size = grind (arith, nat_tests) in
@@ -140,11 +142,12 @@ module _ {T : Type 0} where
     abbrev loading : Running (Load T (buffers.Buffer 128)) (Unit {0}) (buffers.Buffer 128) → LoadStage → AtomicFlight T
     loading run stage = calls.Load (record run { call = record run.call { stage = stage } })
 
-    -- each step of a load falls in the measure
+    -- the measure falls with each step of a load
     load_falls : (run : Running (Load T (buffers.Buffer 128)) (Unit {0}) (buffers.Buffer 128)) (stage : LoadStage) → Shown (loading run stage)
     load_falls run loads.LoadsVersion = let self = same_is now in inl (load_leaves words 0, rw self (omega arith), omega arith)
     load_falls run (loads.LoadsCell version cell at) = go (nat_lt (at + 1) code.size) refl (now == version) refl
       where
+        -- the cases are whether a further word of the value follows and whether the version is still what was read
         go : (t : Bool) → nat_lt (at + 1) code.size ≡ t → (u : Bool) → (now == version) ≡ u → Shown (loading run (loads.LoadsCell version cell at))
         go true t true u =
             let less : at + 1 < code.size = grind (arith, nat_tests) in
@@ -160,7 +163,7 @@ module _ {T : Type 0} where
         go true u = rw u tt
         go false u = let self = same_is now in rw u (inl (load_leaves words 0, rw (self, u) (omega arith), omega arith))
 
-    -- each step of a call that stands so falls in the measure
+    -- the measure falls with each step of a call that stands so
     call_falls : (flight : AtomicFlight T) → CallStands code.size flight → Shown flight
     call_falls (calls.Acquire run) at = tt
     call_falls (calls.Release run) at = tt
@@ -184,6 +187,7 @@ module _ {T : Type 0} where
       (old : ℕ) → StoreStands code.size stage → GoesOn code c (starts.Atomic start) (storing run stage) old
   store_goes code c coded start run stores.LoadsVersion old at = go (old == 2 ^ 64 - 1) refl
     where
+      -- the cases are whether the version is at its end
       go : (t : Bool) → (old == 2 ^ 64 - 1) ≡ t → GoesOn code c (starts.Atomic start) (storing run stores.LoadsVersion) old
       go true t = rw t tt
       go false t =

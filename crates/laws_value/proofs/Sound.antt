@@ -76,8 +76,8 @@ module _ {T : Type 0} (code : Coding T) (c : ℕ) (t : Trace T) (s : frame.Sound
   -- between two turns the words and the events agree as those of a value should
   value_kept : t.world.coding ≡ code → IsValue t
   value_kept same =
-      let w = t.world in
-      let cell : cell_in code.size w.words ≡ s.state.core.now =
+      let world = t.world in
+      let cell : cell_in code.size world.words ≡ s.state.core.now =
       ap (cell_in code.size) s.fit.words ∙ cell_is code.size s.state.holder s.state.core s.holds.good in
       record {
         moments = rw same s.holds.legal;
@@ -158,7 +158,7 @@ module _ {T : Type 0} where
       (record {
         holds_on = λ scene s' was y es changes' under preserves h. holds_more scene s' es changes' preserves h;
         stays = λ scene s' was y es changes' preserves h own q ne start flight at. let others = preserves.others q ne in grind arith;
-        knows = λ scene s' was y es changes' preserves own q ne since backs flight h. let up = preserves.up in grind arith;
+        knows = λ scene s' was y es changes' preserves own q ne since backs flight h. grind (arith, preserves.up);
         begin = λ t s p start flight may e rows. begin_shows code c t s p start flight e rows;
         step = λ t s p x since fresh found. step_shows code c t s p x since fresh;
         no_question = no_question code c;
@@ -200,19 +200,21 @@ module _ {T : Type 0} where
   pub sound_on : (t : Trace T) → t.world.kind ≡ kinds.Atomic → IsCoding t.world.coding → IsFreshRun t
       → frame.Sound (family t.world.coding t.world.capacity) t
   sound_on t is coded fresh_run =
-      let w = t.world in
-      let F = family w.coding w.capacity in
+      let world = t.world in
+      let F = family world.coding world.capacity in
       subst (frame.Sound F) (sym fresh_run.is)
-      (run_sound F IsFreshTurn (fresh_laws w.coding w.capacity) fresh_run.turns (opening w.coding w.kind w.capacity w.parties) fresh_run.fresh
-      (subst (λ kind. frame.Sound F (opening w.coding kind w.capacity w.parties)) (sym is) (opening_sound w.coding w.capacity w.parties coded)))
+      (run_sound F IsFreshTurn (fresh_laws world.coding world.capacity) fresh_run.turns
+      (opening world.coding world.kind world.capacity world.parties) fresh_run.fresh
+      (subst (λ kind. frame.Sound F (opening world.coding kind world.capacity world.parties)) (sym is)
+      (opening_sound world.coding world.capacity world.parties coded)))
 
   -- a value's machine whose run is fresh keeps what is promised
   pub kept_on : (t : Trace T) → t.world.kind ≡ kinds.Atomic → IsCoding t.world.coding → IsFreshRun t → IsKept t
   kept_on t is coded fresh_run =
-      let s = sound_on t is coded fresh_run in
+      let sound_there = sound_on t is coded fresh_run in
       subst (λ P. IsKeptBy P t) (sym (ap (promise_of {T = T}) is))
       (record {
-        spans = s.inv.spans;
-        progress = laws.progress outline t.world.coding t.world.capacity (owed t.world.coding t.world.capacity) t s;
-        promised = value_kept t.world.coding t.world.capacity t s refl;
+        spans = sound_there.inv.spans;
+        progress = laws.progress outline t.world.coding t.world.capacity (owed t.world.coding t.world.capacity) t sound_there;
+        promised = value_kept t.world.coding t.world.capacity t sound_there refl;
       })

@@ -29,8 +29,7 @@ module _ {T : Type 0} (scene : Scene T Value) (inv : Inv outline scene) where
   open scene use {coding as code, party as p}
   open scene.state use {holder as ho, core as k}
 
-  -- a step of a call of the value shows what a step should, where the call stands and knows what
-  -- it should
+  -- a step of a call of the value shows what a step should, where the call stands and knows what it should
   pub step_moves : (start : AtomicStart T) (flight : AtomicFlight T) → At code ho k p start flight
       → scene.steps ≤ number_of code.size flight scene.backs
       → KnowsFlight k scene.since scene.changes scene.backs flight

@@ -79,6 +79,7 @@ module _ {T : Type 0} (scene : Scene T Value) (inv : Inv outline scene) (value :
       filled_more : IsFilled code.size (then_core at) (code.words_of value) (at + 1)
       filled_more = one_filled code.size k (code.words_of value) at below g so_far
 
+      -- the cases are whether a further word of the value follows
       go : (t : Bool) → nat_lt (at + 1) code.size ≡ t → DoesOf (cell at)
       go true t =
           let next : at + 1 < code.size = grind (arith, nat_tests) in

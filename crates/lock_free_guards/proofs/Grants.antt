@@ -18,16 +18,19 @@ module _ (owner index : ℕ) (v w : View ℕ) (h : HasTaken owner (Ok index) v w
   -- an acquire for an owner that took an index leaves it held for him by what the pass made
   pub granted_holds : HoldsFor owner index w.made
   granted_holds =
-      let p = h.by in
+      let party_there = h.by in
       let more : List (Event ℕ) =
-      Begun p (Robust (Acquire owner)) ∷ (Filled p index owner ∷ Granted p index owner ∷ Finished p (Robust (Acquire owner)) (Index index) ∷ []) in
+      Begun party_there (Robust (Acquire owner))
+      ∷ (Filled party_there index owner ∷ Granted party_there index owner
+      ∷ Finished party_there (Robust (Acquire owner)) (Index index) ∷ []) in
       let made : w.made ≡ v.made ++ more =
       h.called.made
-      ∙ ap (λ (es : List (Event ℕ)). v.made ++ Begun p (Robust (Acquire owner)) ∷ (es ++ Finished p (Robust (Acquire owner)) (Index index) ∷ []))
+      ∙ ap (λ (es : List (Event ℕ)). v.made ++ Begun party_there (Robust (Acquire owner))
+      ∷ (es ++ Finished party_there (Robust (Acquire owner)) (Index index) ∷ []))
       h.tells.1
       in
-      let it : (index == index) ≡ true = grind (arith, nat_tests) in
-      ap (holder_of index) made ∙ (fold-append (holder_after index) _ v.made more ∙ rw it refl)
+      let tests_same : (index == index) ≡ true = grind (arith, nat_tests) in
+      ap (holder_of index) made ∙ (fold-append (holder_after index) _ v.made more ∙ rw tests_same refl)
 
   pub acquired : WasFilled index owner v w → WasGranted index owner v w → HasAcquired owner index v w
   acquired filled granted = record { taken = h; filled = filled; granted = granted; holds = granted_holds }

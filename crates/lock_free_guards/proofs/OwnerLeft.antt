@@ -81,7 +81,7 @@ module _ (p index owner : ℕ) where
   -- where the rest asks nothing about the index of the owner: if the question before the rest, to
   -- which the answer was yes, is about it, so is the yes
   yes_next : (i o : ℕ) (rest : List SetAct) → (Question rest → ⊥) → Question (Asks i o ∷ Yes i o ∷ rest) → Answer (Asks i o ∷ Yes i o ∷ rest)
-  yes_next i o rest no_more h =
+  yes_next i o rest no_more question =
       ⊎_elim
       (λ (e : Asks i o ≡ Asks index owner). (
       let same : i ≡ index = cc in
@@ -89,20 +89,20 @@ module _ (p index owner : ℕ) where
       record { before = Asks i o ∷ []; after = rest; is = ap₂ (λ (k n : ℕ). Asks i o ∷ Yes k n ∷ rest) same his }))
       (λ (more : Question (Yes i o ∷ rest)). absurd (⊎_elim (λ (e : Yes i o ≡ Asks index owner). differ i o e) no_more
       (first_or (Asks index owner) (Yes i o) rest more)))
-      (first_or (Asks index owner) (Asks i o) (Yes i o ∷ rest) h)
+      (first_or (Asks index owner) (Asks i o) (Yes i o ∷ rest) question)
     where
       differ : (k n : ℕ) → Yes k n ≡ Asks index owner → ⊥
       differ k n e = absurd (cc)
 
   frees_none : (i o : ℕ) (rest : List SetAct) → (Question rest → ⊥) → Question (Frees i o ∷ rest) → ⊥
-  frees_none i o rest no_more h =
-      ⊎_elim (λ (e : Frees i o ≡ Asks index owner). differ e) no_more (first_or (Asks index owner) (Frees i o) rest h)
+  frees_none i o rest no_more question =
+      ⊎_elim (λ (e : Frees i o ≡ Asks index owner). differ e) no_more (first_or (Asks index owner) (Frees i o) rest question)
     where
       differ : Frees i o ≡ Asks index owner → ⊥
       differ e = absurd (cc)
 
   locks_none : Question (Locks ∷ []) → ⊥
-  locks_none h = ⊎_elim (λ (e : Locks ≡ Asks index owner). differ e) (not_there (Asks index owner)) (first_or (Asks index owner) Locks [] h)
+  locks_none question = ⊎_elim (λ (e : Locks ≡ Asks index owner). differ e) (not_there (Asks index owner)) (first_or (Asks index owner) Locks [] question)
     where
       differ : Locks ≡ Asks index owner → ⊥
       differ e = absurd (cc)
@@ -111,17 +111,17 @@ module _ (p index owner : ℕ) where
   -- of the owner, it said yes
   yes_one : (i o : ℕ) (came : Came) → was_told came ≡ (o == owner) → Question (set_acts (wrote_to {T = ℕ} p i o came))
       → Answer (set_acts (wrote_to {T = ℕ} p i o came))
-  yes_one i o HasAsked told h =
+  yes_one i o HasAsked told question =
       ⊎_elim
       (λ (e : Asks i o ≡ Asks index owner). (
       let his : o ≡ owner = cc in
-      let it : (o == owner) ≡ true = grind (arith, nat_tests) in
-      absurd (true≢false (sym it ∙ sym told))))
+      let tests_same : (o == owner) ≡ true = grind (arith, nat_tests) in
+      absurd (true≢false (sym tests_same ∙ sym told))))
       (λ (none : Question []). absurd (not_there (Asks index owner) none))
-      (first_or (Asks index owner) (Asks i o) [] h)
-  yes_one i o WasTold told h = yes_next i o [] (not_there (Asks index owner)) h
-  yes_one i o HasFreed told h = yes_next i o (Frees i o ∷ []) (frees_none i o [] (not_there (Asks index owner))) h
-  yes_one i o HasLocked told h = yes_next i o (Frees i o ∷ Locks ∷ []) (frees_none i o (Locks ∷ []) locks_none) h
+      (first_or (Asks index owner) (Asks i o) [] question)
+  yes_one i o WasTold told question = yes_next i o [] (not_there (Asks index owner)) question
+  yes_one i o HasFreed told question = yes_next i o (Frees i o ∷ []) (frees_none i o [] (not_there (Asks index owner))) question
+  yes_one i o HasLocked told question = yes_next i o (Frees i o ∷ Locks ∷ []) (frees_none i o (Locks ∷ []) locks_none) question
 
   abbrev acts : List Visit → List SetAct
   acts visits = set_acts (wrote_by {T = ℕ} p visits)
@@ -131,15 +131,15 @@ module _ (p index owner : ℕ) where
 
   -- of all visits: if they asked about the index of the owner, they said yes
   says_yes : (visits : List Visit) → All (IsToldFor owner) visits → Question (acts visits) → Answer (acts visits)
-  says_yes [] all h = absurd (not_there (Asks index owner) h)
-  says_yes (v ∷ visits) all h =
+  says_yes [] all question = absurd (not_there (Asks index owner) question)
+  says_yes (v ∷ visits) all question =
       subst Answer (sym (acts_more v visits))
       (⊎_elim
       (λ (here : Question (set_acts (wrote_of {T = ℕ} p v))). in_front (Yes index owner) (set_acts (wrote_of {T = ℕ} p v)) (acts visits)
       (yes_one v.index v.owner v.came (All-head (IsToldFor owner) v visits all) here))
       (λ (later : Question (acts visits)). behind (Yes index owner) (set_acts (wrote_of {T = ℕ} p v)) (acts visits)
       (says_yes visits (All-tail (IsToldFor owner) v visits all) later))
-      (either (Asks index owner) (set_acts (wrote_of {T = ℕ} p v)) (acts visits) (subst Question (acts_more v visits) h)))
+      (either (Asks index owner) (set_acts (wrote_of {T = ℕ} p v)) (acts visits) (subst Question (acts_more v visits) question)))
 
 -- ---- what stands before its end
 
@@ -173,8 +173,7 @@ module _ (p : ℕ) (start : Start ℕ) where
       ∙ (ap (λ (s : Span ℕ). fold own_after s (wrote_by p visits)) (grows_one es v.index v.owner v.came)
       ∙ (grows (es ++ wrote_of p v) visits ∙ ap (Open start) (append_assoc es (wrote_of p v) (wrote_by p visits))))
 
--- v and w are what the pass knew before the recovery and after it, q is the party that ended one
--- last
+-- v and w are what the pass knew before the recovery and after it, q is the party that ended one last
 module _ (owner : ℕ) (mode : ReleaseMode) (state : ReleaseState) (v w : View ℕ) (h : HasRecoveredOwner owner mode state v w) (q : ℕ)
     (before : List (Event ℕ)) (is : w.seen ≡ before ++ Finished q (Robust (Recover mode)) (State state) ∷ []) where
   abbrev start : Start ℕ
@@ -222,12 +221,23 @@ module _ (owner : ℕ) (mode : ReleaseMode) (state : ReleaseState) (v w : View �
 -- a recovery that is told of one owner alone and is right answers right for this owner
 pub owner_answered : (owner : ℕ) (mode : ReleaseMode) (state : ReleaseState) (v w : View ℕ) → HasRecoveredOwner owner mode state v w
     → IsRightRecovery mode state v w → IsRightOwnerRecovery owner mode state v w
-owner_answered owner mode states.Locked v w h a = record { by = a.by; before = a.before; is = a.is; since = a.since; right = a.right }
-owner_answered owner mode states.Unlocked v w h a =
+owner_answered owner mode states.Locked v w recovered_owner right_recovery =
     record {
-      by = a.by;
-      before = a.before;
-      is = a.is;
-      since = a.since;
-      right = (a.right.0, leaves_none owner mode states.Unlocked v w h a.by a.before a.is a.right.1);
+      by = right_recovery.by;
+      before = right_recovery.before;
+      is = right_recovery.is;
+      since = right_recovery.since;
+      right = right_recovery.right;
+    }
+owner_answered owner mode states.Unlocked v w recovered_owner right_recovery =
+    record {
+      by = right_recovery.by;
+      before = right_recovery.before;
+      is = right_recovery.is;
+      since = right_recovery.since;
+      right = (
+        right_recovery.right.0,
+        leaves_none owner mode states.Unlocked v w recovered_owner right_recovery.by right_recovery.before
+            right_recovery.is right_recovery.right.1,
+      );
     }

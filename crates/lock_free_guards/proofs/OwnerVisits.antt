@@ -31,19 +31,18 @@ module _ {F : Type 0} (step : F → ℕ → ℕ → Bool → F → Type 0) (name
       let here = says f v.owner v.index (was_told v.came) h.0 h.1 in
       All-cons (IsToldFor owner) v visits (here.1 ∙ ap (λ n. v.owner == n) is) (told_for h.0 last visits (here.0 ∙ is) h.2)
 
-  -- a recovery whose first closure says yes about an owner's indices alone is a recovery for this
-  -- owner
+  -- a recovery whose first closure says yes about an owner's indices alone is a recovery for this owner
   pub recovers_owner : {S : Type 0} (tell : S → ℕ → ℕ → S → Type 0) (mode : ReleaseMode) (state : ReleaseState) (f last : F) (s s_last : S) (v w : View ℕ)
       → named f ≡ owner → HasRecovered step tell mode state f s last s_last v w → HasRecoveredOwner owner mode state v w
-  recovers_owner tell mode state f last s s_last v w is h =
+  recovers_owner tell mode state f last s s_last v w is recovered =
       record {
-        by = h.by;
-        mine = h.mine;
-        visits = h.visits;
-        ascend = h.ascend;
-        told = told_for f last h.visits is h.visited.asked;
-        called = h.called;
-        nothing = h.nothing;
+        by = recovered.by;
+        mine = recovered.mine;
+        visits = recovered.visits;
+        ascend = recovered.ascend;
+        told = told_for f last recovered.visits is recovered.visited.asked;
+        called = recovered.called;
+        nothing = recovered.nothing;
       }
 
 -- ---- what it freed
@@ -57,8 +56,7 @@ freed_more index owner HasFreed visits = omega arith
 freed_more index owner HasLocked visits = omega arith
 
 module _ (owner p : ℕ) where
-  -- a visit that was told yes just if the owner has the index frees an index of this owner just if
-  -- it freed any
+  -- a visit that was told yes just if the owner has the index frees an index of this owner just if it freed any
   one_of_owner : (index o : ℕ) (came : Came) → was_told came ≡ (o == owner)
       → sum_by (frees_of owner) (wrote_to p index o came) ≡ (if was_freed came then 1 else 0)
   one_of_owner index o HasAsked told = refl
@@ -71,10 +69,12 @@ module _ (owner p : ℕ) where
   all_of_owner [] all = refl
   all_of_owner (v ∷ visits) all =
       let here = one_of_owner v.index v.owner v.came (All-head (IsToldFor owner) v visits all) in
-      let rest = all_of_owner visits (All-tail (IsToldFor owner) v visits all) in
-      let both = sum_by-append (frees_of owner) (wrote_of p v) (wrote_by p visits) in
-      let long = freed_more v.index v.owner v.came visits in
-      omega arith
+      omega (
+        arith,
+        all_of_owner visits (All-tail (IsToldFor owner) v visits all),
+        sum_by-append (frees_of owner) (wrote_of p v) (wrote_by p visits),
+        freed_more v.index v.owner v.came visits,
+      )
 
   module _ (other : ℕ) (apart : other ≢ owner) where
     is_another : (o : ℕ) → true ≡ (o == owner) → (o == other) ≡ false
@@ -90,26 +90,31 @@ module _ (owner p : ℕ) where
     none_of_others : (visits : List Visit) → All (IsToldFor owner) visits → sum_by (frees_of other) (wrote_by p visits) ≡ 0
     none_of_others [] all = refl
     none_of_others (v ∷ visits) all =
-        let here = none_of_other v.index v.owner v.came (All-head (IsToldFor owner) v visits all) in
-        let rest = none_of_others visits (All-tail (IsToldFor owner) v visits all) in
-        let both = sum_by-append (frees_of other) (wrote_of p v) (wrote_by p visits) in
-        omega arith
+        omega (
+          arith,
+          none_of_other v.index v.owner v.came (All-head (IsToldFor owner) v visits all),
+          none_of_others visits (All-tail (IsToldFor owner) v visits all),
+          sum_by-append (frees_of other) (wrote_of p v) (wrote_by p visits),
+        )
 
--- as many of his as the second closure was told of
+-- the visits freed as many of his as the second closure was told of
 pub freed_his : {F S : Type 0} (step : F → ℕ → ℕ → Bool → F → Type 0) (named : F → ℕ) (owner : ℕ)
     → ((p : F) (o i : ℕ) (b : Bool) (q : F) → step p o i b q → (named q ≡ named p) × (b ≡ (o == named p)))
     → (tell : S → ℕ → ℕ → S → Type 0) (mode : ReleaseMode) (state : ReleaseState) (f last : F) (s s_last : S) (v w : View ℕ) → named f ≡ owner
     → (h : HasRecovered step tell mode state f s last s_last v w)
     → number_freed owner w.made ≡ number_freed owner v.made + length (freed_of h.visits)
 freed_his step named owner says tell mode state f last s s_last v w is h =
-    let made = sum_made (frees_of owner) h.by (Robust (Recover mode)) (State state) (wrote_by h.by h.visits) v w h.called in
-    let wrote = all_of_owner owner h.by h.visits (told_for step named owner says f last h.visits is h.visited.asked) in
-    omega arith
+    omega (
+      arith,
+      sum_made (frees_of owner) h.by (Robust (Recover mode)) (State state) (wrote_by h.by h.visits) v w h.called,
+      all_of_owner owner h.by h.visits (told_for step named owner says f last h.visits is h.visited.asked),
+    )
 
--- and none of another
+-- the recovery freed no index of another owner
 pub freed_no_other : (owner : ℕ) (mode : ReleaseMode) (state : ReleaseState) (v w : View ℕ) → HasRecoveredOwner owner mode state v w → (o : ℕ)
     → o ≢ owner → number_freed o w.made ≡ number_freed o v.made
-freed_no_other owner mode state v w h o apart =
-    let made = sum_made (frees_of o) h.by (Robust (Recover mode)) (State state) (wrote_by h.by h.visits) v w h.called in
-    let wrote = none_of_others owner h.by o apart h.visits h.told in
-    omega arith
+freed_no_other owner mode state v w recovered_owner o apart =
+    let made =
+    sum_made (frees_of o) recovered_owner.by (Robust (Recover mode)) (State state)
+    (wrote_by recovered_owner.by recovered_owner.visits) v w recovered_owner.called in
+    omega (arith, none_of_others owner recovered_owner.by o apart recovered_owner.visits recovered_owner.told)

@@ -29,14 +29,16 @@ module _ (owner : ℕ) where
   -- from u to v the pass has tried n times; it goes on from v to w
   module _ (n : ℕ) (u v w : View ℕ) (tried : HasTried n (start owner) u v) (goes : Goes v w) where
     pub acquired : (i : ℕ) → HasAcquired owner i v w → EndsTries n (start owner) (HasAcquired owner i) u w
-    acquired i h = last_try (start owner) n u v w tried goes (HasAcquired owner i) h
+    acquired i has_acquired = last_try (start owner) n u v w tried goes (HasAcquired owner i) has_acquired
 
     pub failed : (failure : UniqueIndexSetAcquireFailure) → HasFailed owner failure v w → EndsTries n (start owner) (HasFailed owner failure) u w
-    failed failure h = last_try (start owner) n u v w tried goes (HasFailed owner failure) h
+    failed failure has_failed = last_try (start owner) n u v w tried goes (HasFailed owner failure) has_failed
 
     -- one more that took none
     pub one_next : HasTaken owner (Err OutOfIndices) v w → HasTried (n + 1) (start owner) u w
-    one_next h = one_more (start owner) n u v w tried goes h.by (subst (λ es. Called h.by (start owner) (NoIndex OutOfIndices) es v w) h.tells h.called)
+    one_next taken =
+        one_more (start owner) n u v w tried goes taken.by
+        (subst (λ es. Called taken.by (start owner) (NoIndex OutOfIndices) es v w) taken.tells taken.called)
 
   -- ---- the last of so many, by its answer
 
@@ -51,7 +53,7 @@ module _ (owner : ℕ) where
 
     unlocked_so : (e : UniqueIndexSetAcquireFailure × Pass) → HasFailed owner e.0 (view v) (view e.1) → e.0 ≡ OutOfIndices
         → is_locked (history first) ≡ false
-    unlocked_so e h is = unlocked_before (start owner) (tries - 1) (view first) (view v) tried (h.refused.unlocked is)
+    unlocked_so e has_failed is = unlocked_before (start owner) (tries - 1) (view first) (view v) tried (has_failed.refused.unlocked is)
 
     pub unlocked : {R : Type 0} (r : Result (RobustIndex R) (UniqueIndexSetAcquireFailure × Pass))
         → IfErr r (λ e. HasFailed owner e.0 (view v) (view e.1)) → IfErr r (λ e. e.0 ≡ OutOfIndices → is_locked (history first) ≡ false)

@@ -40,7 +40,7 @@ module _ (start : Start ℕ) where
           since = begins_further u.seen v.seen w.seen h.since goes.since;
           first = first_further u.turns v.turns w.turns h.first goes.first;
           parties = h.parties ++ p ∷ [];
-          so_many = (let all = length-append h.parties (p ∷ []) in let few = h.so_many in omega arith);
+          so_many = omega (arith, length-append h.parties (p ∷ []), h.so_many);
           made =
               called.made
               ∙ (ap (λ (es : List (Event ℕ)). es ++ refused_by start p) h.made
@@ -79,20 +79,14 @@ module _ (start : Start ℕ) where
         let one = sum_by-cons f (Begun p start) (Finished p start (NoIndex OutOfIndices) ∷ []) in
         let two = sum_by-cons f (Finished p start (NoIndex OutOfIndices)) [] in
         let none : sum_by f [] ≡ 0 = refl in
-        let a = begins p in
-        let b = ends p in
         let rest = sum_refused ps in
-        omega arith
+        omega (arith, begins p, ends p)
 
-    -- over tries that took none, a sum over what the pass made stays, if neither their begin nor
-    -- their end counts
+    -- over tries that took none, a sum over what the pass made stays, if neither their begin nor their end counts
     pub sum_stays : (n : ℕ) (u v : View ℕ) → HasTried n start u v → sum_by f v.made ≡ sum_by f u.made
-    sum_stays n u v h =
-        let made = ap (sum_by f) h.made in
-        let both = sum_by-append f u.made (flat_map (refused_by start) h.parties) in
-        let none = sum_refused h.parties in
-        omega arith
+    sum_stays n u v tried =
+        omega (arith, ap (sum_by f) tried.made, sum_by-append f u.made (flat_map (refused_by start) tried.parties), sum_refused tried.parties)
 
   -- what the last one had not seen none had
   pub unlocked_before : (n : ℕ) (u v : View ℕ) → HasTried n start u v → is_locked v.seen ≡ false → is_locked u.seen ≡ false
-  unlocked_before n u v h free = not_locked h.since free
+  unlocked_before n u v tried free = not_locked tried.since free

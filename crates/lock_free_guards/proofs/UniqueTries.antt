@@ -28,19 +28,17 @@ start = Indices Acquire
 
 -- the lock was seen
 pub lock_seen : (v w : View ℕ) → WasRefused IsLocked v w → is_locked w.seen ≡ true
-lock_seen v w h =
-    let last : IsBeginning h.answered.before w.seen = record { rest = Finished h.answered.by start (NoIndex IsLocked) ∷ []; is = h.answered.is } in
-    lock_stays last h.answered.right
+lock_seen v w was_refused =
+    let last : IsBeginning was_refused.answered.before w.seen =
+    record { rest = Finished was_refused.answered.by start (NoIndex IsLocked) ∷ []; is = was_refused.answered.is } in
+    lock_stays last was_refused.answered.right
 
 -- from u to v the pass has tried n times
 module _ (n : ℕ) (u v : View ℕ) (tried : HasTried n start u v) where
   -- after tries that took none the pass holds what it held
   pub holds_still : HoldsTheSame u.made v.made
   holds_still is held j =
-      let a = sum_stays start (claims j) (λ p. refl) (λ p. refl) n u v tried in
-      let b = sum_stays start (frees j) (λ p. refl) (λ p. refl) n u v tried in
-      let was = held j in
-      omega arith
+      omega (arith, sum_stays start (claims j) (λ p. refl) (λ p. refl) n u v tried, sum_stays start (frees j) (λ p. refl) (λ p. refl) n u v tried, held j)
 
   pub holds_more : (w : View ℕ) (i : ℕ) → HasAcquired i v w → HoldsMore i u.made w.made
   holds_more w i h is held = held_taken v w is i (holds_still is held) h.taken
@@ -63,7 +61,9 @@ module _ (n : ℕ) (first v w : Pass) (tried : HasTried n start (view first) (vi
 
   -- one more that took none
   pub one_next : WasRefused OutOfIndices (view v) (view w) → HasTried (n + 1) start (view first) (view w)
-  one_next h = one_more start n (view first) (view v) (view w) tried (refused_goes OutOfIndices h) h.taken.by h.taken.called
+  one_next was_refused =
+      one_more start n (view first) (view v) (view w) tried (refused_goes OutOfIndices was_refused) was_refused.taken.by
+      was_refused.taken.called
 
 -- ---- the last of so many, by its answer
 

@@ -42,18 +42,20 @@ module _ (p : ℕ) (start : Start ℕ) (one : Answer ℕ) (wrote : List (Event �
   -- what a call makes
   makes : length w.made ≡ length v.made + (2 + length wrote)
   makes =
-      let all = length-append v.made (Begun p start ∷ (wrote ++ Finished p start one ∷ [])) in
-      let last = length-append wrote (Finished p start one ∷ []) in
-      let same = ap length c.made in
-      omega arith
+      omega (
+        arith,
+        length-append v.made (Begun p start ∷ (wrote ++ Finished p start one ∷ [])),
+        length-append wrote (Finished p start one ∷ []),
+        ap length c.made,
+      )
 
   no_call : w.made ≡ v.made → ⊥
-  no_call none = (let long = makes in let same = ap length none in absurd (omega arith))
+  no_call none = (absurd (omega (arith, makes, ap length none)))
 
   -- it gives one answer
   one_answer : (q : ℕ) (other : Answer ℕ) (written : List (Event ℕ)) → Called q start other written v w → Finished p start one ≡ Finished q start other
   one_answer q other written d =
-      let is = append_cancel_left v.made _ _ (sym c.made ∙ d.made) in
+      let same_end = append_cancel_left v.made _ _ (sym c.made ∙ d.made) in
       let rest : wrote ++ Finished p start one ∷ [] ≡ written ++ Finished q start other ∷ [] = cc in
       (same_from_push _ _ _ _ rest).1
 
@@ -121,8 +123,8 @@ module _ (owner : ℕ) (v w : View ℕ) where
 -- it says yes about whatever it comes to
 pub recover_owner_says_yes_of_all : (owner index other : ℕ) → other ≢ owner → IsToldFor owner (visit index other HasFreed) → ⊥
 recover_owner_says_yes_of_all owner index other apart told =
-    let no : (other == owner) ≡ false = grind (arith, nat_tests) in
-    true≢false (told ∙ no)
+    let tests_apart : (other == owner) ≡ false = grind (arith, nat_tests) in
+    true≢false (told ∙ tests_apart)
 
 module _ (owner : ℕ) (mode : ReleaseMode) (state : ReleaseState) (v w : View ℕ) (wrong : HasRecoveredOwner owner mode state v w) where
   -- it does nothing
@@ -157,26 +159,26 @@ module _ (owner : ℕ) (mode : ReleaseMode) (v w : View ℕ) where
 
 two_each : (start : Start ℕ) (ps : List ℕ) → length (flat_map (refused_by start) ps) ≡ 2 * length ps
 two_each start [] = refl
-two_each start (p ∷ ps) = let rest = two_each start ps in omega arith
+two_each start (p ∷ ps) = omega (arith, two_each start ps)
 
 -- how much so many tries make, of which the last finds none left
 ends_long : (n : ℕ) (u w : View ℕ) → EndsTries n (Indices Acquire) (unique.WasRefused OutOfIndices) u w → length w.made ≡ length u.made + 2 * (n + 1)
-ends_long n u w h =
-    let last = makes _ _ _ _ h.begun w h.last.taken.called in
-    let before = ap length h.tried.made in
-    let all = length-append u.made (flat_map (refused_by (Indices Acquire)) h.tried.parties) in
-    let each = two_each (Indices Acquire) h.tried.parties in
-    let many = h.tried.so_many in
-    omega arith
+ends_long n u w ends_tries =
+    let last = makes _ _ _ _ ends_tries.begun w ends_tries.last.taken.called in
+    omega (
+      arith,
+      ap length ends_tries.tried.made,
+      length-append u.made (flat_map (refused_by (Indices Acquire)) ends_tries.tried.parties),
+      two_each (Indices Acquire) ends_tries.tried.parties,
+      ends_tries.tried.so_many,
+    )
 
 module _ (u w : View ℕ) where
   -- it gives up before the limit
   pub acquire_gives_up_early : (tries number : ℕ) → number < tries - 1 → EndsTries number (Indices Acquire) (unique.WasRefused OutOfIndices) u w
       → EndsAtLimit (Indices Acquire) (unique.WasRefused OutOfIndices) tries u w → ⊥
   acquire_gives_up_early tries number early right wrong =
-      let a = ends_long number u w right in
-      let b = ends_long (tries - 1) u w wrong in
-      absurd (omega arith)
+      absurd (omega (arith, ends_long number u w right, ends_long (tries - 1) u w wrong))
 
   -- it answers that a locked set is full
   pub acquire_waits_at_a_lock : (n : ℕ) → is_locked u.seen ≡ true → EndsTries n (Indices Acquire) (unique.WasRefused OutOfIndices) u w → ⊥
@@ -186,32 +188,28 @@ module _ (u w : View ℕ) where
 -- how much so many tries make, of which the last gets an index
 acquires_long : (owner index n : ℕ) (u w : View ℕ) → EndsTries n (Robust (robust.Acquire owner)) (HasAcquired owner index) u w
     → length w.made ≡ length u.made + 2 * (n + 2)
-acquires_long owner index n u w h =
-    let last = makes _ _ _ _ h.begun w h.last.taken.called in
-    let two = ap length h.last.taken.tells.1 in
-    let before = ap length h.tried.made in
-    let all = length-append u.made (flat_map (refused_by (Robust (robust.Acquire owner))) h.tried.parties) in
-    let each = two_each (Robust (robust.Acquire owner)) h.tried.parties in
-    let many = h.tried.so_many in
-    omega arith
+acquires_long owner index n u w ends_tries =
+    let last = makes _ _ _ _ ends_tries.begun w ends_tries.last.taken.called in
+    let two = ap length ends_tries.last.taken.tells.1 in
+    omega (
+      arith,
+      ap length ends_tries.tried.made,
+      length-append u.made (flat_map (refused_by (Robust (robust.Acquire owner))) ends_tries.tried.parties),
+      two_each (Robust (robust.Acquire owner)) ends_tries.tried.parties,
+      ends_tries.tried.so_many,
+    )
 
 module _ (owner index : ℕ) (u w : View ℕ) where
   -- it waits, and calls nothing
   pub acquire_waits_without_a_call : w.made ≡ u.made → EndsSometime (Robust (robust.Acquire owner)) (HasAcquired owner index) u w → ⊥
-  acquire_waits_without_a_call none wrong =
-      let long = acquires_long owner index wrong.0 u w wrong.1 in
-      let same = ap length none in
-      absurd (omega arith)
+  acquire_waits_without_a_call none wrong = absurd (omega (arith, acquires_long owner index wrong.0 u w wrong.1, ap length none))
 
   -- it goes on past the limit
   pub acquire_tries_too_often : (tries number : ℕ) → tries - 1 < number
       → EndsTries number (Robust (robust.Acquire owner)) (HasAcquired owner index) u w
       → EndsWithin (Robust (robust.Acquire owner)) (HasAcquired owner index) tries u w → ⊥
   acquire_tries_too_often tries number late right wrong =
-      let a = acquires_long owner index number u w right in
-      let b = acquires_long owner index wrong.0 u w wrong.2 in
-      let few = wrong.1 in
-      absurd (omega arith)
+      absurd (omega (arith, acquires_long owner index number u w right, acquires_long owner index wrong.0 u w wrong.2, wrong.1))
 
 -- what it takes it does not hold
 pub acquire_holds_no_more : (index : ℕ) (is : List ℕ) (made : List (Event ℕ)) → HeldBy is made → HoldsMore index made made → ⊥
@@ -220,11 +218,11 @@ acquire_holds_no_more index is made held wrong =
     let now = wrong is held index in
     let both = times_both index is (index ∷ []) in
     let one = times_one index index in
-    let it : (index == index) ≡ true = grind (arith, nat_tests) in
-    let counted : one_if index index ≡ 1 = rw it refl in
+    let tests_same : (index == index) ≡ true = grind (arith, nat_tests) in
+    let counted : one_if index index ≡ 1 = rw tests_same refl in
     absurd (omega arith)
 
--- where it finds none it holds one more
+-- an acquire that finds no index does not hold one more
 pub acquire_holds_one_it_was_refused : (index : ℕ) (is : List ℕ) (old new : List (Event ℕ)) → HeldBy is old → HeldBy (is ++ index ∷ []) new
     → HoldsTheSame old new → ⊥
 acquire_holds_one_it_was_refused index is old new held more wrong =
@@ -232,28 +230,22 @@ acquire_holds_one_it_was_refused index is old new held more wrong =
     let now = more index in
     let both = times_both index is (index ∷ []) in
     let one = times_one index index in
-    let it : (index == index) ≡ true = grind (arith, nat_tests) in
-    let counted : one_if index index ≡ 1 = rw it refl in
+    let tests_same : (index == index) ≡ true = grind (arith, nat_tests) in
+    let counted : one_if index index ≡ 1 = rw tests_same refl in
     absurd (omega arith)
 
 -- ---- `split_many`
 
 -- it makes one more without a split
 pub split_many_splits_none : (v w : View ℕ) → AreCut HasSplit (w ∷ []) v v → ⊥
-split_many_splits_none v w h =
-    let once = h.1.asked in
-    let same = ap (λ (u : View ℕ). u.asked) h.2 in
-    absurd (omega arith)
+split_many_splits_none v w cut = absurd (omega (arith, cut.1.asked, ap (λ (u : View ℕ). u.asked) cut.2))
 
 -- each that it gives costs one split
 splits_many : (halves : List (View ℕ)) (v w : View ℕ) → AreCut HasSplit halves v w → w.asked ≡ v.asked + length halves
-splits_many [] v w h = (let same = ap (λ (u : View ℕ). u.asked) h in omega arith)
-splits_many (half ∷ halves) v w h =
-    let once = h.1.asked in
-    let rest = splits_many halves h.0 w h.2 in
-    omega arith
+splits_many [] v w cut = omega (arith, ap (λ (u : View ℕ). u.asked) cut)
+splits_many (half ∷ halves) v w cut = omega (arith, cut.1.asked, splits_many halves cut.0 w cut.2)
 
 -- it gives more than it splits off
 pub split_many_gives_more_than_it_splits : (halves : List (View ℕ)) (v w : View ℕ) → w.asked < v.asked + length halves
     → AreCut HasSplit halves v w → ⊥
-split_many_gives_more_than_it_splits halves v w few h = (let all = splits_many halves v w h in absurd (omega arith))
+split_many_gives_more_than_it_splits halves v w few cut = (absurd (omega (arith, splits_many halves v w cut)))

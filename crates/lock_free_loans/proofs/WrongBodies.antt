@@ -20,47 +20,37 @@ use Rattle.lock_free_loans.specs.Loan.Sender.{completion_view, pass_view, places
 makes : (p : ℕ) (start : Start ℕ) (answer : Answer ℕ) (wrote : List (Event ℕ)) (v w : View ℕ) → Called p start answer wrote v w
     → length v.made < length w.made
 makes p start answer wrote v w c =
-    let all = length-append v.made (Begun p start ∷ (wrote ++ Finished p start answer ∷ [])) in
-    let made = ap length c.made in
-    omega arith
+    omega (arith, length-append v.made (Begun p start ∷ (wrote ++ Finished p start answer ∷ [])), ap length c.made)
 
 -- what a pass made is not the same after a call
 no_call : (p : ℕ) (start : Start ℕ) (answer : Answer ℕ) (wrote : List (Event ℕ)) (v w : View ℕ) → w.made ≡ v.made
     → Called p start answer wrote v w
     → ⊥
-no_call p start answer wrote v w none c =
-    let more = makes p start answer wrote v w c in
-    let same = ap length none in
-    absurd (omega arith)
+no_call p start answer wrote v w none c = absurd (omega (arith, makes p start answer wrote v w c, ap length none))
 
 made_as : (v w : View ℕ) → w ≡ v → w.made ≡ v.made
 made_as v w is = ap (λ (u : View ℕ). u.made) is
 
 -- each free is a call
 frees_add : (indices : List ℕ) (v w : View ℕ) → InTurn HasFreed indices v w → length v.made + length indices < length w.made + 1
-frees_add [] v w k = let same = ap length (made_as v w k) in omega arith
-frees_add (index ∷ indices) v w k =
-    let one = makes _ _ _ _ v k.0 k.1.given.called in
-    let rest = frees_add indices k.0 w k.2 in
-    omega arith
+frees_add [] v w in_turn = omega (arith, ap length (made_as v w in_turn))
+frees_add (index ∷ indices) v w in_turn =
+    omega (arith, makes _ _ _ _ v in_turn.0 in_turn.1.given.called, frees_add indices in_turn.0 w in_turn.2)
 
 no_frees : (index : ℕ) (indices : List ℕ) (v w : View ℕ) → w.made ≡ v.made → InTurn HasFreed (index ∷ indices) v w → ⊥
-no_frees index indices v w none k =
-    let all = frees_add (index ∷ indices) v w k in
-    let same = ap length none in
-    absurd (omega arith)
+no_frees index indices v w none in_turn = absurd (omega (arith, frees_add (index ∷ indices) v w in_turn, ap length none))
 
 -- a value came back that is sent, and is not freed
 back_unfreed : (places : List Place) (value : ℕ) (v w : View ℕ) → is_sent (place_at places value) ≡ true → w.made ≡ v.made
     → InTurn HasFreed (sent_back value places) v w
     → ⊥
-back_unfreed places value v w sent none k =
-    no_frees value [] v w none (subst (λ xs. InTurn HasFreed xs v w) (ap (λ (b : Bool). if b then value ∷ [] else []) sent) k)
+back_unfreed places value v w sent none in_turn =
+    no_frees value [] v w none (subst (λ xs. InTurn HasFreed xs v w) (ap (λ (b : Bool). if b then value ∷ [] else []) sent) in_turn)
 
 loaned_within : (places : List Place) (index : ℕ) → place_at places index ≡ Loaned → index < length places
 loaned_within [] index e = cc
 loaned_within (p ∷ places) zero e = omega arith
-loaned_within (p ∷ places) (suc index) e = let less = loaned_within places index e in omega arith
+loaned_within (p ∷ places) (suc index) e = omega (arith, loaned_within places index e)
 
 returned_free : (places : List Place) (value : ℕ) → is_sent (place_at places value) ≡ true → value < length places
     → place_at (returned value places) value ≡ Free
@@ -76,10 +66,10 @@ loan_asks_no_set index old new none k = no_call _ _ _ _ (pass_view old) (pass_vi
 
 -- the set is asked twice beside the steps of a call, where an index is loaned, and where one is given up
 pub loan_looks_twice_aside : (old new : LoanSender) → (pass_view new).aside ≡ (pass_view old).aside + 2 → LoanKeeps old new → ⊥
-loan_looks_twice_aside old new two k = let one = k.aside.pass in absurd (omega arith)
+loan_looks_twice_aside old new two k = absurd (omega (arith, k.aside.pass))
 
 pub settle_looks_twice_aside : (old new : LoanSender) → (pass_view new).aside ≡ (pass_view old).aside + 2 → SettleKeeps old new → ⊥
-settle_looks_twice_aside old new two k = let one = k.aside.pass in absurd (omega arith)
+settle_looks_twice_aside old new two k = absurd (omega (arith, k.aside.pass))
 
 -- ---- send
 
@@ -133,7 +123,7 @@ send_hands_back_without_a_push index value old new differs none k =
 
 -- the queue is asked twice beside the steps of the push
 pub send_looks_twice_aside : (old new : LoanSender) → (submission_view new).aside ≡ (submission_view old).aside + 2 → SendKeeps old new → ⊥
-send_looks_twice_aside old new two k = let one = k.aside.submission in absurd (omega arith)
+send_looks_twice_aside old new two k = absurd (omega (arith, k.aside.submission))
 
 -- ---- take back
 
@@ -151,7 +141,7 @@ take_back_frees_what_is_out index old new freed k =
 
 -- the queue is asked twice beside the steps of the pop
 pub take_back_looks_twice_aside : (old new : LoanSender) → (completion_view new).aside ≡ (completion_view old).aside + 2 → TakeBackKeeps old new → ⊥
-take_back_looks_twice_aside old new two k = let one = k.aside.completion in absurd (omega arith)
+take_back_looks_twice_aside old new two k = absurd (omega (arith, k.aside.completion))
 
 -- ---- reclaim
 

@@ -253,7 +253,7 @@ pub fn closes_lose_nothing<T, V>()
 
 /// Who knows what was sent and received goes on knowing it. With the whole share nothing changes as a role is taken,
 /// each pop receives one value more, and where a pop finds none all that was sent was received. The lemmas are
-/// `still_passed`, `one_passed` and `all_passed` there.
+/// `still_passed`, `one_passed` and `all_passed` of `proofs/Queues/Passed.antt`.
 pub fn passed_goes_on<T, V>()
     ensures acquired { (named : V
         → Item T) (role : Role) (sent received : List V)
@@ -285,7 +285,7 @@ pub fn pushes_succeed<T>()
         → (taken ≡ false → PushRefused capacity item old new) → taken ≡ true }
 {}
 
-/// A pop succeeds where its pass had seen a value wait. The lemma is `pop_succeeds` there.
+/// A pop succeeds where its pass had seen a value wait. The lemma is `pop_succeeds` there too.
 pub fn pops_succeed<T, V>()
     ensures { (answer : Option V) (old new : View T) → 0 < length (waiting old.seen) → IfNone answer (PopEmpty old new)
         → is_some answer ≡ true }

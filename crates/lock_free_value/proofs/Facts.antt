@@ -49,10 +49,10 @@ module _ {T : Type 0} where
 -- a store is left out where its first load finds the last version
 ends_at : {T : Type 0} (code : Coding T) (x : T) (stage : StoreStage) (n : ℕ) (a : Ask)
     → store_skips stage n ≡ true → store_asks code.words_of stage x ≡ wants.Ask a → (a.word ≡ 0) × (n ≡ 2 ^ 64 - 1)
-ends_at code x stages.LoadsVersion n a t e =
+ends_at code x stages.LoadsVersion n a skips e =
     (let is : record { word = 0; op = Loads } ≡ a = cc in (ap (λ (z : Ask). z.word) (sym is), grind (arith, nat_tests)))
-ends_at code x (stages.StoresCell cell at) n a t e = absurd (cc)
-ends_at code x stages.AddsVersion n a t e = absurd (cc)
+ends_at code x (stages.StoresCell cell at) n a skips e = absurd (cc)
+ends_at code x stages.AddsVersion n a skips e = absurd (cc)
 
 module _ {T : Type 0} (code : Coding T) (base w : View T) (idle : base.going ≡ None) (one : base.capacity ≡ 1) where
   -- ---- what every call leaves
@@ -88,7 +88,7 @@ module _ {T : Type 0} (code : Coding T) (base w : View T) (idle : base.going ≡
                 first = looked.ran.first;
                 all = λ whole. looked.all (subst IsAll looked.share whole);
               };
-          aside = (let once = left.asked in let all = looked.aside in omega arith);
+          aside = omega (arith, left.asked, looked.aside);
           knows = subst (λ n. Knows code kinds.Atomic n w) one looked.ran.knows;
           sized = looked.capacity ∙ one;
           quiet = looked.going ∙ idle;
@@ -98,10 +98,10 @@ module _ {T : Type 0} (code : Coding T) (base w : View T) (idle : base.going ≡
 
   -- the promise of the machine, of what was seen
   grants : IsHistory code kinds.Atomic base.capacity w.seen → Each GrantsRight w.seen
-  grants h = subst (Each GrantsRight) (sym h.is) (value_goes_on code base.capacity h.trace h.run).roles
+  grants history = subst (Each GrantsRight) (sym history.is) (value_goes_on code base.capacity history.trace history.run).roles
 
   producers : IsHistory code kinds.Atomic base.capacity w.seen → Each ByProducer w.seen
-  producers h = history_by_producers code base.capacity w.seen h
+  producers history = history_by_producers code base.capacity w.seen history
 
   -- ---- the role
 
@@ -113,10 +113,10 @@ module _ {T : Type 0} (code : Coding T) (base w : View T) (idle : base.going ≡
   unfolding acquired
   taken_once b m ends is =
       let c = (acquired b m ends).called in
-      let p = ends.party in
+      let party_now = ends.party in
       moved 1 0 base.made w.made
-      (Begun p (Atomic AcquireProducer) ∷ Finished p (Atomic AcquireProducer) (Truth true) ∷ [])
-      (c.made ∙ ap (λ z. base.made ++ Begun p (Atomic AcquireProducer) ∷ Finished p (Atomic AcquireProducer) (Truth z) ∷ []) is)
+      (Begun party_now (Atomic AcquireProducer) ∷ Finished party_now (Atomic AcquireProducer) (Truth true) ∷ [])
+      (c.made ∙ ap (λ z. base.made ++ Begun party_now (Atomic AcquireProducer) ∷ Finished party_now (Atomic AcquireProducer) (Truth z) ∷ []) is)
       refl refl
 
   -- an acquire that answers false has taken no role
@@ -124,31 +124,33 @@ module _ {T : Type 0} (code : Coding T) (base w : View T) (idle : base.going ≡
   unfolding acquired
   not_taken b m ends is =
       let c = (acquired b m ends).called in
-      let p = ends.party in
+      let party_now = ends.party in
       moved 0 0 base.made w.made
-      (Begun p (Atomic AcquireProducer) ∷ Finished p (Atomic AcquireProducer) (Truth false) ∷ [])
-      (c.made ∙ ap (λ z. base.made ++ Begun p (Atomic AcquireProducer) ∷ Finished p (Atomic AcquireProducer) (Truth z) ∷ []) is)
+      (Begun party_now (Atomic AcquireProducer) ∷ Finished party_now (Atomic AcquireProducer) (Truth false) ∷ [])
+      (c.made ∙ ap (λ z. base.made ++ Begun party_now (Atomic AcquireProducer) ∷ Finished party_now (Atomic AcquireProducer) (Truth z) ∷ []) is)
       refl refl
 
   -- the events of a call whose end alone is its own
   pub released : (e m : Unit {0}) → Ends code kinds.Atomic releases_producer base e m w → HasReleased base w
   released e m ends =
-      let p = ends.party in
+      let party_now = ends.party in
       let start : Start T = Atomic ReleaseProducer in
-      let c : Called p start Done [] base w =
-      subst (λ es. Called p start Done es base w) ends.tells (called code kinds.Atomic releases_producer base w e m idle ends) in
-      let last : Event T = Finished p start Done in
-      let xs : List (Event T) = (base.seen ++ c.others) ++ Begun p start ∷ c.during in
-      let is : w.seen ≡ xs ++ last ∷ [] = c.is ∙ sym (append_assoc (base.seen ++ c.others) (Begun p start ∷ c.during) (last ∷ [])) in
-      let each : Each ByProducer xs = Each-less ByProducer xs (last ∷ []) (subst (Each ByProducer) is (producers ends.history)) in
-      let held : holder_of xs ≡ Some p = (grants ends.history xs [] last is).1 in
+      let its_call : Called party_now start Done [] base w =
+      subst (λ es. Called party_now start Done es base w) ends.tells (called code kinds.Atomic releases_producer base w e m idle ends) in
+      let last : Event T = Finished party_now start Done in
+      let events_then : List (Event T) = (base.seen ++ its_call.others) ++ Begun party_now start ∷ its_call.during in
+      let seen_is : w.seen ≡ events_then ++ last ∷ [] =
+      its_call.is ∙ sym (append_assoc (base.seen ++ its_call.others) (Begun party_now start ∷ its_call.during) (last ∷ [])) in
+      let each : Each ByProducer events_then = Each-less ByProducer events_then (last ∷ []) (subst (Each ByProducer) seen_is (producers ends.history)) in
+      let held : holder_of events_then ≡ Some party_now = (grants ends.history events_then [] last seen_is).1 in
       record {
-        by = p;
+        by = party_now;
         mine = ends.mine;
-        called = c;
+        called = its_call;
         list =
-            ap stored is
-            ∙ none_to_end value_role one_holder p start base.seen c.others c.during each c.others_own c.during_own held last refl;
+            ap stored seen_is
+            ∙ none_to_end value_role one_holder party_now start base.seen its_call.others its_call.during each
+            its_call.others_own its_call.during_own held last refl;
       }
 
   -- a release has given the role back once
@@ -156,15 +158,16 @@ module _ {T : Type 0} (code : Coding T) (base w : View T) (idle : base.going ≡
   unfolding released
   given_once e m ends =
       let c = (released e m ends).called in
-      let p = ends.party in
-      moved 0 1 base.made w.made (Begun p (Atomic ReleaseProducer) ∷ Finished p (Atomic ReleaseProducer) Done ∷ []) c.made refl refl
+      let party_now = ends.party in
+      moved 0 1 base.made w.made (Begun party_now (Atomic ReleaseProducer) ∷ Finished party_now (Atomic ReleaseProducer) Done ∷ []) c.made refl refl
 
   -- a look of who has the role finds nothing that another stored
   looked_alone : Looks code kinds.Atomic base.capacity base w → base.other ≡ [] → 0 < base.share.part → HasProducer base.made → stored w.seen ≡ stored base.seen
-  looked_alone l alone some has =
-      let right : Each GrantsRight w.seen = grants l.history in
-      let by = producer_by l.parties.owner l.parties.seat w.seen w.made right l.parties.sums (subst HasProducer (sym l.made) has) in
-      none_looked value_role one_holder by.0 base.seen l.mine.rest w.seen l.mine.is (producers l.history) (l.apart alone some by.0 by.1) by.2
+  looked_alone looks alone some has =
+      let right : Each GrantsRight w.seen = grants looks.history in
+      let by_this_party = producer_by looks.parties.owner looks.parties.seat w.seen w.made right looks.parties.sums (subst HasProducer (sym looks.made) has) in
+      none_looked value_role one_holder by_this_party.0 base.seen looks.mine.rest w.seen looks.mine.is
+      (producers looks.history) (looks.apart alone some by_this_party.0 by_this_party.1) by_this_party.2
 
   -- ---- the looks
 
@@ -178,46 +181,46 @@ module _ {T : Type 0} (code : Coding T) (base w : View T) (idle : base.going ≡
   -- a look at the role that has ended answered whether somebody had the role as it ended
   pub seen_producer : (b : Bool) (m : Unit {0}) → Ends code kinds.Atomic looks_at_producer base b m w → HasSeenProducer b base w
   seen_producer b m ends =
-      let p = ends.party in
-      let last : Event T = Finished p (Atomic starts.HasProducer) (Truth b) in
-      let c : Called p (Atomic starts.HasProducer) (Truth b) [] base w =
-      subst (λ es. Called p (Atomic starts.HasProducer) (Truth b) es base w) ends.tells (called code kinds.Atomic looks_at_producer base w b m idle ends) in
-      let xs : List (Event T) = before_end c in
-      let is : w.seen ≡ xs ++ last ∷ [] = to_end c in
-      let right : Truth b ≡ Truth (not (is_none (holder_of xs))) = grants ends.history xs [] last is in
-      let taken : b ≡ not (is_none (holder_of xs)) = cc in
-      let same : holder_of w.seen ≡ holder_of xs = ap holder_of is ∙ fold-append holder_after None xs (last ∷ []) in
-      record { by = p; mine = ends.mine; called = c; holder = taken ∙ ap (λ o. not (is_none o)) (sym same) }
+      let party_now = ends.party in
+      let last : Event T = Finished party_now (Atomic starts.HasProducer) (Truth b) in
+      let its_call : Called party_now (Atomic starts.HasProducer) (Truth b) [] base w =
+      subst (λ es. Called party_now (Atomic starts.HasProducer) (Truth b) es base w) ends.tells
+      (called code kinds.Atomic looks_at_producer base w b m idle ends) in
+      let events_then : List (Event T) = before_end its_call in
+      let seen_is : w.seen ≡ events_then ++ last ∷ [] = to_end its_call in
+      let right : Truth b ≡ Truth (not (is_none (holder_of events_then))) = grants ends.history events_then [] last seen_is in
+      let taken : b ≡ not (is_none (holder_of events_then)) = cc in
+      let same : holder_of w.seen ≡ holder_of events_then = ap holder_of seen_is ∙ fold-append holder_after None events_then (last ∷ []) in
+      record { by = party_now; mine = ends.mine; called = its_call; holder = taken ∙ ap (λ o. not (is_none o)) (sym same) }
 
   -- a look at the role takes none, and gives none back
   pub seen_producer_moves : (b : Bool) (m : Unit {0}) → Ends code kinds.Atomic looks_at_producer base b m w → Moved 0 0 base.made w.made
   unfolding seen_producer
   seen_producer_moves b m ends =
-      let p = ends.party in
-      moved 0 0 base.made w.made (Begun p (Atomic starts.HasProducer) ∷ Finished p (Atomic starts.HasProducer) (Truth b) ∷ [])
+      let party_now = ends.party in
+      moved 0 0 base.made w.made (Begun party_now (Atomic starts.HasProducer) ∷ Finished party_now (Atomic starts.HasProducer) (Truth b) ∷ [])
       (seen_producer b m ends).called.made refl refl
 
-  -- a look at the version that has ended answered 1 more than the number of the values that were
-  -- stored as it ended
+  -- a look at the version that has ended answered 1 more than the number of the values that were stored as it ended
   pub seen_version : (n : ℕ) (m : Unit {0}) → Ends code kinds.Atomic looks_at_version base n m w → HasSeenVersion n base w
   seen_version n m ends =
-      let p = ends.party in
-      let last : Event T = Finished p (Atomic starts.Version) (Number n) in
-      let c : Called p (Atomic starts.Version) (Number n) [] base w =
-      subst (λ es. Called p (Atomic starts.Version) (Number n) es base w) ends.tells (called code kinds.Atomic looks_at_version base w n m idle ends) in
-      let xs : List (Event T) = before_end c in
-      let is : w.seen ≡ xs ++ last ∷ [] = to_end c in
-      let right : Number n ≡ Number (length (stored xs) + 1) = answers_right code base.capacity w.seen ends.history xs [] last is in
-      let counted : n ≡ length (stored xs) + 1 = cc in
-      let same : stored w.seen ≡ stored xs = ap stored is ∙ (flat_map-append stores xs (last ∷ []) ∙ append-nil (stored xs)) in
-      record { by = p; mine = ends.mine; called = c; count = counted ∙ ap (λ zs. length zs + 1) (sym same) }
+      let party_now = ends.party in
+      let last : Event T = Finished party_now (Atomic starts.Version) (Number n) in
+      let its_call : Called party_now (Atomic starts.Version) (Number n) [] base w =
+      subst (λ es. Called party_now (Atomic starts.Version) (Number n) es base w) ends.tells (called code kinds.Atomic looks_at_version base w n m idle ends) in
+      let events_then : List (Event T) = before_end its_call in
+      let seen_is : w.seen ≡ events_then ++ last ∷ [] = to_end its_call in
+      let right : Number n ≡ Number (length (stored events_then) + 1) = answers_right code base.capacity w.seen ends.history events_then [] last seen_is in
+      let counted : n ≡ length (stored events_then) + 1 = cc in
+      let same : stored w.seen ≡ stored events_then = ap stored seen_is ∙ (flat_map-append stores events_then (last ∷ []) ∙ append-nil (stored events_then)) in
+      record { by = party_now; mine = ends.mine; called = its_call; count = counted ∙ ap (λ zs. length zs + 1) (sym same) }
 
   -- a look at the version takes no role, and gives none back
   pub seen_version_moves : (n : ℕ) (m : Unit {0}) → Ends code kinds.Atomic looks_at_version base n m w → Moved 0 0 base.made w.made
   unfolding seen_version
   seen_version_moves n m ends =
-      let p = ends.party in
-      moved 0 0 base.made w.made (Begun p (Atomic starts.Version) ∷ Finished p (Atomic starts.Version) (Number n) ∷ [])
+      let party_now = ends.party in
+      moved 0 0 base.made w.made (Begun party_now (Atomic starts.Version) ∷ Finished party_now (Atomic starts.Version) (Number n) ∷ [])
       (seen_version n m ends).called.made refl refl
 
   -- ---- stores
@@ -233,26 +236,25 @@ module _ {T : Type 0} (code : Coding T) (base w : View T) (idle : base.going ≡
         → Called ends.party (Atomic (Store x)) (Truth true) (act ends.party ∷ []) base w
     stored_so m ends = grind (arith, called, stores_value)
 
-    -- a store that answers true stored its value right after all that was seen to be stored, and
-    -- nobody stored after it
+    -- a store that answers true stored its value right after all that was seen to be stored, and nobody stored after it
     has_stored : (m : Unit {0}) → Ends code kinds.Atomic (stores_value code x) base true m w → HasStored x base w
     has_stored m ends =
-        let p = ends.party in
+        let party_now = ends.party in
         let c = stored_so m ends in
-        let at = first_wrote p (Atomic (Store x)) (Truth true) (act p) [] base w c in
+        let wrote_first = first_wrote party_now (Atomic (Store x)) (Truth true) (act party_now) [] base w c in
         let all = producers ends.history in
         let right = grants ends.history in
-        let holds : holder_of at.before ≡ Some p = all at.before at.after (act p) at.is in
+        let holds : holder_of wrote_first.before ≡ Some party_now = all wrote_first.before wrote_first.after (act party_now) wrote_first.is in
         record {
-          by = p;
+          by = party_now;
           mine = ends.mine;
           called = c;
-          before = at.before;
-          after = at.after;
-          is = at.is;
-          since = at.since;
-          next = none_since value_role one_holder at all holds;
-          list = listed value_role one_holder at all holds right refl ((refl, refl), tt);
+          before = wrote_first.before;
+          after = wrote_first.after;
+          is = wrote_first.is;
+          since = wrote_first.since;
+          next = none_since value_role one_holder wrote_first all holds;
+          list = listed value_role one_holder wrote_first all holds right refl ((refl, refl), tt);
         }
 
     pub stored_if : (e : Bool) (m : Unit {0}) → Over code kinds.Atomic (stores_value code x) base e m w → e ≡ true → HasStored x base w
@@ -261,15 +263,15 @@ module _ {T : Type 0} (code : Coding T) (base w : View T) (idle : base.going ≡
 
     pub at_end_if : base.other ≡ [] → 0 < base.share.part → HasProducer base.made → (e : Bool) (m : Unit {0})
         → Over code kinds.Atomic (stores_value code x) base e m w → e ≡ false → WasAtEnd base w
-    at_end_if other_is_empty part_positive producer e m over e_is_false = grind (arith, ends_at, slice_index, length, stored, version_is_count, looked_alone)
+    at_end_if other_is_empty part_positive producer e m over not_ended = grind (arith, ends_at, slice_index, length, stored, version_is_count, looked_alone)
 
     -- a store, or the look that it was instead, takes no role, and gives none back
     pub store_moves : (e : Bool) (m : Unit {0}) → Over code kinds.Atomic (stores_value code x) base e m w → Moved 0 0 base.made w.made
     store_moves e m (inl ends) =
-        let p = ends.party in
+        let party_now = ends.party in
         let yes = subst (λ b. Ends code kinds.Atomic (stores_value code x) base b m w) ends.tells.0 ends in
-        let q = yes.party in
-        moved 0 0 base.made w.made (Begun q (Atomic (Store x)) ∷ act q ∷ end q ∷ []) (stored_so m yes).made refl refl
+        let party_there = yes.party in
+        moved 0 0 base.made w.made (Begun party_there (Atomic (Store x)) ∷ act party_there ∷ end party_there ∷ []) (stored_so m yes).made refl refl
     store_moves e m (inr left) = moved 0 0 base.made w.made [] (left.looked.made ∙ sym (append-nil base.made)) refl refl
 
   -- ---- how many operations they took
@@ -296,36 +298,36 @@ module _ {T : Type 0} (code : Coding T) (base w : View T) (idle : base.going ≡
         → Called ends.party (Atomic Load) (Loaded (value_there m)) (Acted ends.party (Atomic Load) (Loaded (value_there m)) ∷ []) base w
     loaded_so e m ends = grind (arith, called, loads_value)
 
-    -- a load that has ended answered the value that was the last one stored at one moment of the
-    -- call
+    -- a load that has ended answered the value that was the last one stored at one moment of the call
     pub has_loaded : (e : Unit {0}) (m : R) → Ends code kinds.Atomic (loads_value code words_in) base e m w → HasLoaded (value_there m) base w
     has_loaded e m ends =
-        let p = ends.party in
+        let party_now = ends.party in
         let x = value_there m in
         let c = loaded_so e m ends in
-        let at = first_wrote p (Atomic Load) (Loaded x) (Acted p (Atomic Load) (Loaded x)) [] base w c in
+        let wrote_first = first_wrote party_now (Atomic Load) (Loaded x) (Acted party_now (Atomic Load) (Loaded x)) [] base w c in
         let first : T = code.value_of (replicate code.size 0) in
-        let is : x ≡ last_or first (stored at.before) = load_tells code base.capacity w.seen ends.history p x at.before at.after at.is in
-        let whole : length (stored at.before) ≡ length (stored base.seen ++ stored at.since.rest) =
-        ap (λ es. length (stored es)) at.since.is ∙ ap length (flat_map-append stores base.seen at.since.rest) in
-        let long = length-append (stored base.seen) (stored at.since.rest) in
-        let last = last_is first (stored at.before) (omega arith) in
+        let is : x ≡ last_or first (stored wrote_first.before) =
+        load_tells code base.capacity w.seen ends.history party_now x wrote_first.before wrote_first.after wrote_first.is in
+        let whole : length (stored wrote_first.before) ≡ length (stored base.seen ++ stored wrote_first.since.rest) =
+        ap (λ es. length (stored es)) wrote_first.since.is ∙ ap length (flat_map-append stores base.seen wrote_first.since.rest) in
+        let long = length-append (stored base.seen) (stored wrote_first.since.rest) in
+        let last = last_is first (stored wrote_first.before) (omega arith) in
         record {
-          by = p;
+          by = party_now;
           mine = ends.mine;
           called = c;
-          before = at.before;
-          after = at.after;
-          is = at.is;
-          since = at.since;
-          last = subst (λ y. IsLast y (stored at.before)) (sym is) last;
+          before = wrote_first.before;
+          after = wrote_first.after;
+          is = wrote_first.is;
+          since = wrote_first.since;
+          last = subst (λ y. IsLast y (stored wrote_first.before)) (sym is) last;
         }
 
     -- a load takes no role, and gives none back
     pub load_moves : (e : Unit {0}) (m : R) → Ends code kinds.Atomic (loads_value code words_in) base e m w → Moved 0 0 base.made w.made
     load_moves e m ends =
-        let p = ends.party in
+        let party_now = ends.party in
         let answer : Answer T = Loaded (value_there m) in
         moved 0 0 base.made w.made
-        (Begun p (Atomic Load) ∷ Acted p (Atomic Load) answer ∷ Finished p (Atomic Load) answer ∷ [])
+        (Begun party_now (Atomic Load) ∷ Acted party_now (Atomic Load) answer ∷ Finished party_now (Atomic Load) answer ∷ [])
         (loaded_so e m ends).made refl refl

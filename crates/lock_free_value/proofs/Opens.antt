@@ -21,7 +21,7 @@ module _ {T : Type 0} (code : Coding T) (value : T) (version : ℕ) where
   abbrev firsts : List ℕ
   firsts = if nat_lt 2 version then code.words_of value else replicate code.size 0
 
-  -- so many words of both cells are filled in
+  -- these are the words of both cells once so many of them are filled in
   abbrev pub filling : ℕ → List ℕ
   filling at = (first_stores version + 1) ∷ 1 ∷ ((mix at firsts (replicate code.size 0) ++ mix at (code.words_of value) (replicate code.size 0)) ++ 0 ∷ [])
 
@@ -74,22 +74,22 @@ module _ {T : Type 0} (code : Coding T) (law : IsCoding code) (value : T) (versi
         let w = law.sized value in
         let xl = xs_long in
         let yl = ys_long in
-        let v = first_stores version + 1 in
+        let stores_first = first_stores version + 1 in
         let xs = mix at first_words zeros in
         let ys = mix at ws zeros in
         let both = length-append xs ys in
         let place : code.size + at ≡ length xs + at = omega arith in
-        let second : set (filled at) (2 + code.size + at) (get_or ws at 0) ≡ v ∷ 1 ∷ ((xs ++ mix (suc at) ws zeros) ++ 0 ∷ []) =
-        set_at v 1 ((xs ++ ys) ++ 0 ∷ []) (2 + code.size + at) (code.size + at) (get_or ws at 0) (omega arith)
-        ∙ ap (λ zs. v ∷ 1 ∷ zs) (set_left (xs ++ ys) (0 ∷ []) (code.size + at) (get_or ws at 0) (omega arith)
+        let second : set (filled at) (2 + code.size + at) (get_or ws at 0) ≡ stores_first ∷ 1 ∷ ((xs ++ mix (suc at) ws zeros) ++ 0 ∷ []) =
+        set_at stores_first 1 ((xs ++ ys) ++ 0 ∷ []) (2 + code.size + at) (code.size + at) (get_or ws at 0) (omega arith)
+        ∙ ap (λ zs. stores_first ∷ 1 ∷ zs) (set_left (xs ++ ys) (0 ∷ []) (code.size + at) (get_or ws at 0) (omega arith)
         ∙ ap (λ zs. zs ++ 0 ∷ [])
         (ap (λ k. set (xs ++ ys) k (get_or ws at 0)) place
         ∙ (set_right xs ys at (get_or ws at 0) ∙ ap (λ zs. xs ++ zs) (mix_step at ws zeros (omega arith) (omega arith)))))
         in
         let more = length-append xs (mix (suc at) ws zeros) in
         ap (λ zs. set zs (2 + at) (get_or first_words at 0)) second
-        ∙ (set_at v 1 ((xs ++ mix (suc at) ws zeros) ++ 0 ∷ []) (2 + at) at (get_or first_words at 0) refl
-        ∙ ap (λ zs. v ∷ 1 ∷ zs) (set_left (xs ++ mix (suc at) ws zeros) (0 ∷ []) at (get_or first_words at 0) (omega arith)
+        ∙ (set_at stores_first 1 ((xs ++ mix (suc at) ws zeros) ++ 0 ∷ []) (2 + at) at (get_or first_words at 0) refl
+        ∙ ap (λ zs. stores_first ∷ 1 ∷ zs) (set_left (xs ++ mix (suc at) ws zeros) (0 ∷ []) at (get_or first_words at 0) (omega arith)
         ∙ ap (λ zs. zs ++ 0 ∷ []) (set_left xs (mix (suc at) ws zeros) at (get_or first_words at 0) (omega arith)
         ∙ ap (λ zs. zs ++ mix (suc at) ws zeros) (mix_step at first_words zeros (omega arith) (omega arith)))))
 
@@ -128,11 +128,13 @@ module _ {T : Type 0} (value : T) where
   times_has : (n : ℕ) → HasProducer (stored_times value n)
   times_has zero = refl
   times_has (suc n) =
-      let t = sum_by-append takes_producer (stored_times value n) (stored_once value) in
-      let g = sum_by-append gives_producer (stored_times value n) (stored_once value) in
-      let h = times_has n in
-      omega arith
+      omega (
+        arith,
+        sum_by-append takes_producer (stored_times value n) (stored_once value),
+        sum_by-append gives_producer (stored_times value n) (stored_once value),
+        times_has n,
+      )
 
-  -- and the role was given back
+  -- the role has been given back after any number of stores
   pub opened_lacks : (size version : ℕ) → LacksProducer (opened_view value size version).made
   opened_lacks size version = grind (arith, first_stores, sum_by-append, takes_producer, stored_times, gives_producer, times_has)

@@ -10,7 +10,7 @@ one_at_most false = omega arith
 pub change_small : (words : List ℕ) (ask : Option Ask) → change_of words ask ≤ 1
 change_small = grind (arith, one_at_most)
 
--- as many words as before
+-- an operation leaves as many words as before
 pub as_long : (words : List ℕ) (ask : Option Ask) → length (words_after words ask) ≡ length words
 as_long words None = refl
 as_long words (Some ask) = length-set words ask.word _

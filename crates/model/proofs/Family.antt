@@ -46,8 +46,7 @@ pub record Outline (T : Type 0) : Type 1 where
   pub Preserves : Scene T State → State → Option (Flight T) → Party T → List (Event T) → ℕ → Type 0
 
 module _ {T : Type 0} (K : Outline T) where
-  -- the family of a kind, as the frame takes it: its promise, and what it holds and knows of each
-  -- call
+  -- the family of a kind, as the frame takes it: its promise, and what it holds and knows of each call
   abbrev pub family : Coding T → ℕ → Family T
   family code c =
       record {

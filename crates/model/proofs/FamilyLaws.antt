@@ -42,7 +42,7 @@ module _ {T : Type 0} (K : Outline T) where
         → K.At scene.coding scene.capacity scene.state q start flight
         → K.At scene.coding scene.capacity s' q start flight × (K.written scene.capacity s' q flight ≡ K.written scene.capacity scene.state q flight)
 
-    -- and it knows what it knew
+    -- what the call of another party knew it still knows after the step
     abbrev Knowing : Type 0
     Knowing =
         K.Preserves scene s' was y es changes' → AreOwn scene.party es → (q : ℕ) → q ≢ scene.party → (since backs : ℕ) (flight : Flight T)
@@ -58,7 +58,7 @@ module _ {T : Type 0} (K : Outline T) where
     pub are_acts : AllByRecursion IsAct acts
     pub right : AllByRecursion (ActsRight K.promise t turn) acts
 
-  -- where no call acts
+  -- a step in which no call acts writes only what it did to the structure
   pub only_effects : (t : Trace T) (turn : Turn T) (step : Step (Flight T) (Registry T) T) → AllByRecursion (IsEffectOf turn) step.wrote → Writes t turn step
   only_effects t turn step all = record { effects = step.wrote; acts = []; is = sym (append-nil step.wrote); are_effects = all; are_acts = tt; right = tt }
 
@@ -147,8 +147,7 @@ module _ {T : Type 0} (K : Outline T) where
                 });
           }
 
-      -- a begin that writes events of its own party alone comes to a machine that keeps the
-      -- invariant
+      -- a begin that writes events of its own party alone comes to a machine that keeps the invariant
       begins_alone : (start : Start T) (flight : Flight T) → flight_in t.world p ≡ None
           → Begins K (scene_of K code c t s p 0 0 t.world.changes) start flight
           → Comes (family K code c) t p (kept_after_begin code c start p (K.kept s.state)) (K.words s.state)
@@ -165,7 +164,7 @@ module _ {T : Type 0} (K : Outline T) where
             knows = is.knows;
           }))
 
-      -- so does a step that does
+      -- a step that writes events of its own party alone comes to a machine that keeps the invariant
       step_alone : (x : Party T) (since : ℕ) (start : Start T) (flight : Flight T) → StandsThere (family K code c) t s p x since start flight
           → StepOf K (scene_of K code c t s p x.steps x.backs since) start flight
           → ComesFrom (family K code c) t s p x since code (K.words s.state) (K.kept s.state) start flight
@@ -173,7 +172,7 @@ module _ {T : Type 0} (K : Outline T) where
           comes_at (family K code c) t p _ _ _ _ _ _ _ moves.kept moves.words
           (shown x.steps x.backs since moves.state (Some flight) _ _ _ _ here.found here.span moves.shows)
 
-    -- so a family all of whose turns write such events keeps the invariant by each of them
+    -- a family all of whose turns write such events keeps the invariant by each of them
     pub turns_alone : Turns code c May
     turns_alone =
         record {
@@ -246,16 +245,16 @@ module _ {T : Type 0} (K : Outline T) where
     -- a turn that writes what the family says writes its events in order
     in_order : (t : Trace T) (turn : Turn T) (p : ℕ) → IsParty turn p → (start : Start T) (step : Step (Flight T) (Registry T) T) → Writes t turn step
         → WritesInOrder K.promise t turn (t.events ++ events_of_step p start step)
-    in_order t turn p mine start step writes_holds =
+    in_order t turn p mine start step written =
         record {
-          effects = writes_holds.effects;
-          acts = writes_holds.acts;
+          effects = written.effects;
+          acts = written.acts;
           ends = ending_of p start (answer_in step.after);
-          is = ap (λ es. t.events ++ (es ++ ending_of p start (answer_in step.after))) writes_holds.is;
-          are_effects = writes_holds.are_effects;
-          are_acts = writes_holds.are_acts;
+          is = ap (λ es. t.events ++ (es ++ ending_of p start (answer_in step.after))) written.is;
+          are_effects = written.are_effects;
+          are_acts = written.are_acts;
           are_ends = ends_end turn p start (answer_in step.after) mine;
-          right = writes_holds.right;
+          right = written.right;
         }
 
     -- every turn of a machine that keeps the invariant writes its events in order
@@ -337,8 +336,8 @@ module _ {T : Type 0} (K : Outline T) where
     keeps =
         record {
           kept = λ t is r.
-              let s = reached_sound May all t is r in
-              kept_by t is r.coded r.admitted s ((owed_there t is r.coded r.admitted).promised t s (reached_small t r).turns);
+              let is_sound = reached_sound May all t is r in
+              kept_by t is r.coded r.admitted is_sound ((owed_there t is r.coded r.admitted).promised t is_sound (reached_small t r).turns);
           turn = λ t turn is e r.
               subst (λ P. IsTurnBy P t turn (after_turn t turn)) (sym (ap (promise_of {T = T}) is ∙ (owed_there t is r.coded r.admitted).promise))
               (turn_is (family K t.world.coding t.world.capacity)

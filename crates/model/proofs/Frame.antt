@@ -225,7 +225,7 @@ module _ {T : Type 0} (F : Family T) where
         → F.Knows s.state q t.events since t.world.changes backs flight
         → F.Knows state q (t.events ++ Died owner ∷ []) since t.world.changes backs flight
 
-  -- where a family keeps no owners none dies
+  -- a family that keeps no owners owes nothing for a death, since none dies
   pub no_death : ((kept : Registry T) (words : List ℕ) (state : F.State) → F.Represents kept words state → has_owners kept ≡ false)
       → (t : Trace T) (owner : ℕ) (s : Sound t) → MayDie t.world owner → ComesByDeath t s owner
   no_death none t owner s may =
@@ -286,7 +286,7 @@ module _ {T : Type 0} (F : Family T) where
       answered t p x (ask x.doing) (old_of t.world.words (ask x.doing)) x.doing sound (λ flight since d.
       subst (λ a. ComesByStep t p x flight since a (old_of t.world.words a)) (sym (ap ask d)) (comes x flight since (under t p x flight since e d)))
 
-  -- so does an answer to a question of a call
+  -- an answer to a question of a call leaves a sound machine sound
   pub decision_sound : (t : Trace T) (p : ℕ) (said : Bool) → Sound t
       → ((x : Party T) (flight : Flight T) (since : ℕ) → IsUnder t p x flight since → ComesByStep t p x flight since None (number_of said))
       → (o : Option (Party T)) → party_of p t.world.latest ≡ o
@@ -295,7 +295,7 @@ module _ {T : Type 0} (F : Family T) where
   decision_sound t p said sound comes (Some x) e =
       answered t p x None (number_of said) x.doing sound (λ flight since d. comes x flight since (under t p x flight since e d))
 
-  -- so does a begin
+  -- a begin leaves a sound machine sound
   pub begin_sound : (t : Trace T) (p : ℕ) (start : Start T) → is_none (first_of t.world.kind t.world.capacity start t.world.kept) ≡ false → Sound t
       → ((flight : Flight T) → first_of t.world.kind t.world.capacity start t.world.kept ≡ Some flight
       → Comes t p (kept_after_begin t.world.coding t.world.capacity start p t.world.kept) t.world.words
@@ -325,10 +325,10 @@ module _ {T : Type 0} (F : Family T) where
     pub death : (t : Trace T) (owner : ℕ) (s : Sound t) → MayDie t.world owner → ComesByDeath t s owner
 
   module _ (May : Trace T → Turn T → Type 0) (laws : LawsWhere May) where
-    -- so does the death of an owner
+    -- the death of an owner leaves a sound machine sound
     death_sound : (t : Trace T) (owner : ℕ) → MayDie t.world owner → Sound t → Sound (after_turn t (Die owner))
     death_sound t owner may sound =
-        let w = t.world in
+        let world_now = t.world in
         let es = Died owner ∷ [] in
         let comes = laws.death t owner sound may in
         record {
@@ -342,15 +342,15 @@ module _ {T : Type 0} (F : Family T) where
               record {
                 spans = Each-append (StandsRight F.promise F.capacity) t.events es sound.inv.spans (tt, tt);
                 calls = λ q.
-                    subst (λ a. Fits comes.state q (party_of q w.latest) a) (sym (span_of-death q t.events owner))
-                    (still_fits sound.state comes.state q (comes.calls q) (party_of q w.latest) (span_of q t.events) (sound.inv.calls q));
+                    subst (λ a. Fits comes.state q (party_of q world_now.latest) a) (sym (span_of-death q t.events owner))
+                    (still_fits sound.state comes.state q (comes.calls q) (party_of q world_now.latest) (span_of q t.events) (sound.inv.calls q));
                 knows =
-                    λ q. still_knows sound.state comes.state q t.events es w.changes w.changes (comes.calls_know q)
-                    (party_of q w.latest) (sound.inv.knows q);
+                    λ q. still_knows sound.state comes.state q t.events es world_now.changes world_now.changes (comes.calls_know q)
+                    (party_of q world_now.latest) (sound.inv.knows q);
               };
         }
 
-    -- so does every turn that is not refused
+    -- every turn that is not refused leaves a sound machine sound
     pub turn_sound : (t : Trace T) (turn : Turn T) → call_refusal t.world turn ≡ None → May t turn → Sound t → Sound (after_turn t turn)
     turn_sound t (Begin p start) e may sound =
         let begins = may_begin t.world p start e in
@@ -376,7 +376,7 @@ module _ {T : Type 0} (F : Family T) where
   abbrev pub LawsOn : Type 0
   LawsOn = LawsWhere (λ t turn. Unit {0})
 
-  -- from the opening at any second number that is admitted
+  -- a machine that was reached is sound, where each opening of it is, at any second number that is admitted
   pub reached_from : Laws → (t : Trace T)
       → ((queue : ℕ) → queue_error t.world.kind queue ≡ None
       → Sound (opened t.world.coding t.world.kind t.world.capacity queue t.world.parties))
@@ -386,12 +386,14 @@ module _ {T : Type 0} (F : Family T) where
       (passes u.world turn e).turns h)
       t first reached
 
-  -- where there is none
+  -- a machine that has no second number and was reached is sound, where its opening is
   pub reached_sound : Laws → (t : Trace T) → is_loan t.world.kind ≡ false
       → Sound (opening t.world.coding t.world.kind t.world.capacity t.world.parties) → IsReached t → Sound t
   reached_sound laws t other first reached =
-      let w = t.world in
-      reached_from laws t (λ queue admitted. subst Sound (sym (opened_others w.coding w.kind w.capacity queue w.parties other)) first) reached
+      let world_now = t.world in
+      reached_from laws t (λ queue admitted. subst Sound
+      (sym (opened_others world_now.coding world_now.kind world_now.capacity queue world_now.parties other)) first)
+      reached
 
   pub reached_on_sound : LawsOn → (t : Trace T) → Sound (opening t.world.coding t.world.kind t.world.capacity t.world.parties) → IsReachedOn t → Sound t
   reached_on_sound laws t first reached_on = kept_by_runs_on Sound (λ u turn e h. turn_sound (λ t turn. Unit {0}) laws u turn e tt h) t first reached_on
@@ -417,14 +419,14 @@ module _ {T : Type 0} (F : Family T) where
     pub paid : (s : F.State) (p : ℕ) (events : List (Event T)) (since changes backs : ℕ) (flight : Flight T)
         → F.Knows s p events since changes backs flight → backs ≤ changes - since
 
-  -- a party's latest call has taken no more steps, and has been turned back no more often, than
-  -- its promise grants
+  -- a party's latest call has taken no more steps, and has been turned back no more often, than its promise grants
   pub progresses : Bounds → (s : F.State) (p : ℕ) (events : List (Event T)) (changes : ℕ) (o : Option (Party T)) (seen : Span T)
       → Fits s p o seen → KnowsParty s p events changes o
       → Progresses F.promise F.capacity F.coding.size seen (progress_after changes o)
   progresses bounds s p events changes None seen fits knows = subst (λ a. Progresses {T = T} F.promise F.capacity F.coding.size a None) (sym fits) tt
   progresses bounds s p events changes (Some x) seen fits knows = go x.doing refl fits knows
     where
+      -- whether the call is under way or over, its steps and its turns back are within its promise
       go : (doing : Doing T) → x.doing ≡ doing → FitsDoing s p x doing seen
           → KnowsDoing s p events changes x.backs doing
           → Progresses F.promise F.capacity F.coding.size seen (progress_after changes (Some x))

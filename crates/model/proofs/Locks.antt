@@ -13,4 +13,4 @@ module _ {T : Type 0} where
   locked_still (e ∷ es) = ap (λ b. fold locked_after b es) (locked_one e) ∙ locked_still es
 
   pub locked_later : (events es : List (Event T)) → is_locked events ≡ true → is_locked (events ++ es) ≡ true
-  locked_later events es is_locked_true = fold-append locked_after false events es ∙ (ap (λ b. fold locked_after b es) is_locked_true ∙ locked_still es)
+  locked_later events es locked = fold-append locked_after false events es ∙ (ap (λ b. fold locked_after b es) locked ∙ locked_still es)

@@ -57,6 +57,7 @@ module _ {X : Type 0} where
   found_put_other q p x [] ne = rw (apart q p ne) refl
   found_put_other q p x (e ∷ es) ne = by (nat_cmp p e.0) refl (found_put_other q p x es ne)
     where
+      -- the comparison with the first key says where the entry of p goes: the lookup of q answers as before in each case
       by : (r : Ordering) → nat_cmp p e.0 ≡ r → find q (insert_entry nat_cmp es p x) ≡ find q es
           → find q (match_ordering r ((p, x) ∷ e ∷ es) ((e.0, x) ∷ es) (e ∷ insert_entry nat_cmp es p x)) ≡ find q (e ∷ es)
       by Less t more = rw (apart q p ne) refl
@@ -81,6 +82,7 @@ module _ {X : Type 0} where
   set_is_put p x y [] sorted found = absurd (cc)
   set_is_put p x y (e ∷ es) sorted found = by (nat_cmp p e.0) refl (set_is_put p x y es (sorted_tail nat_cmp e.0 (keys_of es) sorted))
     where
+      -- the comparison with the first key says where p stands: to set the value there is to insert it
       by : (r : Ordering) → nat_cmp p e.0 ≡ r → (find p es ≡ Some y → set_value (is_at (nat_cmp p)) es x ≡ insert_entry nat_cmp es p x)
           → set_value (is_at (nat_cmp p)) (e ∷ es) x ≡ match_ordering r ((p, x) ∷ e ∷ es) ((e.0, x) ∷ es) (e ∷ insert_entry nat_cmp es p x)
       by Less t more =
@@ -97,6 +99,7 @@ module _ {X : Type 0} where
   put_removed p x [] absent = rw (itself p) refl
   put_removed p x (e ∷ es) absent = by (nat_cmp p e.0) refl (put_removed p x es)
     where
+      -- the comparison with the first key says where the entry of p goes: once taken out again, the list is as it was
       by : (r : Ordering) → nat_cmp p e.0 ≡ r → (find p es ≡ None → remove_entry (is_at (nat_cmp p)) (insert_entry nat_cmp es p x) ≡ es)
           → remove_entry (is_at (nat_cmp p)) (match_ordering r ((p, x) ∷ e ∷ es) ((e.0, x) ∷ es) (e ∷ insert_entry nat_cmp es p x)) ≡ e ∷ es
       by Less t more = rw (itself p) refl

@@ -64,6 +64,7 @@ module _ {T : Type 0} where
       peek queue_kinds.Overflow = λ backs. at_most _
       peek queue_kinds.Queue = λ backs. at_most _
 
+      -- each call of a queue keeps its kind's promise within the constants that are stated for it
       of_call : (kind : QueueKind) (start : QueueStart T)
           → IsGuaranteed (queue_promises.promise kind) capacity size (starts.Queues start) (in_queue size kind (starts.Queues start))
       of_call kind queues.AcquireProducer = λ backs. at_most _

@@ -50,7 +50,7 @@ module _ {T : Type 0} where
     allowed_is : (t : Trace T) (turn : Turn T) → refuses t.world turn ≡ None → attempt_by refuses t turn ≡ after_turn t turn
     allowed_is t turn e = ap (unless_refused t (after_turn t turn)) e
 
-    -- from wherever the run began
+    -- a turn more leads on from wherever the run began
     leads_on : (turns : List (Turn T)) (turn : Turn T) (t first : Trace T) → refuses t.world turn ≡ None
         → t ≡ run_by refuses turns first → after_turn t turn ≡ run_by refuses (turns ++ turn ∷ []) first
     leads_on turns turn t first e is =
@@ -58,16 +58,16 @@ module _ {T : Type 0} where
 
     -- a machine that turns have reached, and one turn more that is not refused
     pub reached_by_more : (t : Trace T) (turn : Turn T) → refuses t.world turn ≡ None → IsReachedBy refuses t → IsReachedBy refuses (after_turn t turn)
-    reached_by_more t turn e is_reached_by_holds =
+    reached_by_more t turn e reached =
         let making = turn_making t.world turn in
         let more : after_turn t turn
-        ≡ run_by refuses (is_reached_by_holds.turns ++ turn ∷ [])
+        ≡ run_by refuses (reached.turns ++ turn ∷ [])
         (opening t.world.coding t.world.kind t.world.capacity t.world.parties) =
-        leads_on is_reached_by_holds.turns turn t (opening t.world.coding t.world.kind t.world.capacity t.world.parties) e is_reached_by_holds.is in
+        leads_on reached.turns turn t (opening t.world.coding t.world.kind t.world.capacity t.world.parties) e reached.is in
         record {
-          coded = rw making.coding is_reached_by_holds.coded;
-          admitted = rw (making.kind, making.capacity) is_reached_by_holds.admitted;
-          turns = is_reached_by_holds.turns ++ turn ∷ [];
+          coded = rw making.coding reached.coded;
+          admitted = rw (making.kind, making.capacity) reached.admitted;
+          turns = reached.turns ++ turn ∷ [];
           is = rw (making.coding, making.kind, making.capacity, making.parties) more;
         }
 
@@ -158,13 +158,12 @@ module _ {T : Type 0} where
     run_keeps (turn ∷ turns) t h = run_keeps turns (attempt_by refuses t turn) (attempt_keeps t turn (refuses t.world turn) refl h)
 
     pub kept_by : (t : Trace T) → P (opening t.world.coding t.world.kind t.world.capacity t.world.parties) → IsReachedBy refuses t → P t
-    kept_by t first is_reached_by_holds =
-        subst P (sym is_reached_by_holds.is)
-        (run_keeps is_reached_by_holds.turns (opening t.world.coding t.world.kind t.world.capacity t.world.parties) first)
+    kept_by t first reached =
+        subst P (sym reached.is)
+        (run_keeps reached.turns (opening t.world.coding t.world.kind t.world.capacity t.world.parties) first)
 
   module _ (P : Trace T → Type 0) (keeps : (t : Trace T) (turn : Turn T) → refusal_of t.world turn ≡ None → P t → P (after_turn t turn)) where
-    -- what holds when a machine is opened, and is kept by each turn that is taken, holds of every
-    -- reached machine
+    -- what holds when a machine is opened, and is kept by each turn that is taken, holds of every reached machine
     pub kept_by_runs : (t : Trace T)
         → ((queue : ℕ) → queue_error t.world.kind queue ≡ None
         → P (opened t.world.coding t.world.kind t.world.capacity queue t.world.parties))
@@ -174,7 +173,7 @@ module _ {T : Type 0} where
         (run_keeps refusal_of P keeps reached.turns (opened t.world.coding t.world.kind t.world.capacity reached.queue t.world.parties)
         (first reached.queue reached.queued))
 
-  -- where neither turns nor parties have a bound
+  -- what is kept by each turn holds of every machine reached where neither turns nor parties have a bound
   pub kept_by_runs_on : (P : Trace T → Type 0)
       → ((t : Trace T) (turn : Turn T) → call_refusal t.world turn ≡ None → P t → P (after_turn t turn)) → (t : Trace T)
       → P (opening t.world.coding t.world.kind t.world.capacity t.world.parties) → IsReachedOn t → P t

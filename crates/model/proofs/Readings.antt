@@ -63,10 +63,10 @@ module _ {T : Type 0} where
   AreOwn p (e ∷ es) = (whose e ≡ Some p) × AreOwn p es
 
   own_one : (p : ℕ) (span : Span T) (e : Event T) → whose e ≡ Some p → span_after p span e ≡ own_after span e
-  own_one p span e h = let t : (p == p) ≡ true = grind (arith, nat_tests) in rw (h, t) refl
+  own_one p span e h = let tests_same : (p == p) ≡ true = grind (arith, nat_tests) in rw (h, tests_same) refl
 
   other_one : (p q : ℕ) (span : Span T) (e : Event T) → q ≢ p → whose e ≡ Some p → span_after q span e ≡ span
-  other_one p q span e ne h = let t : (p == q) ≡ false = grind (arith, nat_tests) in rw (h, t) refl
+  other_one p q span e ne h = let tests_apart : (p == q) ≡ false = grind (arith, nat_tests) in rw (h, tests_apart) refl
 
   own_fold : (p : ℕ) (span : Span T) (es : List (Event T)) → AreOwn p es → fold (span_after p) span es ≡ fold own_after span es
   own_fold p span [] own = refl
@@ -86,7 +86,7 @@ module _ {T : Type 0} where
   pub span_of-other : (p q : ℕ) (events es : List (Event T)) → q ≢ p → AreOwn p es → span_of q (events ++ es) ≡ span_of q events
   span_of-other p q events es ne own = fold-append (span_after q) Never events es ∙ other_fold p q (span_of q events) es ne own
 
-  -- so does a death
+  -- a death leaves each party's span
   pub span_of-death : (q : ℕ) (events : List (Event T)) (o : ℕ) → span_of q (events ++ Died o ∷ []) ≡ span_of q events
   span_of-death q events o = fold-append (span_after q) Never events (Died o ∷ [])
 
@@ -95,8 +95,7 @@ module _ {T : Type 0} where
   AllFollow R span [] = Unit {0}
   AllFollow R span (e ∷ es) = R e span × AllFollow R (own_after span e) es
 
-  -- events of one party that are right one after another in its span are right in the whole
-  -- history
+  -- events of one party that are right one after another in its span are right in the whole history
   pub spans_right : (R : Event T → Span T → Type 0) (p : ℕ) (events es : List (Event T)) (span : Span T)
       → span_of p events ≡ span → AreOwn p es → AllFollow R span es
       → AreRight (λ before e. IfSome (whose e) (λ q. R e (span_of q before))) events es

@@ -18,12 +18,12 @@ is_true true not_false = refl
 is_true false not_false = absurd (cc)
 
 pub not_none : {A : Type 0} → (o : Option A) → is_none o ≡ false → (x : A) × (o ≡ Some x)
-not_none None is_none_false = absurd (cc)
-not_none (Some x) is_none_false = (x, refl)
+not_none None some = absurd (cc)
+not_none (Some x) some = (x, refl)
 
 pub not_some : {A : Type 0} → (o : Option A) → is_some o ≡ false → o ≡ None
-not_some None is_some_false = refl
-not_some (Some x) is_some_false = absurd (cc)
+not_some None none = refl
+not_some (Some x) none = absurd (cc)
 
 module _ {T : Type 0} where
   -- a party with a call under way has an entry

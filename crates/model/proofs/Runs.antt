@@ -13,7 +13,7 @@ two_words = coding_of 2 words_of_u128 value_of_u128
 abbrev pub nexts : ℕ → ℕ → List (Turn ℕ)
 nexts p count = replicate count (Next p)
 
--- and begins before
+-- the party's call begins and goes on by so many turns
 abbrev pub begins : ℕ → Start ℕ → ℕ → List (Turn ℕ)
 begins p start count = Begin p start ∷ nexts p count
 

@@ -28,6 +28,7 @@ module _ {T : Type 0} where
       → AllSmall (turns + 1) (changes + more) (put p y latest)
   all_put turns changes more p y latest here all q x found = ⊎_elim mine theirs (cases_eq q p)
     where
+      -- the party that took the turn has the counts that are given for it
       mine : q ≡ p → HasSmallCounts (turns + 1) (changes + more) x
       mine e =
           let at : party_of p (put p y latest) ≡ Some x = subst (λ n. party_of n (put p y latest) ≡ Some x) e found in
@@ -44,19 +45,19 @@ module _ {T : Type 0} where
   begin_small w p start (Some flight) below small =
       let changes = small.changes in
       let same : w.changes + 0 ≡ w.changes = omega arith in
-      let y : Party T = party_at_begin start flight w.changes in
-      let here : HasSmallCounts (w.turns + 1) (w.changes + 0) y = record { steps = omega arith; backs = omega arith; doing = omega arith } in
+      let party : Party T = party_at_begin start flight w.changes in
+      let here : HasSmallCounts (w.turns + 1) (w.changes + 0) party = record { steps = omega arith; backs = omega arith; doing = omega arith } in
       record {
         turns = omega arith;
         changes = omega arith;
-        latest = subst (λ n. AllSmall (w.turns + 1) n (put p y w.latest)) same (all_put w.turns w.changes 0 p y w.latest here small.latest);
+        latest = subst (λ n. AllSmall (w.turns + 1) n (put p party w.latest)) same (all_put w.turns w.changes 0 p party w.latest here small.latest);
       }
 
   doing_small : (changes since change : ℕ) (after : After (Flight T) (Answer T)) → since ≤ changes
       → HasSmallCount (changes + change) (doing_after (changes + change) (since + change) after)
   doing_small = grind arith
 
-  -- and so they are after a step
+  -- after a step the counts are still no more than the number of turns
   step_small : (w : World T) (p : ℕ) (x : Party T) (since : ℕ) (ask : Option Ask) (s : Step (Flight T) (Registry T) T)
       → w.turns < 2 ^ 64 - 2 → x.steps ≤ w.turns → x.backs ≤ w.turns → since ≤ w.changes → IsSmall w
       → IsSmall (after_step w p x since ask s)
@@ -65,16 +66,17 @@ module _ {T : Type 0} where
       let one = change_small w.words ask in
       let step = steps_small ask in
       let changes = small.changes in
-      let y : Party T = party_after x since w.changes (step_count ask) (change_of w.words ask) s in
+      let party : Party T = party_after x since w.changes (step_count ask) (change_of w.words ask) s in
       record {
         turns = omega arith;
         changes = omega arith;
         latest =
-            all_put w.turns w.changes (change_of w.words ask) p y w.latest
+            all_put w.turns w.changes (change_of w.words ask) p party w.latest
             (record { steps = omega arith; backs = omega arith; doing = doing_small w.changes since (change_of w.words ask) s.after begun })
             small.latest;
       }
 
+  -- the counts stay small when a party's call goes on by an answer
   answer_small : (w : World T) (p : ℕ) (x : Party T) (ask : Option Ask) (answer : ℕ) (doing : Doing T)
       → w.turns < 2 ^ 64 - 2 → x.steps ≤ w.turns → x.backs ≤ w.turns → HasSmallCount w.changes doing → IsSmall w
       → IsSmall (after_answer w p x ask answer doing)

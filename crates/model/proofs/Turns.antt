@@ -74,8 +74,8 @@ module _ {T : Type 0} where
   same_but_turns = grind (arith, turn_making)
 
   begin_turns : (w : World T) (p : ℕ) (start : Start T) (o : Option (Flight T)) → is_none o ≡ false → (after_begin w p start o).turns ≡ w.turns + 1
-  begin_turns w p start None is_none_false = absurd (cc)
-  begin_turns w p start (Some flight) is_none_false = refl
+  begin_turns w p start None some = absurd (cc)
+  begin_turns w p start (Some flight) some = refl
 
   answer_turns : (w : World T) (p : ℕ) (x : Party T) (ask : Option Ask) (answer : ℕ) (flight : Flight T) (doing : Doing T)
       → flight_of (Some doing) ≡ Some flight → (after_answer w p x ask answer doing).turns ≡ w.turns + 1
@@ -88,8 +88,7 @@ module _ {T : Type 0} where
       → flight_of (doing_of o) ≡ Some flight → (after_decision w p said o).turns ≡ w.turns + 1
   decision_turns = grind (arith, answer_turns, number_of)
 
-  -- after a turn the number of turns has risen by one, and what the machine was made with is the
-  -- same
+  -- after a turn the number of turns has risen by one, and what the machine was made with is the same
   pub one_turn_later : (w : World T) (turn : Turn T) → call_refusal w turn ≡ None → IsOneTurnLater w (world_after w turn)
   one_turn_later w (Begin p start) e =
       same_but_turns w (Begin p start) (begin_turns w p start (first_of w.kind w.capacity start w.kept) (may_begin w p start e).call)
@@ -148,6 +147,7 @@ module _ {T : Type 0} where
   next_goes w p tells None found = tt
   next_goes w p tells (Some x) found = go x.doing refl
     where
+      -- a call under way stands where the table of its steps says; one that is over has nothing to show
       go : (doing : Doing T) → x.doing ≡ doing
           → IfSome (flight_of (Some doing))
           (λ flight. StandsAt (after_answer w p x (ask_of_doing w.coding doing) (old_of w.words (ask_of_doing w.coding doing)) doing)
@@ -191,6 +191,7 @@ module _ {T : Type 0} where
       (progress_after (changes + change) (Some (party_after x since changes steps change s)))
   going_on changes since steps change asks s x flight e count = go s.after
     where
+      -- whether the step ends the call or not, it counts itself, and one more turn back if it was turned back
       go : (after : After (Flight T) (Answer T))
           → BothGoOn asks (is_none (flight_of (Some (doing_after (changes + change) (since + change) after))))
           (progress_after changes (Some x)) (progress_after (changes + change) (Some (record {
@@ -226,6 +227,7 @@ module _ {T : Type 0} where
   next_counts w p None found = tt
   next_counts w p (Some x) found = go x.doing refl
     where
+      -- the call under way counts this step; where no call is under way there is nothing to count
       go : (doing : Doing T) → x.doing ≡ doing
           → IfSome (flight_of (Some doing))
           (λ flight. BothGoOn (is_some (ask_of_flight w.coding (flight_of (Some doing))))
@@ -245,6 +247,7 @@ module _ {T : Type 0} where
   decision_counts w p said None found = tt
   decision_counts w p said (Some x) found = go x.doing refl
     where
+      -- the call under way counts no step for the answer; where no call is under way there is nothing to count
       go : (doing : Doing T) → x.doing ≡ doing
           → IfSome (flight_of (Some doing))
           (λ flight. BothGoOn false (is_none (flight_in (after_answer w p x None (number_of said) doing) p))
@@ -256,7 +259,7 @@ module _ {T : Type 0} where
       → progress_in (after_begin w p start o) p ≡ Some record { steps = 0; backs = 0; others = 0; finished = false }
   begin_counts = grind (arith, party_put_same)
 
-  -- so each turn counts what it did
+  -- each turn counts what it did
   pub counts_turn : (w : World T) (turn : Turn T) → call_refusal w turn ≡ None → CountsTurn w turn (world_after w turn)
   counts_turn w (Begin p start) e = begin_counts w p start (first_of w.kind w.capacity start w.kept) (may_begin w p start e).call
   counts_turn w (Next p) e = next_counts w p (party_of p w.latest) refl
@@ -274,6 +277,7 @@ module _ {T : Type 0} where
       → BothSee old new (progress_after old.changes (Some x)) (progress_after new.changes (Some x))
   sees old new x tells small = go x.doing refl small
     where
+      -- the steps of a party that took no turn stay, and it has seen one more change if the words changed
       go : (doing : Doing T) → x.doing ≡ doing → HasSmallCount old.changes doing
           → BothSee old new (progress_after old.changes (Some x)) (progress_after new.changes (Some x))
       go (Going flight since) same_doing small_count =
@@ -283,7 +287,7 @@ module _ {T : Type 0} where
             backs = refl;
             finished = refl;
             same = λ s. ap (λ n. n - since) (tells.same s);
-            changed = λ ne. let more = tells.changed ne in omega arith;
+            changed = λ ne. omega (arith, tells.changed ne);
           })
       go (Over others) same_doing small_count = rw same_doing (record { steps = refl; backs = refl; finished = refl; same = λ s. refl; changed = λ ne. refl })
 

@@ -17,6 +17,7 @@ turns =
     ++ (begins 0 (Queues (Push 18446744073709551618)) 4
     ++ (begins 1 (Queues Pop) 2 ++ (nexts 0 1 ++ begins 0 (Queues Len) 4)))
 
+-- the events of these turns, up to the length that counts the value
 abbrev told : List (Event ℕ)
 told =
     roles_told
@@ -47,6 +48,7 @@ none_before_push = refl
 abbrev pop_turns : List (Turn ℕ)
 pop_turns = begins 1 (Queues Pop) 5
 
+-- the events of the pop
 abbrev pop_told : List (Event ℕ)
 pop_told =
     Begun 1 (Queues Pop)

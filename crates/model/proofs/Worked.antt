@@ -22,6 +22,7 @@ turns =
     roles
     ++ (begins 0 (Queues (PushIndex 5)) 3 ++ (begins 1 (Queues Pop) 3 ++ nexts 0 1))
 
+-- the events of these turns, up to the end of the push
 abbrev told : List (Event ℕ)
 told =
     roles_told
@@ -52,6 +53,7 @@ length_turns =
     begins 0 (Queues AcquireProducer) 1
     ++ (begins 1 (Queues Len) 2 ++ (begins 0 (Queues (PushIndex 5)) 4 ++ nexts 1 5))
 
+-- the events of these turns
 abbrev length_told : List (Event ℕ)
 length_told =
     Begun 0 (Queues AcquireProducer)
@@ -94,6 +96,7 @@ none_waited =
 abbrev holding_one : List (Turn ℕ)
 holding_one = roles ++ begins 0 (Queues (PushIndex 1)) 4
 
+-- the events of these turns
 abbrev holding_one_told : List (Event ℕ)
 holding_one_told =
     roles_told
@@ -109,6 +112,7 @@ room_turns =
     begins 0 (Queues (PushIndex 2)) 4
     ++ (begins 2 (Queues Len) 4 ++ (begins 1 (Queues Pop) 4 ++ nexts 0 1))
 
+-- the events of these turns: the push acts as the pop makes room
 abbrev room_told : List (Event ℕ)
 room_told =
     Begun 0 (Queues (PushIndex 2))
@@ -133,6 +137,7 @@ room_is_legal = refl
 abbrev again_turns : List (Turn ℕ)
 again_turns = begins 1 (Queues Pop) 3 ++ (begins 0 (Queues (PushIndex 2)) 6 ++ nexts 1 3)
 
+-- the events of these turns: the push has taken out what the pop had read
 abbrev again_told : List (Event ℕ)
 again_told =
     Begun 1 (Queues Pop)
@@ -221,6 +226,7 @@ one = Number 1
 abbrev IsOne : List (Event ℕ) → Type 0
 IsOne part = one ≡ Number (length (waiting part))
 
+-- at no moment before the call began was the number of waiting values what the length answers
 not_one : (part rest : List (Event ℕ)) → earlier ≡ part ++ rest → BeginsNone 1 rest → IsOne part → ⊥
 not_one [] rest is within held = cc
 not_one (a ∷ []) rest is within held =

@@ -60,7 +60,7 @@ held = ran one_word kinds.Robust 2 2 (begins 0 (Robust (Acquire 7)) 4 ++ begins 
 
 -- a find that a no does not end
 pub no_deaf_find : FindsUpTo held (Decide 0 false) held → ⊥
-no_deaf_find finds_up_to_holds = same_is_more 5 (ap length (finds_up_to_holds 0 7 refl (refl, tt)).ends)
+no_deaf_find found = same_is_more 5 (ap length (found 0 7 refl (refl, tt)).ends)
 
 abbrev asked : Trace ℕ
 asked = ran one_word kinds.Robust 2 2 (begins 0 (Robust (Acquire 7)) 4 ++ Die 7 ∷ begins 1 (Robust (Recover Default)) 2)
@@ -69,6 +69,6 @@ asked = ran one_word kinds.Robust 2 2 (begins 0 (Robust (Acquire 7)) 4 ++ Die 7 
 pub no_deaf_recovery : YesTells asked (Decide 1 true) asked → ⊥
 no_deaf_recovery yes_tells = same_is_more 7 (ap length (yes_tells 1 Default refl (refl, tt)).is)
 
--- and one that is told by its next step
+-- a recovery is not told of an index by the next step
 pub no_late_told : ToldRight asked (Next 1) (Told 1 0 7) → ⊥
 no_late_told told_right = let turn = told_right.0 in absurd (cc)

@@ -41,6 +41,7 @@ neighbours =
     ∷ Next 0
     ∷ [])
 
+-- both sets end, the one that was turned back last
 neighbours_told : neighbours.events
     ≡ Begun 0 (Bits (Set 3))
     ∷ Begun 1 (Bits (Set 40))
@@ -71,6 +72,7 @@ cleared_twice =
     ∷ Next 0
     ∷ [])
 
+-- the two events of the clearing turn come one after the other, by their places
 cleared_twice_told : cleared_twice.events
     ≡ Begun 0 (Bits (Set 3))
     ∷ told.Set 0 3
@@ -103,6 +105,7 @@ round =
     ∷ Next 0
     ∷ [])
 
+-- the first reset finds the bit of place 0, and the second finds none
 round_told : round.events
     ≡ Begun 0 (Bits (Set 0))
     ∷ told.Set 0 0
@@ -128,6 +131,7 @@ counted =
     ∷ Next 1
     ∷ [])
 
+-- the second set answers the count before it, and the reset takes out both at once
 counted_told : counted.events
     ≡ Begun 0 (Bits (Set 1))
     ∷ Counted 0 1
@@ -154,6 +158,7 @@ looked =
     ∷ Next 1
     ∷ [])
 
+-- a look at the bit that is set answers true, and one at another bit false
 looked_told : looked.events
     ≡ Begun 0 (Bits (Set 3))
     ∷ told.Set 0 3
@@ -170,6 +175,7 @@ looked_up =
     set_of kinds.Counts 2
     (Begin 0 (Bits (Set 1)) ∷ Next 0 ∷ Begin 1 (Bits (Count 1)) ∷ Next 1 ∷ [])
 
+-- the look answers the count that the set has left
 looked_up_told : looked_up.events
     ≡ Begun 0 (Bits (Set 1))
     ∷ Counted 0 1
@@ -270,6 +276,7 @@ left_there : (n : ℕ) (xs : List (Event ℕ)) → Leave xs → fold position_af
 left_there n [] leave = refl
 left_there n (x ∷ xs) leave = left_there (position_after n x) xs leave.1 ∙ leave.0 n
 
+-- at every moment since the call began, the bit of place 0 stands
 first_stood : (part rest : List (Event ℕ)) → skipping ≡ part ++ rest → BeginsNone 0 rest → standing 0 part ≡ 0 → ⊥
 first_stood [] rest is within clear = let none = subst (BeginsNone 0) (sym is) within in absurd (none.0 refl)
 first_stood (a ∷ part) rest is within clear =
@@ -330,6 +337,7 @@ count_after counting_set = go right.before right.is right.count
     right : AnswersCount {T = ℕ} 0 1 1 (Begun 0 (Bits (Set 1)) ∷ Counted 0 1 ∷ [])
     right = counting_set.answers (Begun 0 (Bits (Set 1)) ∷ Counted 0 1 ∷ []) [] _ refl
 
+    -- the count at the moment before this one is not what the set answers
     go : (before : List (Event ℕ)) → Begun 0 (Bits (Set 1)) ∷ Counted 0 1 ∷ [] ≡ before ++ Counted 0 1 ∷ [] → 1 ≡ count_at 1 before → ⊥
     go [] is e = cc
     go (a ∷ []) is e =
@@ -341,7 +349,7 @@ count_after counting_set = go right.before right.is right.count
 
 -- nothing is taken out of a count of 0
 taken_of_nothing : counts_stand {T = ℕ} (TakenOut 0 1 0) (Open (Bits ResetAll) []) → ⊥
-taken_of_nothing stands = let e = stands.0 in absurd (omega arith)
+taken_of_nothing stands = absurd (omega (arith, stands.0))
 
 left_counting : HasTaken {T = ℕ} 2 (Counted 0 1 ∷ []) [] → ⊥
 left_counting taken = let e = taken 1 (omega arith) (omega arith) in absurd (omega arith)

@@ -61,6 +61,7 @@ opening_of_two = refl
 
 -- ---- an owner who dies between the two words of his value: the index is freed without a question
 
+-- the owner fills the cell, stores one word of the value and dies; another party recovers, and adds
 abbrev half_written : List (Turn ℕ)
 half_written =
     begins 0 (add 18446744073709551618 1) 6
@@ -68,6 +69,7 @@ half_written =
     ++ (begins 1 (add 7 2) 9
     ++ begins 1 get_state 5))
 
+-- the recovery shows the index and frees it without a question, and the next add takes it again
 pub half_written_events : (ran_on 1 half_written).events
     ≡ Begun 0 (add 18446744073709551618 1)
     ∷ Filled 0 0 1
@@ -106,6 +108,7 @@ seen_late =
     begins 0 (add 5 1) 9
     ++ (begins 0 (remove 0 1 Default) 4 ++ (begins 1 get_state 5 ++ nexts 0 2))
 
+-- the state copies the value after the release, and the remove hides it then
 pub seen_late_events : (ran_on 1 seen_late).events
     ≡ Begun 0 (add 5 1)
     ∷ Filled 0 0 1
@@ -130,6 +133,7 @@ replaced =
     ++ (begins 1 get_state 5
     ++ (begins 0 (replace 0 6 1) 7 ++ begins 1 update_state 5))
 
+-- the replace hides the value and places another, and the update then copies that one
 pub replaced_events : (ran_on 1 replaced).events
     ≡ Begun 0 (add 5 1)
     ∷ Filled 0 0 1
@@ -157,6 +161,7 @@ abbrev half_replaced : List (Turn ℕ)
 half_replaced =
     begins 0 (add 5 1) 9 ++ (begins 1 get_state 5 ++ begins 0 (replace 0 6 1) 4)
 
+-- the update finds no change while the replace stands between its two words
 pub half_replaced_update : (ran_on 1 (half_replaced ++ begins 1 update_state 1)).events
     ≡ Begun 0 (add 5 1)
     ∷ Filled 0 0 1
@@ -180,6 +185,7 @@ half_replaced_shows = refl
 pub half_replaced_steps : steps_of (progress_in (ran_on 1 (half_replaced ++ begins 1 update_state 1)).world 1) ≡ 1
 half_replaced_steps = refl
 
+-- a new state shows no value while the replace stands between its two words
 pub half_replaced_state : (ran_on 1 (half_replaced ++ begins 1 get_state 2)).events
     ≡ Begun 0 (add 5 1)
     ∷ Filled 0 0 1
@@ -201,6 +207,7 @@ half_replaced_state = refl
 abbrev looked : List (Turn ℕ)
 looked = begins 0 (add 1234567 8192) 9 ++ (begins 0 get_state 6 ++ begins 0 update_state 1)
 
+-- the update after a new state finds no change
 pub looked_events : (ran_on 2 looked).events
     ≡ Begun 0 (add 1234567 8192)
     ∷ Filled 0 0 8192
@@ -221,6 +228,7 @@ looked_shows = (refl, refl)
 abbrev looked_again : List (Turn ℕ)
 looked_again = looked ++ (begins 0 (remove 0 8192 Default) 6 ++ begins 0 update_state 3)
 
+-- the update after the remove finds one
 pub looked_again_events : (ran_on 2 looked_again).events
     ≡ Begun 0 (add 1234567 8192)
     ∷ Filled 0 0 8192
@@ -258,6 +266,7 @@ looked_on_is_no_look = refl
 
 -- ---- a recovery that asks: yes to the first value of the owner, no to the second
 
+-- an owner adds two values and dies, and a recovery is told yes of the first and no of the second
 abbrev asked : List (Turn ℕ)
 asked =
     begins 0 (add 5 1) 9
@@ -265,6 +274,7 @@ asked =
     ++ (Die 1 ∷ begins 1 (recover 1) 6
     ++ (Decide 1 true ∷ nexts 1 9 ++ (Decide 1 false ∷ nexts 1 2))))
 
+-- the first value is freed and hidden, and the second stays
 pub asked_events : (ran_on 2 asked).events
     ≡ Begun 0 (add 5 1)
     ∷ Filled 0 0 1
@@ -298,6 +308,7 @@ question_is_due = refl
 pub question_is : question_at (ran_on 1 question) 1 ≡ Some (0, 5)
 question_is = refl
 
+-- the search ends with the one value that it found
 pub question_answered : (ran_on 1 (question ++ Decide 1 false ∷ [])).events
     ≡ Begun 0 (add 5 1)
     ∷ Filled 0 0 1
@@ -317,7 +328,7 @@ same_is_more n e = absurd (omega arith)
 
 -- a find that a no does not end
 pub no_deaf_find : FindsUpTo (ran_on 1 question) (Decide 1 false) (ran_on 1 question) → ⊥
-no_deaf_find finds_up_to_holds = same_is_more 7 (ap length (finds_up_to_holds 1 1 refl (refl, tt)).ends)
+no_deaf_find found = same_is_more 7 (ap length (found 1 1 refl (refl, tt)).ends)
 
 abbrev copying : Trace ℕ
 copying = ran_on 1 (begins 0 (add 5 1) 9 ++ begins 1 (find 1) 4)
@@ -333,7 +344,7 @@ asking = ran_on 1 (begins 0 (add 5 1) 9 ++ Die 1 ∷ begins 1 (recover 1) 6)
 pub no_deaf_recovery : YesTells asking (Decide 1 true) asking → ⊥
 no_deaf_recovery yes_tells = same_is_more 9 (ap length (yes_tells 1 1 Default refl (refl, tt)).is)
 
--- and one that is told by its next step
+-- a recovery is not told of an index by the next step
 pub no_late_told : WritesRight asking (Next 1) asking (Told 1 0 1) → ⊥
 no_late_told writes_right = absurd (cc)
 

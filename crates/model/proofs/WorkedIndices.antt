@@ -29,6 +29,7 @@ opened capacity = opening one_word kinds.Indices capacity 2
 
 -- ---- a release that falls back: another party has exchanged the head, so it subtracts
 
+-- the release frees its index, and meets the head that another party's acquire has exchanged
 abbrev falls_back : List (Turn ℕ)
 falls_back =
     Begin 0 acquire
@@ -53,6 +54,7 @@ falls_back =
     ∷ Next 1
     ∷ []
 
+-- the events of these turns
 abbrev told : List (Event ℕ)
 told =
     Begun 0 acquire
@@ -92,6 +94,7 @@ falls_back_tally = refl
 
 -- ---- a lock
 
+-- the last index is given back in the mode that locks, and acquire is then refused
 abbrev locks : List (Turn ℕ)
 locks =
     Begin 0 acquire
@@ -112,6 +115,7 @@ locks =
     ∷ Next 0
     ∷ []
 
+-- the release answers Locked, the acquire that comes then is refused, and nothing is borrowed
 pub locks_events : (run locks (opened 3)).events
     ≡ Begun 0 acquire
     ∷ Claimed 0 0
@@ -183,4 +187,4 @@ no_silent_release stands = let none = ap freed_in stands.1 in cc
 
 -- an acquire that ends with an index and has claimed another
 no_other_index : Stands (promise_of kinds.Indices) 2 (Finished 0 acquire (Index 0)) (Open acquire (Claimed 0 1 ∷ [])) → ⊥
-no_other_index stands = let other = ap claimed_in stands.1 in omega arith
+no_other_index stands = omega (arith, ap claimed_in stands.1)

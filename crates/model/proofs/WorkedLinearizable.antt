@@ -58,6 +58,7 @@ two_calls = refl
 abbrev inside_around : List (Call ℕ × Answer ℕ)
 inside_around = entry inside PoppedNone ∷ entry around (Truth true) ∷ []
 
+-- the order in which the pop comes first is one of the list, and keeps what came before what
 pub pop_inside_push : IsLinearizable (as_list kinds.IndexQueue 1) overlapping
 pop_inside_push =
     record {
@@ -85,6 +86,7 @@ finished = called 1 1 pop (responded 2 (PoppedIndex 5))
 abbrev unfinished_finished : List (Call ℕ × Answer ℕ)
 unfinished_finished = entry unfinished (Truth true) ∷ entry finished (PoppedIndex 5) ∷ []
 
+-- the push is in the order though it has not ended, since the pop has its value
 pub pop_of_pending_push : IsLinearizable (as_list kinds.IndexQueue 1) pending
 pop_of_pending_push =
     record {
@@ -118,6 +120,7 @@ Legal xs = IsLegal (bounded_list 1) (map (λ x. (x.0.start, x.1)) xs)
 not_legal : Legal (entry pushed (Truth true) ∷ entry popped PoppedNone ∷ []) → ⊥
 not_legal legal = cc
 
+-- no order of the two calls both is legal and keeps the push before the pop
 refuted : (xs : List (Call ℕ × Answer ℕ)) → Legal xs
     → All (λ x. (is_push_or_pop x.0.start ≡ true) × Contains (calls_of too_late) x.0) xs
     → Contains xs (entry pushed (Truth true)) → Contains xs (entry popped PoppedNone) → AllPairs (λ x y. x.0 ≢ y.0) xs
@@ -140,6 +143,7 @@ refuted (x ∷ y ∷ []) legal invoked first second once real_time =
         not_legal
         (subst (λ x. Legal (x ∷ entry popped PoppedNone ∷ [])) e (subst (λ y. Legal (x ∷ y ∷ [])) f legal))
 
+    -- the pop cannot come first, since the push had ended before it began
     swapped : x ≡ entry popped PoppedNone → y ≡ entry pushed (Truth true) → ⊥
     swapped e f =
         let never = real_time 0 1 x (omega arith) (omega arith) in
@@ -153,6 +157,7 @@ refuted (x ∷ y ∷ z ∷ rest) legal invoked first second once real_time =
     (either pushed popped z.0 (invoked 2 x (omega arith)).1)
     (once 0 1 x (omega arith) (omega arith)) (once 0 2 x (omega arith) (omega arith)) (once 1 2 x (omega arith) (omega arith))
 
+-- this history has no legal order
 pub no_lost_value : IsLinearizable (as_list kinds.IndexQueue 1) too_late → ⊥
 no_lost_value linearizable =
     refuted linearizable.sequential linearizable.legal linearizable.invoked

@@ -25,11 +25,11 @@ two_calls : (at (lock_free_bound IndexQueue) 2 8 1 2 ≡ Some 22) × ((at (lock_
     × (at (lock_free_bound Indices) 2 8 1 2 ≡ Some 98))))))
 two_calls = (refl, (refl, (refl, (refl, (refl, (refl, refl))))))
 
--- and of a thousand calls beside
+-- this is the load of two parties and a thousand calls beside
 thousand : at (lock_free_bound IndexQueue) 2 8 1 1002 ≡ Some 11022
 thousand = refl
 
--- of a robust set and a container in which no call may lock
+-- these are the loads of a robust set and of a container in which no call may lock
 owners : (load (default_bound 2 8 1) 2 ≡ 1190) × (load (default_container_bound 2 8 1) 2 ≡ 2378)
 owners = (refl, refl)
 
@@ -70,7 +70,7 @@ push_met = (refl, refl)
 push_ends : pending 1 (after_turns (from Overflow 1 1 full) (nexts 0 6)).world ≡ 0
 push_ends = refl
 
--- so no bound below 5 will do there
+-- no bound below 5 holds there
 no_less : (bound : Bound) → bound 1 1 1 < 5 → EndsLoad ℕ Overflow bound → ⊥
 no_less bound few loads =
     let most : 6 ≤ 1 * (bound 1 1 1 + 1) =

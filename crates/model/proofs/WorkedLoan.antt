@@ -49,6 +49,7 @@ sent = begins 0 loan 4 ++ (begins 0 (send 0) 4 ++ (begins 0 loan 4 ++ begins 0 (
 abbrev reclaimed : List (Turn ℕ)
 reclaimed = sent ++ (begins 1 receive 4 ++ (begins 0 loan 4 ++ (Die 1 ∷ begins 0 reclaim 8)))
 
+-- the second send hands back the index of the first, which is freed
 pub sent_events : (ran_on sent).events
     ≡ Begun 0 loan
     ∷ Claimed 0 0
@@ -69,6 +70,7 @@ pub sent_events : (ran_on sent).events
     ∷ []
 sent_events = refl
 
+-- the sender reclaims the index that the dead receiver held
 pub reclaimed_events : (ran_on reclaimed).events
     ≡ Begun 0 loan
     ∷ Claimed 0 0
@@ -142,6 +144,7 @@ pub of_a_reclaim : (refused_after sent (Begin 1 reclaim) ≡ Some NoRole)
     × (refused_after (sent ++ Die 1 ∷ []) (Begin 0 reclaim) ≡ None)
 of_a_reclaim = (refl, refl, refl)
 
+-- a turn of a party that has died is refused, and so are a death of no party and a call without a role
 pub of_the_dead : (refused_after (sent ++ Die 1 ∷ []) (Begin 1 receive) ≡ Some OwnerIsDead)
     × (refused_after (sent ++ (Begin 1 receive ∷ Die 1 ∷ [])) (Next 1) ≡ Some OwnerIsDead)
     × (refused_after (sent ++ Die 1 ∷ []) (Die 1) ≡ Some OwnerIsDead)
@@ -181,10 +184,11 @@ no_dead_in_a_run lives = no_begin_of_the_dead (lives died [] (Begun 1 receive) r
 pub no_reclaim_from_the_living : LivesRight (ran_on sent).events (Begun 0 reclaim) → ⊥
 no_reclaim_from_the_living right = let dead = right.1 in cc
 
--- but a send that has stopped in a full queue acts as a receive makes room
+-- a send that has stopped in a full queue acts as a receive makes room, though its party is dead
 abbrev stopped : List (Turn ℕ)
 stopped = begins 0 loan 4 ++ (begins 0 (send 0) 4 ++ (begins 0 loan 4 ++ begins 0 (send 1) 4))
 
+-- the receive hands the oldest index out, and with that the dead sender's send acts
 pub send_of_the_dead_acts : (ran_on (stopped ++ (Die 0 ∷ begins 1 receive 4))).events
     ≡ Begun 0 loan
     ∷ Claimed 0 0

@@ -86,6 +86,7 @@ record IsEndless (t : Trace ℕ) (kind : Kind) (c n steps ended : ℕ) (turns : 
   pub before : ends t.events ≡ ended
   pub after : ends (after_turns t turns).events ≡ ended
 
+-- from there these turns take more steps than the bound allows, so the bound is too small for the kind
 no_less : (t : Trace ℕ) (kind : Kind) (c n steps ended : ℕ) (turns : List (Turn ℕ)) → IsEndless t kind c n steps ended turns
     → (bound : Bound) → bound n c 1 < steps → IsLockFree ℕ kind bound → ⊥
 no_less t kind c n steps ended turns endless bound few free =
@@ -104,6 +105,7 @@ measured push =
     ++ (begins 0 (starts.Queues queues.Len) 1
     ++ (begins 1 (starts.Queues queues.Len) 1 ++ begins 2 (starts.Queues push) 4))
 
+-- no bound below 10 holds for two lengths of an index queue of capacity 1
 pub index_queue : (bound : Bound) → bound 2 1 1 < 10 → IsLockFree ℕ IndexQueue bound → ⊥
 index_queue =
     no_less (from IndexQueue 1 3 (measured (queues.PushIndex 7))) IndexQueue 1 2 10 2 (nexts 0 5 ++ nexts 1 5)
@@ -119,6 +121,7 @@ index_queue =
       after = refl;
     })
 
+-- no bound below 10 holds for two lengths of a queue of capacity 1
 pub queue : (bound : Bound) → bound 2 1 1 < 10 → IsLockFree ℕ Queue bound → ⊥
 queue =
     no_less (from Queue 1 3 (measured (queues.Push 7))) Queue 1 2 10 2 (nexts 0 5 ++ nexts 1 5)
@@ -142,6 +145,7 @@ full =
     ++ (begins 0 (starts.Queues (queues.PushIndex 7)) 4
     ++ (Begin 0 (starts.Queues (queues.PushIndex 8)) ∷ []))
 
+-- no bound below 5 holds for one push of a full overflowing queue
 pub overflow : (bound : Bound) → bound 1 1 1 < 5 → IsLockFree ℕ Overflow bound → ⊥
 overflow =
     no_less (from Overflow 1 1 full) Overflow 1 1 5 2 (nexts 0 5)
@@ -159,6 +163,7 @@ overflow =
 
 -- ---- two loads of a value whose version has moved
 
+-- both loads have read the version before the store
 abbrev stale : List (Turn ℕ)
 stale =
     begins 2 (starts.Atomic atomics.AcquireProducer) 1
@@ -166,6 +171,7 @@ stale =
     ++ (begins 1 (starts.Atomic atomics.Load) 1
     ++ begins 2 (starts.Atomic (atomics.Store 7)) 3))
 
+-- no bound below 6 holds for two loads of a value of one word
 pub value : (bound : Bound) → bound 2 1 1 < 6 → IsLockFree ℕ Atomic bound → ⊥
 value =
     no_less (from Atomic 1 3 stale) Atomic 1 2 6 2 (nexts 0 3 ++ nexts 1 3)
@@ -187,6 +193,7 @@ abbrev last_set : List (Turn ℕ)
 last_set =
     begins 1 (starts.Bits (bits.Set 2)) 2 ++ (Begin 0 (starts.Bits bits.ResetNext) ∷ [])
 
+-- no bound below 5 holds for one reset of the next bit
 pub bit_set : (bound : Bound) → bound 1 3 1 < 5 → IsLockFree ℕ Bits bound → ⊥
 bit_set =
     no_less (from Bits 3 2 last_set) Bits 3 1 5 1 (nexts 0 5)
@@ -206,6 +213,7 @@ abbrev resets : List (Turn ℕ)
 resets =
     Begin 0 (starts.Bits bits.ResetAll) ∷ Begin 1 (starts.Bits bits.ResetAll) ∷ []
 
+-- no bound below 4 holds for two resets of all counts
 pub counts : (bound : Bound) → bound 2 3 1 < 4 → IsLockFree ℕ Counts bound → ⊥
 counts =
     no_less (from Counts 3 2 resets) Counts 3 2 4 0 (nexts 0 2 ++ nexts 1 2)
@@ -227,6 +235,7 @@ abbrev rounds : ℕ → List (Turn ℕ)
 rounds zero = []
 rounds (suc n) = round ++ rounds n
 
+-- no bound below 200 holds for two releases that would lock a robust index set
 pub robust : (bound : Bound) → bound 2 2 1 < 200 → IsLockFree ℕ Robust bound → ⊥
 robust =
     no_less (from Robust 2 2 both_count) Robust 2 2 200 2 (rounds 20)

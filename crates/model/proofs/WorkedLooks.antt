@@ -23,6 +23,7 @@ turns =
     ++ (begins 1 (Queues Peek) 2
     ++ (begins 0 (Queues (PushIndex 5)) 4 ++ (begins 1 (Queues Peek) 3 ++ (begins 1 (Queues Peek) 3 ++ begins 1 (Queues Pop) 4))))
 
+-- the events of these turns: both peeks answer the value that the pop then takes
 abbrev told : List (Event ℕ)
 told =
     roles_told
@@ -49,6 +50,7 @@ looked = refl
 abbrev first : ℕ
 first = 18446744073709551618
 
+-- the peek answers the whole value that was pushed
 pub looked_at_value : (ran two_words kinds.Queue 1 2 (roles ++ (begins 0 (Queues (Push first)) 5 ++ begins 1 (Queues Peek) 4))).events
     ≡ roles_told
     ++ Begun 0 (Queues (Push first))
@@ -68,6 +70,7 @@ role_turns =
     ++ (begins 1 (Queues HasProducer) 1
     ++ (begins 1 (Queues HasConsumer) 1 ++ (begins 0 (Queues ReleaseProducer) 1 ++ begins 1 (Queues HasProducer) 1))))
 
+-- each look answers whether its role is taken at that moment
 pub roles_looked : (ran one_word kinds.Overflow 1 2 role_turns).events
     ≡ Begun 1 (Queues HasProducer)
     ∷ Finished 1 (Queues HasProducer) (Truth false)
@@ -92,6 +95,7 @@ version_turns =
     ++ (begins 1 (Atomic values.HasProducer) 1
     ++ (begins 0 (Atomic (values.Store first)) 4 ++ begins 1 (Atomic values.Version) 1)))
 
+-- the events of these turns: the version before the store, and after it
 abbrev version_told : List (Event ℕ)
 version_told =
     Begun 1 (Atomic values.Version)

@@ -39,6 +39,7 @@ ran_on capacity turns = ran one_word kinds.Robust capacity 2 turns
 
 -- ---- an acquire that meets the lock late: the release has read the cell as empty before it is filled
 
+-- the second acquire fills the cell after the release has read it as empty, and before that release locks
 abbrev late : List (Turn ℕ)
 late =
     begins 0 (acquire 313) 4
@@ -48,6 +49,7 @@ late =
     ++ (nexts 1 2
     ++ Begin 1 (find 7) ∷ Next 1 ∷ Decide 1 true ∷ []))))
 
+-- the acquire is refused though its cell is filled, and a search finds that cell
 pub late_events : (ran_on 1 late).events
     ≡ Begun 0 (acquire 313)
     ∷ Filled 0 0 313
@@ -74,6 +76,7 @@ late_words = refl
 abbrev three_filled : List (Turn ℕ)
 three_filled = begins 0 (acquire 1) 4 ++ (begins 0 (acquire 2) 5 ++ begins 0 (acquire 1) 6)
 
+-- the events of the three acquires
 abbrev told_of_three : List (Event ℕ)
 told_of_three =
     Begun 0 (acquire 1)
@@ -99,6 +102,7 @@ with_death =
     ++ (Decide 1 false ∷ nexts 1 1
     ++ (Decide 1 true ∷ nexts 1 4))))
 
+-- the recovery asks about all three indices, and frees the two that it was told yes of
 pub with_death_events : (ran_on 3 with_death).events
     ≡ told_of_three
     ++ Died 1
@@ -131,6 +135,7 @@ yes_is_refused = refl
 pub question_is_due : refusal_of (ran_on 3 (without_death ++ Decide 1 true ∷ [])).world (Next 1) ≡ Some Undecided
 question_is_due = refl
 
+-- after the no, the recovery goes on to the next index
 pub goes_on_after_no : (ran_on 3 (without_death ++ Decide 1 true ∷ Decide 1 false ∷ Next 1 ∷ [])).events
     ≡ told_of_three
     ++ Begun 1 recover
@@ -217,9 +222,9 @@ untold (a ∷ b ∷ bs) e = cc
 frees_untold : may_stand {T = ℕ} (FreedOf 0 0 7) (Open recover (Asked 0 0 7 ∷ [])) → ⊥
 frees_untold latest = untold latest.before latest.is
 
--- and one that asks twice about an index
+-- a recovery does not ask twice about an index
 asks_twice : may_stand {T = ℕ} (Asked 0 0 7) (Open recover (Asked 0 0 7 ∷ [])) → ⊥
-asks_twice ascending = let further = ascending.0 in absurd (omega arith)
+asks_twice ascending = absurd (omega (arith, ascending.0))
 
 -- a recovery that was told to free an index, and leaves it
 abbrev told_of : List (Event ℕ)
@@ -238,6 +243,7 @@ begun_once start rest is within = (subst (BeginsNone 0) (sym is) within).0 refl
 begun_then : (start : Start ℕ) (rest : List (Event ℕ)) → Begun 0 start ∷ [] ≡ rest → BeginsNone 0 rest → ⊥
 begun_then start rest is within = (subst (BeginsNone 0) (sym is) within).0 refl
 
+-- at every moment since the call began, index 0 is filled by owner 7
 stays_filled : (start : Start ℕ) → HeldThroughout 0 (IsFilledWith 7 0) (Filled 1 0 7 ∷ Begun 0 start ∷ [])
 stays_filled start [] rest is within = absurd (begun_once start rest is within)
 stays_filled start (a ∷ []) rest is within =
@@ -297,6 +303,7 @@ last_one = Filled 1 0 7 ∷ Begun 1 (release 0 7 LockIfLastIndex) ∷ FreedOf 1 
 freed_all : (i : ℕ) → filled_of i last_one ≡ None
 freed_all = grind (arith, false, ne_eqb)
 
+-- at no moment after the release freed its index was another one filled
 no_moment : (i : ℕ) (part rest : List (Event ℕ)) → last_one ≡ part ++ rest → IsOneOf (Frees 0 7) (set_acts_of 1 part) → IsFilled i part → ⊥
 no_moment i [] rest is one filled = cc
 no_moment i (a ∷ []) rest is one filled =
@@ -321,6 +328,7 @@ never_locks = grind (arith, no_moment)
 abbrev well_formed_turns : List (Turn ℕ)
 well_formed_turns = begins 0 (acquire 313) 4 ++ (begins 0 (release 0 313 Default) 3 ++ begins 1 (acquire 7) 4)
 
+-- each event of this run that frees an index frees one that its party has
 pub is_well_formed : IsWellFormed (ran_on 1 well_formed_turns).events
 is_well_formed =
     Each-append FreesRight [] (ran_on 1 well_formed_turns).events (Each-nil FreesRight) (

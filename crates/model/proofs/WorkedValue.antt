@@ -23,6 +23,7 @@ turns =
     ++ (begins 1 (Atomic Load) 2
     ++ (begins 0 (Atomic (Store first)) 4 ++ (begins 0 (Atomic (Store second)) 4 ++ nexts 1 5)))
 
+-- the events of these turns: the load answers a value that was stored while it was under way
 abbrev told : List (Event ℕ)
 told =
     Begun 0 (Atomic AcquireProducer)
@@ -63,7 +64,7 @@ no_torn_load legal = cc
 
 -- a load that ends and has not acted
 no_silent_load : Stands (promise_of kinds.Atomic) 1 (Finished 1 (Atomic Load) (Loaded second)) (Open (Atomic Load) []) → ⊥
-no_silent_load stands_holds = let none = stands_holds.1 in cc
+no_silent_load stands_so = let none = stands_so.1 in cc
 
 -- a store that acts as it stores a word, and a load that acts as it loads one
 abbrev word_of : Option Ask → ℕ

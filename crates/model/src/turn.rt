@@ -73,6 +73,7 @@ impl Shape {
     }
 }
 
+/// Why there is no structure of this kind and capacity, if there is none.
 fn capacity_error(kind: Kind, capacity: u64) -> Option<UniqueIndexCreationError>
     ensures error { result ≡ capacity_error kind capacity }
     ensures capacity { result ≡ None → capacity ≤ 2 ^ 32 - 1 }
@@ -81,6 +82,8 @@ fn capacity_error(kind: Kind, capacity: u64) -> Option<UniqueIndexCreationError>
     capacity_refusal(capacity, least, greatest)
 }
 
+/// Why there is no loan channel of these numbers, if there is none: one above its greatest is refused before one below
+/// its least.
 fn loan_error(slots: u64, queue: u64) -> Option<UniqueIndexCreationError>
     ensures error { result ≡ loan_error slots queue }
     ensures slots { result ≡ None → slots ≤ 2 ^ 24 - 2 }

@@ -17,6 +17,7 @@ use Rattle.pages.specs.Places.{Act, ActsAt}
 use Rattle.pages.proofs.Places.{Moves, Stays, Acts, Forgets, Begins, Goes, Law, words_then}
 use Rattle.pages.proofs.Places as places
 
+-- the call that a stage belongs to
 abbrev pub call_at : page.Stage → page.Call
 call_at (page.SetLoadsElement place) = page.Set place
 call_at (page.SetExchangesElement place element) = page.Set place
@@ -56,6 +57,7 @@ module _ (c b : ℕ) (below : b < c) where
   abbrev count : List ℕ → ℕ
   count places = count_by (λ place. place == b) places
 
+  -- what a step at each stage does for the place `b`, where it acts at all
   abbrev did : page.Stage → Option Act
   did (page.SetLoadsElement place) = None
   did (page.SetExchangesElement place element) = None
@@ -65,6 +67,7 @@ module _ (c b : ℕ) (below : b < c) where
   did (page.NextStoresPosition place) = taken place
   did (page.AllSwapsElement word places) = cond (nat_lt (1 + b / 64) word) (Some (act (count places) 0)) None
 
+  -- what is so of the places and words of a stage when its call stands there
   abbrev Fits : page.Stage → Type 0
   Fits (page.SetLoadsElement place) = place < c
   Fits (page.SetExchangesElement place element) = (place < c) × (page.stands element place ≡ false)
@@ -161,7 +164,7 @@ module _ (c b : ℕ) (below : b < c) where
       (value (slice_set words (1 + place / 64) (with_flag element place)))
   set_done words place element good lt clear is = go (place == b) refl
     where
-      -- so it has whether the bit is the place's or not
+      -- the cases are whether the bit is the place's
       go : (t : Bool) → (place == b) ≡ t
           → Moves at (page.Set place) None (cond t (Some (act 0 1)) None) (value words) (value (slice_set words (1 + place / 64) (with_flag element place)))
       go true t =
@@ -184,15 +187,15 @@ module _ (c b : ℕ) (below : b < c) where
       → Step words (page.SetExchangesElement place element)
   set_exchanges words place element good lt clear = go (slice_index words (1 + place / 64) == element) refl
     where
-      -- so it has whether the element was as it had been loaded or not
+      -- the cases are whether the element was as it had been loaded
       go : (t : Bool) → (slice_index words (1 + place / 64) == element) ≡ t
           → Good (exchanged words (1 + place / 64) (with_flag element place) t)
           × GoesThen (page.SetExchangesElement place element)
           (cond t (Done (page.WasSet true)) (page.set_tests place (slice_index words (1 + place / 64)))) (value words)
           (value (exchanged words (1 + place / 64) (with_flag element place) t))
       go true t =
-          let is : slice_index words (1 + place / 64) ≡ element = grind (arith, nat_tests) in
-          (same_length words (1 + place / 64) (with_flag element place) good, set_done words place element good lt clear is)
+          let same_element : slice_index words (1 + place / 64) ≡ element = grind (arith, nat_tests) in
+          (same_length words (1 + place / 64) (with_flag element place) good, set_done words place element good lt clear same_element)
       go false t =
           let same = exchange_fails words (1 + place / 64) (with_flag element place) in
           let old = slice_index words (1 + place / 64) in (
@@ -212,10 +215,10 @@ module _ (c b : ℕ) (below : b < c) where
       -- a search that passes the place where it is clear has found 0 there, and left 0
       here : offset start ≡ passed → Moves at page.ResetNext (passed_by start passed) (passed_by start (passed + 1)) v v
       here is =
-          let no : nat_lt (offset start) passed ≡ false = grind (arith, nat_tests) in
+          let not_below : nat_lt (offset start) passed ≡ false = grind (arith, nat_tests) in
           let yes : nat_lt (offset start) (passed + 1) ≡ true = grind (arith, nat_tests) in
           let none = clear (place_is start passed le lt is) in
-          rw (no, yes) (Acts refl (act 0 0) refl (sym none) (sym none) (page.WasReset None, refl))
+          rw (not_below, yes) (Acts refl (act 0 0) refl (sym none) (sym none) (page.WasReset None, refl))
 
       elsewhere : offset start ≢ passed → Moves at page.ResetNext (passed_by start passed) (passed_by start (passed + 1)) v v
       elsewhere ne =
@@ -268,7 +271,7 @@ module _ (c b : ℕ) (below : b < c) where
       at_most old = grind (arith, nat_tests)
 
       none_yet : (start : ℕ) → passed_by start 0 ≡ None
-      none_yet start = let no : nat_lt (offset start) 0 ≡ false = grind (arith, nat_tests) in rw no refl
+      none_yet start = let not_below : nat_lt (offset start) 0 ≡ false = grind (arith, nat_tests) in rw not_below refl
 
   sees_there : (words : List ℕ) (place : ℕ) → place ≡ b → value words ≡ page.bit (page.stands (slice_index words (1 + place / 64)) b)
   sees_there words place same = ap (λ n. page.bit (page.stands (slice_index words (1 + n / 64)) b)) (sym same)
@@ -295,14 +298,14 @@ module _ (c b : ℕ) (below : b < c) where
       then =
           slice_set words (1 + page.place_after c start passed / 64) (without_flag element (page.place_after c start passed))
 
-      -- so it has where the bit is the place's
+      -- a search that takes out the place's bit has found 1 and left 0
       here : offset start ≡ passed
           → Moves at page.ResetNext (passed_by start passed) (taken (page.place_after c start passed)) (value words)
           (value (slice_set words (1 + page.place_after c start passed / 64) (without_flag element (page.place_after c start passed))))
       here at_it =
           let place = page.place_after c start passed in
           let same = place_is start passed le lt at_it in
-          let no : nat_lt (offset start) passed ≡ false = grind (arith, nat_tests) in
+          let not_below : nat_lt (offset start) passed ≡ false = grind (arith, nat_tests) in
           let yes : (page.place_after c start passed == b) ≡ true = grind (arith, nat_tests) in
           let was : value words ≡ 1 =
           ap (λ n. page.bit (stands words n)) (sym same) ∙ (ap (λ e. page.bit (page.stands e place)) is ∙ ap page.bit stood) in
@@ -310,7 +313,7 @@ module _ (c b : ℕ) (below : b < c) where
           ap (λ n. page.bit (stands (slice_set words (1 + place / 64) (without_flag element place)) n)) (sym same)
           ∙ ap page.bit (subst (λ e. stands (slice_set words (1 + place / 64) (without_flag e place)) place ≡ false) is
           (cleared_clear words place (near words place good (place_within start passed le lt)))) in
-          let none : passed_by start passed ≡ None = rw no refl in
+          let none : passed_by start passed ≡ None = rw not_below refl in
           let some : taken place ≡ Some (act 1 0) = rw yes refl in
           let possible : page.at b page.ResetNext (page.WasReset (Some place)) ≡ Some (act 1 0) = rw yes refl in
           Acts none (act 1 0) some (sym was) (sym will) (page.WasReset (Some place), possible)
@@ -322,10 +325,10 @@ module _ (c b : ℕ) (below : b < c) where
       elsewhere ne =
           let place = page.place_after c start passed in
           let other = place_is_not start passed le lt ne in
-          let no : (page.place_after c start passed == b) ≡ false = grind (arith, nat_tests) in
+          let is_other : (page.place_after c start passed == b) ≡ false = grind (arith, nat_tests) in
           let stays = ap page.bit (subst (λ e. stands (slice_set words (1 + place / 64) (without_flag e place)) b ≡ stands words b) is
           (cleared_leaves words place b (near words place good (place_within start passed le lt)) other)) in
-          let none : taken place ≡ None = rw no refl in
+          let none : taken place ≡ None = rw is_other refl in
           go (nat_lt (offset start) passed) refl none stays
         where
           go : {w : ℕ} (t : Bool) → nat_lt (offset start) passed ≡ t → taken (page.place_after c start passed) ≡ None → w ≡ value words
@@ -339,7 +342,7 @@ module _ (c b : ℕ) (below : b < c) where
   next_exchanges words start passed element good le lt stood =
       go (slice_index words (1 + page.place_after c start passed / 64) == element) refl
     where
-      -- so it has whether the element was as it had been loaded or not
+      -- the cases are whether the element was as it had been loaded
       go : (t : Bool) → (slice_index words (1 + page.place_after c start passed / 64) == element) ≡ t
           → Good (exchanged words (1 + page.place_after c start passed / 64) (without_flag element (page.place_after c start passed)) t)
           × GoesThen (page.NextExchangesElement start passed element)
@@ -348,9 +351,9 @@ module _ (c b : ℕ) (below : b < c) where
           (value (exchanged words (1 + page.place_after c start passed / 64) (without_flag element (page.place_after c start passed)) t))
       go true t =
           let place = page.place_after c start passed in
-          let is : slice_index words (1 + page.place_after c start passed / 64) ≡ element = grind (arith, nat_tests) in (
+          let same_element : slice_index words (1 + page.place_after c start passed / 64) ≡ element = grind (arith, nat_tests) in (
             same_length words (1 + place / 64) (without_flag element place) good,
-            record { call = refl; fits = tt; moves = next_done words start passed element good le lt stood is },
+            record { call = refl; fits = tt; moves = next_done words start passed element good le lt stood same_element },
           )
       go false t =
           let place = page.place_after c start passed in
@@ -393,14 +396,14 @@ module _ (c b : ℕ) (below : b < c) where
               (cond (nat_lt (1 + b / 64) (word + 1)) (Some (act (count (places ++ places_in word (slice_index words word))) 0)) None)
               (value words) (value (slice_set words word 0))
           here same =
-              let no : nat_lt (1 + b / 64) word ≡ false = grind (arith, nat_tests) in
+              let not_below : nat_lt (1 + b / 64) word ≡ false = grind (arith, nat_tests) in
               let yes : nat_lt (1 + b / 64) (word + 1) ≡ true = grind (arith, nat_tests) in
               let all = place_named word (slice_index words word) b same in
               let before = none (omega arith) in
               let sums = sum_by-append (λ place. cond (place == b) 1 0) places (places_in word (slice_index words word)) in
               let was : value words ≡ page.bit (page.stands (slice_index words word) b) = ap (λ n. page.bit (page.stands (slice_index words n) b)) same in
               let cleared : value (slice_set words word 0) ≡ 0 = ap page.bit (swapped_clear words word b (sym same) (omega arith)) in
-              rw (no, yes) (Acts refl (act (count (places ++ places_in word (slice_index words word))) 0) refl (omega arith) (sym cleared)
+              rw (not_below, yes) (Acts refl (act (count (places ++ places_in word (slice_index words word))) 0) refl (omega arith) (sym cleared)
               (page.WereReset (places ++ places_in word (slice_index words word)), refl))
 
           -- it has done nothing more where it swaps another
@@ -466,8 +469,8 @@ module _ (c b : ℕ) (below : b < c) where
       begins p (page.Set place) may = record { is = refl; nothing = refl; fits = grind (arith, nat_tests) }
       begins p page.ResetNext may = record { is = refl; nothing = refl; fits = tt }
       begins p page.ResetAll may =
-          let no : nat_lt (1 + b / 64) 1 ≡ false = grind (arith, nat_tests) in
-          record { is = refl; nothing = rw no refl; fits = ((omega arith), ((omega arith), λ le. refl)) }
+          let not_below : nat_lt (1 + b / 64) 1 ≡ false = grind (arith, nat_tests) in
+          record { is = refl; nothing = rw not_below refl; fits = ((omega arith), ((omega arith), λ le. refl)) }
 
       -- each stage does one thing at the place
       steps : (words : List ℕ) (stage : page.Stage) → Good words → Fits stage → Step words stage

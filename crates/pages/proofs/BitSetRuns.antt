@@ -101,6 +101,7 @@ module _ (c : ℕ) (some : 0 < c) where
   writes p found (bits.SetLoadsElement place) old = writes_none p
   writes p found (bits.SetExchangesElement place element) old = go (old == element)
     where
+      -- the cases are whether the word is still what was read
       go : (b : Bool) → WritesBits p (cond b (events.Set p place ∷ []) []) []
       go true = record { quiet = λ before. refl; own = λ acc. sym (append-nil acc); others = λ q acc ne. refl }
       go false = writes_none p
@@ -108,6 +109,7 @@ module _ (c : ℕ) (some : 0 < c) where
   writes p found (bits.NextLoadsElement start passed) old = writes_none p
   writes p found (bits.NextExchangesElement start passed element) old = go (old == element)
     where
+      -- the cases are whether the word is still what was read
       go : (b : Bool) → WritesBits p (cond b (events.Cleared p (bits.place_after c start passed) ∷ []) [])
           (cond b (bits.place_after c start passed ∷ []) [])
       go true = writes_all p (bits.place_after c start passed ∷ [])
@@ -130,7 +132,7 @@ module _ (c : ℕ) (some : 0 < c) where
   reads_next : (start passed old : ℕ) (items : List ℕ) → ReadsBits items (bits.next_tests c start passed old)
   reads_next start passed old items = go (bits.stands old (bits.place_after c start passed)) (nat_lt (passed + 1) c)
     where
-      -- so it does whether the bit stands or not, and whether a place is left or not
+      -- the cases are whether the bit stands and whether a place is left
       go : (a b : Bool)
           → ReadsBits items (cond a (machine.GoOn (bits.NextExchangesElement start passed old))
           (cond b (machine.GoOn (bits.NextLoadsElement start (passed + 1))) (machine.Done (bits.WasReset None))))
@@ -143,12 +145,14 @@ module _ (c : ℕ) (some : 0 < c) where
   reads (bits.SetLoadsElement place) old items hands = reads_set place old (items ++ [])
   reads (bits.SetExchangesElement place element) old items hands = go (old == element) (reads_set place old (items ++ []))
     where
+      -- the cases are whether the word is still what was read
       go : (b : Bool) → ReadsBits (items ++ []) (bits.set_tests place old)
           → ReadsBits (items ++ []) (cond b (machine.Done (bits.WasSet true)) (bits.set_tests place old))
       go true more = refl
       go false more = more
   reads bits.NextLoadsPosition old items hands = go (nat_lt 0 c)
     where
+      -- the cases are whether the set has a place at all
       go : (b : Bool)
           → ReadsBits (items ++ []) (cond b (machine.GoOn (bits.NextLoadsElement (cond (nat_lt c old) c old) 0)) (machine.Done (bits.WasReset None)))
       go true = tt
@@ -156,6 +160,7 @@ module _ (c : ℕ) (some : 0 < c) where
   reads (bits.NextLoadsElement start passed) old items hands = reads_next start passed old (items ++ [])
   reads (bits.NextExchangesElement start passed element) old items hands = go (old == element)
     where
+      -- the cases are whether the word is still what was read
       go : (b : Bool)
           → ReadsBits (items ++ cond b (bits.place_after c start passed ∷ []) [])
           (cond b (machine.GoOn (bits.NextStoresPosition (bits.place_after c start passed))) (bits.next_tests c start passed old))
@@ -164,7 +169,7 @@ module _ (c : ℕ) (some : 0 < c) where
   reads (bits.NextStoresPosition place) old items hands = refl
   reads (bits.AllSwapsElement word places) old items hands = go (nat_lt (word + 1) (1 + elements c))
     where
-      -- so it does whether an element is left or not
+      -- the cases are whether an element is left
       go : (b : Bool)
           → ReadsBits (items ++ places_in word old)
           (cond b (machine.GoOn (bits.AllSwapsElement (word + 1) (places ++ places_in word old)))
@@ -180,6 +185,7 @@ module _ (c : ℕ) (some : 0 < c) where
   bits_right : (stage : bits.Stage) (old : ℕ) → bits_bridge.Fits c stage → BitsGoRight stage ((bits.does c stage).2 old)
   bits_right (bits.SetLoadsElement place) old fits = go (bits.stands old place)
     where
+      -- the cases are whether the place is set already
       go : (b : Bool)
           → BitsGoRight (bits.SetLoadsElement place) (cond b (machine.Done (bits.WasSet false)) (machine.GoOn (bits.SetExchangesElement place old)))
       go true = tt
@@ -195,6 +201,7 @@ module _ (c : ℕ) (some : 0 < c) where
       go false false = (refl, tt)
   bits_right bits.NextLoadsPosition old fits = go (nat_lt 0 c)
     where
+      -- the cases are whether the set has a place at all
       go : (b : Bool)
           → BitsGoRight bits.NextLoadsPosition
           (cond b (machine.GoOn (bits.NextLoadsElement (cond (nat_lt c old) c old) 0)) (machine.Done (bits.WasReset None)))

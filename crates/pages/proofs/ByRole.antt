@@ -71,8 +71,8 @@ module _ {T Call Stage Answer Room : Type 0} {of : machine.Structure Call Stage 
               go : (o : Option Stage) → w.pending n ≡ o → w.pending n ≡ None
               go None e = e
               go (Some stage) e =
-                  let h = inv.held n stage e in
-                  not_two here h.who_is (is_idle p n stage h free)
+                  let held_there = inv.held n stage e in
+                  not_two here held_there.who_is (is_idle p n stage held_there free)
 
           -- a call of the page that begins on the model begins on the page, as the party of its role
           begin_own : (p : ℕ) (start : Start T) (flight : Flight T) → by.is_call start ≡ true → first_of kind capacity start (hands.registry k) ≡ Some flight
@@ -82,7 +82,7 @@ module _ {T Call Stage Answer Room : Type 0} {of : machine.Structure Call Stage 
               let call = b.call in
               let n = by.number p call in
               let reads : by.reading.call start ≡ call = ap by.reading.call b.start_is ∙ tie.reads_start call in
-              let x = party_at_begin start flight changes in
+              let party_after = party_at_begin start flight changes in
               let place = free_place p n b.who_is free in
               let now : machine.World Call Stage Answer =
               record { words = w.words; pending = machine.put n (Some (of.first call)) w.pending; history = w.history ++ machine.Invoked n call ∷ [] } in
@@ -90,7 +90,7 @@ module _ {T Call Stage Answer Room : Type 0} {of : machine.Structure Call Stage 
               ap (λ c. fold (machine.turned of) w (cond c (machine.Begin (by.number p (by.reading.call start)) (by.reading.call start) ∷ []) [])) mine
               ∙ (ap (λ c. machine.begun of w (by.number p c) c (of.may (by.number p c) c) (w.pending (by.number p c))) reads
               ∙ (ap (λ c. machine.begun of w n call c (w.pending n)) b.may ∙ ap (machine.begun of w n call true) place)) in
-              let here : Stands by tie hands k now.pending p (Some x) =
+              let here : Stands by tie hands k now.pending p (Some party_after) =
               inl
               (record {
                 stage = of.first call;
@@ -105,7 +105,7 @@ module _ {T Call Stage Answer Room : Type 0} {of : machine.Structure Call Stage 
               (record {
                 k = k;
                 words = words;
-                latest = put p x latest;
+                latest = put p party_after latest;
                 changes = changes;
                 turns = turns + 1;
                 events = events ++ Begun p start ∷ [];
@@ -119,7 +119,7 @@ module _ {T Call Stage Answer Room : Type 0} {of : machine.Structure Call Stage 
                           (ap (λ c. cond c (machine.Invoked (by.number p (by.reading.call start)) (by.reading.call start) ∷ []) [] ++ []) mine
                           ∙ ap (λ c. machine.Invoked (by.number p c) c ∷ []) reads);
                       stands =
-                          put_stands by tie hands k now.pending p x latest here
+                          put_stands by tie hands k now.pending p party_after latest here
                           (λ q ne. still by tie hands k k w.pending now.pending q
                           (kept_place by tie hands k w.pending p q n (Some (of.first call)) b.who_is ne)
                           (λ start flight h. h)
@@ -153,28 +153,29 @@ module _ {T Call Stage Answer Room : Type 0} {of : machine.Structure Call Stage 
                         number_is = ap (by.number p) (tie.first_at b.call) ∙ sym is;
                       })
                     where
-                      the_same : {x y : Stage} → Some x ≡ Some y → x ≡ y
+                      the_same : {party_after y : Stage} → Some party_after ≡ Some y → party_after ≡ y
                       the_same e = cc
 
                   other : m ≢ by.number p b.call → Held by tie hands k m stage (put p (party_at_begin start flight changes) latest)
                   other ne =
                       let old : w.pending m ≡ Some stage = sym (put_other by tie hands (by.number p b.call) m (Some (of.first b.call)) w.pending ne) ∙ e in
-                      let h = inv.held m stage old in
-                      still_held by tie hands k k m stage p (party_at_begin start flight changes) latest h (is_idle p m stage h free) h.who_is
+                      let held_there = inv.held m stage old in
+                      still_held by tie hands k k m stage p (party_at_begin start flight changes) latest held_there
+                      (is_idle p m stage held_there free) held_there.who_is
 
           -- a call that is none of the page's begins on the model, and the page takes no turn
           begin_other : (p : ℕ) (start : Start T) (flight : Flight T) → by.is_call start ≡ false → first_of kind capacity start (hands.registry k) ≡ Some flight
               → flight_of (doing_of (party_of p latest)) ≡ None → hands.Other k p start flight
               → Sim by tie hands (fold (machine.turned of) w (turn_taken by world (Begin p start))) (after_turn t (Begin p start))
           begin_other p start flight mine named free b =
-              let x = party_at_begin start flight changes in
+              let party_after = party_at_begin start flight changes in
               let comes : fold (machine.turned of) w (turn_taken by world (Begin p start)) ≡ w =
               ap (λ c. fold (machine.turned of) w (cond c (machine.Begin (by.number p (by.reading.call start)) (by.reading.call start) ∷ []) [])) mine in
               subst (λ v. Sim by tie hands v (after_turn t (Begin p start))) (sym comes)
               (record {
                 k = k;
                 words = words;
-                latest = put p x latest;
+                latest = put p party_after latest;
                 changes = changes;
                 turns = turns + 1;
                 events = events ++ Begun p start ∷ [];
@@ -187,10 +188,12 @@ module _ {T Call Stage Answer Room : Type 0} {of : machine.Structure Call Stage 
                           told_more by tie hands events (Begun p start ∷ []) w.history [] inv.told_is
                           (ap (λ c. cond c (machine.Invoked (by.number p (by.reading.call start)) (by.reading.call start) ∷ []) [] ++ []) mine)
                           ∙ append-nil w.history;
-                      stands = put_stands by tie hands k w.pending p x latest (inr b) (λ q ne. inv.stands q);
+                      stands = put_stands by tie hands k w.pending p party_after latest (inr b) (λ q ne. inv.stands q);
                       held =
                           λ m stage e.
-                          let h = inv.held m stage e in still_held by tie hands k k m stage p x latest h (is_idle p m stage h free) h.who_is;
+                          let held_there = inv.held m stage e in
+                          still_held by tie hands k k m stage p party_after latest held_there
+                          (is_idle p m stage held_there free) held_there.who_is;
                     };
               })
 
@@ -202,7 +205,7 @@ module _ {T Call Stage Answer Room : Type 0} {of : machine.Structure Call Stage 
               let flight = not_none (first_of kind capacity start (hands.registry k)) may.call in
               go (by.is_call start) refl flight.0 flight.1 may.rows may.free
             where
-              -- so they do whether it is a call of the page or not
+              -- the cases are whether it is a call of the page
               go : (c : Bool) → by.is_call start ≡ c → (flight : Flight T) → first_of kind capacity start (hands.registry k) ≡ Some flight
                   → first_row ((begin_of kind capacity start).rows (hands.registry k) p) ≡ None → flight_of (doing_of (party_of p latest)) ≡ None
                   → Sim by tie hands (fold (machine.turned of) w (turn_taken by world (Begin p start))) (after_turn t (Begin p start))
@@ -237,15 +240,15 @@ module _ {T Call Stage Answer Room : Type 0} {of : machine.Structure Call Stage 
                   inside : (d : Doing T) → x.doing ≡ d → flight_of (Some d) ≡ Some flight → GoesBy p flight
                   inside (Going it since) d e =
                       let same : it ≡ flight = the_same e in
-                      let is : party_of p latest ≡ Some (going x.start x.steps x.backs flight since) =
+                      let found_there : party_of p latest ≡ Some (going x.start x.steps x.backs flight since) =
                       found ∙ ap (λ d. Some (record { start = x.start; steps = x.steps; backs = x.backs; doing = d })) (d ∙ ap (λ f. Going f since) same) in
                       record {
                         start = x.start;
                         steps = x.steps;
                         backs = x.backs;
                         since = since;
-                        found = is;
-                        stands = stands_here p flight x.start x.steps x.backs since is;
+                        found = found_there;
+                        stands = stands_here p flight x.start x.steps x.backs since found_there;
                       }
                     where
                       the_same : {x y : Flight T} → Some x ≡ Some y → x ≡ y

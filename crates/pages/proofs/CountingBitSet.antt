@@ -65,7 +65,7 @@ module _ (c b : ℕ) (below : b < c) where
       new : ℕ
       new = (slice_index words place + 1) % 2 ^ 64
 
-      -- so it does whether its place is this one or not
+      -- the cases are whether its place is this one
       go : (t : Bool) → (place == b) ≡ t
           → Good (n + 1) (slice_set words place ((slice_index words place + 1) % 2 ^ 64))
           × Moves at (page.Set place) None (cond t (Some (act (slice_index words place) (slice_index words place + 1))) None)
@@ -93,7 +93,7 @@ module _ (c b : ℕ) (below : b < c) where
   handed_more : (place old : ℕ) (counts : List (ℕ × ℕ)) → page.handed b (handed_then place old counts) ≡ page.handed b counts + cond (place == b) old 0
   handed_more place old counts = go (old == 0) refl
     where
-      -- so it is whether the place counted something or not
+      -- the cases are whether the place counted something
       go : (t : Bool) → (old == 0) ≡ t → page.handed b (cond t counts (counts ++ (place, old) ∷ [])) ≡ page.handed b counts + cond (place == b) old 0
       go true t =
           let none : old ≡ 0 = grind (arith, nat_tests) in
@@ -131,7 +131,7 @@ module _ (c b : ℕ) (below : b < c) where
               (value words) (value (slice_set words place 0))
           at_it same =
               let sized = good.sized in
-              let no : nat_lt b place ≡ false = grind (arith, nat_tests) in
+              let not_below : nat_lt b place ≡ false = grind (arith, nat_tests) in
               let yes : nat_lt b (place + 1) ≡ true = grind (arith, nat_tests) in
               let more = handed_more place (slice_index words place) counts in
               let hit : (place == b) ≡ true = grind (arith, nat_tests) in
@@ -139,7 +139,7 @@ module _ (c b : ℕ) (below : b < c) where
               let before = none (omega arith) in
               let was : value words ≡ slice_index words place = ap (λ n. slice_index words n) (sym same) in
               let will = here words place 0 same (omega arith) in
-              rw (no, yes) (Acts refl (act (page.handed b (handed_then place (slice_index words place) counts)) 0) refl (omega arith) (sym will)
+              rw (not_below, yes) (Acts refl (act (page.handed b (handed_then place (slice_index words place) counts)) 0) refl (omega arith) (sym will)
               (page.WereReset (handed_then place (slice_index words place) counts), refl))
 
           -- it has done nothing more where it swaps another
@@ -198,8 +198,8 @@ module _ (c b : ℕ) (below : b < c) where
       begins : (p : ℕ) (call : page.Call) → page.may c p call ≡ true → Begins (page.counting_bit_set c) at call_at did Fits call
       begins p (page.Set place) may = record { is = refl; nothing = refl; fits = grind (arith, nat_tests) }
       begins p page.ResetAll may =
-          let no : nat_lt b 0 ≡ false = grind (arith, nat_tests) in
-          record { is = refl; nothing = rw no refl; fits = ((omega arith), λ le. refl) }
+          let not_below : nat_lt b 0 ≡ false = grind (arith, nat_tests) in
+          record { is = refl; nothing = rw not_below refl; fits = ((omega arith), λ le. refl) }
 
       steps : (n : ℕ) (words : List ℕ) (stage : page.Stage) → n < 2 ^ 63 → Good n words → Fits stage → Step n words stage
       steps n words (page.SetAdds place) few good fits = set_adds n words place few good fits

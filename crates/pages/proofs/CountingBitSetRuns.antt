@@ -62,16 +62,16 @@ module _ (c : ℕ) (some : 0 < c) where
       record { quiet = λ before. refl; own = λ acc. sym (append-nil acc); others = λ q acc ne. refl }
   writes p found (counts.AllSwaps place taken) old = go (old == 0)
     where
-      -- so they do whether the place counted something or not
+      -- the cases are whether the place counted something
       go : (b : Bool) → WritesCounts p (cond b [] (events.TakenOut p place old ∷ [])) (cond b [] (one place old))
       go true = record { quiet = λ before. refl; own = λ acc. sym (append-nil acc); others = λ q acc ne. refl }
       go false = record { quiet = λ before. refl; own = own; others = others }
         where
           own : (acc : List (ℕ × ℕ)) → cond (p == p) (acc ++ one place old) acc ≡ acc ++ one place old
-          own acc = let t : (p == p) ≡ true = grind (arith, nat_tests) in rw t refl
+          own acc = let is_same : (p == p) ≡ true = grind (arith, nat_tests) in rw is_same refl
 
           others : (q : ℕ) (acc : List (ℕ × ℕ)) → q ≢ p → cond (p == q) (acc ++ one place old) acc ≡ acc
-          others q acc ne = let t : (p == q) ≡ false = grind (arith, nat_tests) in rw t refl
+          others q acc ne = let is_other : (p == q) ≡ false = grind (arith, nat_tests) in rw is_other refl
 
   abbrev ReadsCounts : List (ℕ × ℕ) → machine.After counts.Stage counts.Answer → Type 0
   ReadsCounts items a = Reads (counts.counting_bit_set c) counts_bridge.reading HandsAt counts_bridge.answered items a
@@ -91,7 +91,7 @@ module _ (c : ℕ) (some : 0 < c) where
   reads (counts.SetAdds place) old items hands = refl
   reads (counts.AllSwaps place taken) old items hands = go (nat_lt (place + 1) c)
     where
-      -- so it does whether a place is left or not
+      -- the cases are whether a place is left
       go : (b : Bool)
           → ReadsCounts (items ++ cond (old == 0) [] (one place old))
           (cond b (machine.GoOn (counts.AllSwaps (place + 1) (counts_law.handed_then place old taken)))
@@ -108,7 +108,7 @@ module _ (c : ℕ) (some : 0 < c) where
   counts_right (counts.SetAdds place) old fits = tt
   counts_right (counts.AllSwaps place taken) old fits = go (nat_lt (place + 1) c) refl
     where
-      -- so it is whether a place is left or not
+      -- the cases are whether a place is left
       go : (b : Bool) → nat_lt (place + 1) c ≡ b
           → CountsGoRight (counts.AllSwaps place taken)
           (cond b (machine.GoOn (counts.AllSwaps (place + 1) (counts_law.handed_then place old taken)))

@@ -32,7 +32,7 @@ module _ {X : Type 0} where
 
   -- what a list contains and passes the test the filtered list contains
   pub passes : (test : X → Bool) (xs : List X) (z : X) → Contains xs z → test z ≡ true → Contains (filter test xs) z
-  passes test [] z h t = absurd (none_there z h)
+  passes test [] z h passed = absurd (none_there z h)
   passes test (x ∷ xs) z h t =
       ⊎_elim (λ e. first (test x) (subst (λ y. test y ≡ true) (sym e) t) e) (λ more. later (test x) (passes test xs z more t)) (split x z xs h)
     where

@@ -122,6 +122,7 @@ module _ {T Call Stage Answer Room : Type 0} {of : machine.Structure Call Stage 
       StandsAt k pending p start (Going flight since) = OwnAt k pending p start flight ⊎ hands.Other k p start flight
       StandsAt k pending p start (Over others) = Unit {0}
 
+      -- a party that has a call stands where its call is: at a stage of the page or at another call
       abbrev pub Stands : Kept → (ℕ → Option Stage) → ℕ → Option (Party T) → Type 0
       Stands k pending p None = Unit {0}
       Stands k pending p (Some x) = StandsAt k pending p x.start x.doing
@@ -144,6 +145,7 @@ module _ {T Call Stage Answer Room : Type 0} {of : machine.Structure Call Stage 
         pub stands : (p : ℕ) → Stands k w.pending p (party_of p latest)
         pub held : (n : ℕ) (stage : Stage) → w.pending n ≡ Some stage → Held k n stage latest
 
+      -- the world of a machine with this registry, these words and these parties
       abbrev pub world_with : Registry T → List ℕ → List (ℕ × Party T) → ℕ → ℕ → World T
       world_with kept words latest changes turns =
           record {
@@ -194,7 +196,7 @@ module _ {T Call Stage Answer Room : Type 0} {of : machine.Structure Call Stage 
       still k next pending now q own other None s = tt
       still k next pending now q own other (Some x) s = go x.doing s
         where
-          -- so it does whether the call is under way or over
+          -- the cases are whether the call is under way or over
           go : (d : Doing T) → StandsAt k pending q x.start d → StandsAt next now q x.start d
           go (Going flight since) s =
               ⊎_elim
@@ -229,10 +231,10 @@ module _ {T Call Stage Answer Room : Type 0} {of : machine.Structure Call Stage 
           }
 
       pub unseen_untold : (es : List (Event T)) → all_seen by.reading es ≡ [] → all_told by es ≡ []
-      unseen_untold [] e = refl
-      unseen_untold (Begun p start ∷ es) e = absurd (cc)
-      unseen_untold (Finished p start answer ∷ es) e = absurd (cc)
-      unseen_untold (other ∷ es) e = unseen_untold es e
+      unseen_untold [] sees_none = refl
+      unseen_untold (Begun p start ∷ es) sees_none = absurd (cc)
+      unseen_untold (Finished p start answer ∷ es) sees_none = absurd (cc)
+      unseen_untold (other ∷ es) sees_none = unseen_untold es sees_none
 
       pub told_more : (events more : List (Event T)) (history new : List (machine.Event Call Answer)) → all_told by events ≡ history → all_told by more ≡ new
           → all_told by (events ++ more) ≡ history ++ new

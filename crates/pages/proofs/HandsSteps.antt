@@ -47,6 +47,7 @@ module _ {T Call Stage Answer Room : Type 0} {of : machine.Structure Call Stage 
 
           -- ---- a call goes on
 
+          -- the trace after a step of the party has come to `s`
           abbrev made : Registry T → ℕ → Party T → ℕ → Option Ask → Step (Flight T) (Registry T) T → Trace T
           made r p x since ask s =
               record {
@@ -117,13 +118,13 @@ module _ {T Call Stage Answer Room : Type 0} {of : machine.Structure Call Stage 
               (record { after = went (tie.flight next_room) tie.answered a; back = back; wrote = wrote; kept = hands.registry k }))
           finish p steps backs since r next_room stage ask back wrote ws here waits who_is blank_is tells unseen (machine.GoOn next) right =
               let n = by.number p (tie.call_at stage) in
-              let x : Party T = going (tie.start (tie.call_at stage)) (steps + step_count ask) (backs + one_if back) (tie.flight next_room next)
+              let party_now : Party T = going (tie.start (tie.call_at stage)) (steps + step_count ask) (backs + one_if back) (tie.flight next_room next)
               (since + change_of words ask) in
               let place : by.number p (tie.call_at next) ≡ n = ap (by.number p) right.0 in
               record {
                 k = k;
                 words = words_after words ask;
-                latest = put p x latest;
+                latest = put p party_now latest;
                 changes = changes + change_of words ask;
                 turns = turns + 1;
                 events = events ++ (wrote ++ []);
@@ -137,7 +138,7 @@ module _ {T Call Stage Answer Room : Type 0} {of : machine.Structure Call Stage 
                           (told_more by tie hands wrote [] [] [] (unseen_untold by tie hands wrote unseen) refl)
                           ∙ append-nil w.history;
                       stands =
-                          put_stands by tie hands k (machine.put n (Some next) w.pending) p x latest
+                          put_stands by tie hands k (machine.put n (Some next) w.pending) p party_now latest
                           (inl
                           (record {
                             stage = next;
@@ -168,12 +169,13 @@ module _ {T Call Stage Answer Room : Type 0} {of : machine.Structure Call Stage 
                       (put p (going (tie.start (tie.call_at stage)) (steps + step_count ask) (backs + one_if back) (tie.flight next_room next)
                       (since + change_of words ask)) latest)
                   same is =
-                      let x : Party T = going (tie.start (tie.call_at stage)) (steps + step_count ask) (backs + one_if back) (tie.flight next_room next)
+                      let party_after : Party T =
+                      going (tie.start (tie.call_at stage)) (steps + step_count ask) (backs + one_if back) (tie.flight next_room next)
                       (since + change_of words ask) in
                       let now : next ≡ other =
                       the_same (sym (put_same by tie hands (by.number p (tie.call_at stage)) (Some next) w.pending)
                       ∙ (ap (machine.put (by.number p (tie.call_at stage)) (Some next) w.pending) (sym is) ∙ e)) in
-                      subst (λ i. Held by tie hands k m i (put p x latest)) now
+                      subst (λ i. Held by tie hands k m i (put p party_after latest)) now
                       (record {
                         party = p;
                         who_is = ap (hands.who k) is ∙ who_is;
@@ -182,13 +184,13 @@ module _ {T Call Stage Answer Room : Type 0} {of : machine.Structure Call Stage 
                         since = since + change_of words ask;
                         room = next_room;
                         found =
-                            party_put_same p x latest
+                            party_put_same p party_after latest
                             ∙ ap (λ c. Some (going (tie.start c) (steps + step_count ask) (backs + one_if back) (tie.flight next_room next)
                             (since + change_of words ask))) (sym right.0);
                         number_is = ap (by.number p) right.0 ∙ sym is;
                       })
                     where
-                      the_same : {x y : Stage} → Some x ≡ Some y → x ≡ y
+                      the_same : {party_after y : Stage} → Some party_after ≡ Some y → party_after ≡ y
                       the_same e = cc
 
                   -- so it is of every other role
@@ -198,8 +200,10 @@ module _ {T Call Stage Answer Room : Type 0} {of : machine.Structure Call Stage 
                       (since + change_of words ask)) latest)
                   apart ne =
                       let old : w.pending m ≡ Some other = sym (put_other by tie hands (by.number p (tie.call_at stage)) m (Some next) w.pending ne) ∙ e in
-                      let h = inv.held m other old in
-                      still_held by tie hands k k m other p _ latest h (one_place p stage steps backs (tie.flight r stage) since m other h here ne) h.who_is
+                      let held_there = inv.held m other old in
+                      still_held by tie hands k k m other p _ latest held_there
+                      (one_place p stage steps backs (tie.flight r stage) since m other held_there here ne)
+                      held_there.who_is
           finish p steps backs since r next_room stage ask back wrote ws here waits who_is blank_is tells unseen (machine.Done answer) right =
               let call = tie.call_at stage in
               let n = by.number p call in
@@ -259,8 +263,10 @@ module _ {T Call Stage Answer Room : Type 0} {of : machine.Structure Call Stage 
                   ∙ (ap (machine.put (by.number p (tie.call_at stage)) None w.pending) (sym is) ∙ e)))
                   (λ ne.
                   let old : w.pending m ≡ Some other = sym (put_other by tie hands (by.number p (tie.call_at stage)) m None w.pending ne) ∙ e in
-                  let h = inv.held m other old in
-                  still_held by tie hands k k m other p _ latest h (one_place p stage steps backs (tie.flight r stage) since m other h here ne) h.who_is)
+                  let held_there = inv.held m other old in
+                  still_held by tie hands k k m other p _ latest held_there
+                  (one_place p stage steps backs (tie.flight r stage) since m other held_there here ne)
+                  held_there.who_is)
                   (cases_eq m (by.number p (tie.call_at stage)))
                 where
                   none_some : {A : Type 0} {x : Stage} → None ≡ Some x → A
@@ -339,7 +345,7 @@ module _ {T Call Stage Answer Room : Type 0} {of : machine.Structure Call Stage 
               (other_made s.next step.after step.back step.wrote (λ then e. s.stays then e) s.who_is s.others
               s.blank_is s.tells (ap (all_seen by.reading) s.silent) mine))
             where
-              -- so they do whatever such a step comes to
+              -- the other parties' calls stand as they may, whatever the step comes to
               other_made : (next : Kept) (after : After (Flight T) (answers.Answer T)) (back : Bool) (wrote : List (Event T))
                   → ((then : Flight T) → after ≡ afters.GoOn then → hands.Other next p start then)
                   → ((n : ℕ) → (hands.who next n ≡ hands.who k n) ⊎ ((hands.who k n ≡ None) ⊎ (hands.who k n ≡ Some p)))
@@ -351,7 +357,7 @@ module _ {T Call Stage Answer Room : Type 0} {of : machine.Structure Call Stage 
                   (record { after = after; back = back; wrote = wrote; kept = hands.registry next }))
               other_made next after back wrote stays who_is others blank_is tells unseen mine =
                   let ask = ask_of (want_of code flight) in
-                  let y : Party T =
+                  let party_after : Party T =
                   record {
                     start = start;
                     steps = steps + step_count ask;
@@ -361,7 +367,7 @@ module _ {T Call Stage Answer Room : Type 0} {of : machine.Structure Call Stage 
                   record {
                     k = next;
                     words = words_after words ask;
-                    latest = put p y latest;
+                    latest = put p party_after latest;
                     changes = changes + change_of words ask;
                     turns = turns + 1;
                     events = events ++ (wrote ++ ending_of p start (answer_in after));
@@ -376,7 +382,7 @@ module _ {T Call Stage Answer Room : Type 0} {of : machine.Structure Call Stage 
                               (unseen_untold by tie hands wrote unseen) (no_ending after))
                               ∙ append-nil w.history;
                           stands =
-                              put_stands by tie hands next w.pending p y latest (stands_then after stays)
+                              put_stands by tie hands next w.pending p party_after latest (stands_then after stays)
                               (λ q ne. still by tie hands k next w.pending w.pending q
                               (λ m stage is waits. (waits, who_then m is ne))
                               (λ start flight h. others q start flight ne h) (party_of q latest) (inv.stands q));
@@ -384,7 +390,7 @@ module _ {T Call Stage Answer Room : Type 0} {of : machine.Structure Call Stage 
                               λ m stage e.
                               let h = inv.held m stage e in
                               let ne : h.party ≢ p = not_mine m stage h in
-                              still_held by tie hands k next m stage p y latest h ne (who_then m h.who_is ne);
+                              still_held by tie hands k next m stage p party_after latest h ne (who_then m h.who_is ne);
                         };
                   }
                 where

@@ -77,7 +77,7 @@ module _ (c : ℕ) where
     pub locked : page.is_locked (h ++ hs) ≡ true → reads.is_locked (events ++ es) ≡ true
     pub right : page.Each (page.HoldsAlone c) (h ++ hs)
 
-  -- no holder changes
+  -- events and page stay related through events and invocations that change no holder
   quiet : (events es : List (Event ℕ)) (h hs : History) (pending pending' : ℕ → Option page.Stage) → Rel events h pending → Same events es h hs
       → ((q j : ℕ) (l : Bool) → pending' q ≡ Some (page.ReleaseClearsFlag j l) → pending q ≡ Some (page.ReleaseClearsFlag j l))
       → Rel (events ++ es) (h ++ hs) pending'
@@ -181,7 +181,7 @@ module _ (c : ℕ) where
           go false = none
 
       own_none : (j : ℕ) → i ≡ j → page.holder j (h ++ machine.Invoked p (page.Release i l) ∷ []) ≡ None
-      own_none j same = held_then j ∙ (let t : (i == j) ≡ true = grind (arith, nat_tests) in rw t refl)
+      own_none j same = held_then j ∙ (let is_same : (i == j) ≡ true = grind (arith, nat_tests) in rw is_same refl)
 
       -- who is about to free an index then has it by the events, and not on the page
       releasing : (q j : ℕ) (m : Bool) → machine.put p (Some (page.ReleaseClearsFlag i l)) pending q ≡ Some (page.ReleaseClearsFlag j m)
@@ -234,7 +234,7 @@ module _ (c : ℕ) where
       one q p e = cc
 
       others : (q j : ℕ) → i ≢ j → holder_of j (events ++ Freed p i ∷ []) ≡ holder_of j events
-      others q j ne = holders_then j events (Freed p i ∷ []) ∙ (let t : (i == j) ≡ false = grind (arith, nat_tests) in rw t refl)
+      others q j ne = holders_then j events (Freed p i ∷ []) ∙ (let is_other : (i == j) ≡ false = grind (arith, nat_tests) in rw is_other refl)
 
       -- who holds an index on the page holds it by the events too once another is freed
       held : (j q : ℕ) → page.holder j h ≡ Some q → (holder_of j (events ++ Freed p i ∷ []) ≡ Some q) × (j < c)

@@ -51,7 +51,7 @@ module _ {Call Answer : Type 0} where
       first : x ≡ y
       first =
           ⊎_elim (λ e. sym e)
-          (λ x_in. ⊎_elim (λ e. e) (λ y_in. let lt = b.0 x x_in in let gt = a.0 y y_in in absurd (omega arith)) (split x y xs (from y (here y y ys refl))))
+          (λ x_in. ⊎_elim (λ e. e) (λ y_in. absurd (omega (arith, b.0 x x_in, a.0 y y_in))) (split x y xs (from y (here y y ys refl))))
           (split y x ys (to x (here x x xs refl)))
 
       place_is : x.0.place ≡ y.0.place
@@ -61,7 +61,7 @@ module _ {Call Answer : Type 0} where
       to_rest : (z : Entry Call Answer) → Contains xs z → Contains ys z
       to_rest z h =
           ⊎_elim (λ e. let lt = a.0 z h in
-          let at : y.0.place ≡ z.0.place = ap (λ (z : Entry Call Answer). z.0.place) e in
+          let same_place : y.0.place ≡ z.0.place = ap (λ (z : Entry Call Answer). z.0.place) e in
           let same = place_is in
           absurd (omega arith))
           (λ more. more) (split y z ys (to z (there x z xs h)))
@@ -70,7 +70,7 @@ module _ {Call Answer : Type 0} where
       from_rest : (z : Entry Call Answer) → Contains ys z → Contains xs z
       from_rest z h =
           ⊎_elim (λ e. let lt = b.0 z h in
-          let at : x.0.place ≡ z.0.place = ap (λ (z : Entry Call Answer). z.0.place) e in
+          let same_place : x.0.place ≡ z.0.place = ap (λ (z : Entry Call Answer). z.0.place) e in
           let same = place_is in
           absurd (omega arith))
           (λ more. more) (split x z xs (from z (there y z ys h)))
@@ -98,14 +98,14 @@ module _ {Call Answer : Type 0} where
     acted_from [] z h = absurd (none_there z h)
     acted_from (c ∷ cs) z h = by c.response refl h (λ more. let had = acted_from cs z more in (there c z.0 cs had.0, had.1))
       where
-        -- so it is whether the first call has responded or not
+        -- the cases are whether the first call has responded
         by : (o : Option (ℕ × Answer)) → c.response ≡ o → Contains (did_with c o ++ acted cs) z
             → (Contains (acted cs) z → Contains (c ∷ cs) z.0 × ((r : ℕ × Answer) × ((z.0.response ≡ Some r) × (at z.0.call r.1 ≡ Some z.1))))
             → Contains (c ∷ cs) z.0 × ((r : ℕ × Answer) × ((z.0.response ≡ Some r) × (at z.0.call r.1 ≡ Some z.1)))
         by None e h rest = rest h
         by (Some r) e h rest = go (at c.call r.1) refl h
           where
-            -- so it is whether its answer acts at the place or not
+            -- the cases are whether its answer acts at the place
             go : (d : Option Act) → at c.call r.1 ≡ d → Contains (did c d ++ acted cs) z
                 → Contains (c ∷ cs) z.0 × ((r : ℕ × Answer) × ((z.0.response ≡ Some r) × (at z.0.call r.1 ≡ Some z.1)))
             go None f h = rest h
@@ -145,7 +145,7 @@ module _ {Call Answer : Type 0} where
         later : (act : Act) (z : Entry Call Answer) → Contains (acted cs) z → c.place < z.0.place
         later act z h = (all.0 z.0 (acted_from cs z h).0).0
 
-        -- so they do whether the first call has responded or not
+        -- the cases are whether the first call has responded
         by : (o : Option (ℕ × Answer)) → AllLater Sorted (acted cs) → AllLater Sorted (did_with c o ++ acted cs)
         by None rest = rest
         by (Some r) rest = go (at c.call r.1)
@@ -205,7 +205,7 @@ module _ {Call Answer : Type 0} where
                 absurd (omega arith)) apart)
                 (ordered (calls_from history 0) one_by_one x.0 y.0 (invoked x (is x (here x x xs refl))) (invoked y seq))
 
-        -- so the sequence is what the completed calls did, in order
+        -- the sequence is what the completed calls did, in order
         same : h.sequence ≡ acted (calls_from history 0)
         same =
             same_members h.sequence (acted (calls_from history 0))
@@ -223,13 +223,13 @@ module _ {Call Answer : Type 0} where
     each_of P (d ∷ cs) all c h = ⊎_elim (λ e. subst P e all.0) (λ more. each_of P cs all.1 c more) (split d c cs h)
 
     one_by_one : (cs : List (Called Call Answer)) → Sequential cs → AllLater Before cs
-    one_by_one [] s = tt
-    one_by_one (c ∷ cs) s = (each_of (Before c) cs s.1.0, one_by_one cs s.1.1)
+    one_by_one [] sequential = tt
+    one_by_one (c ∷ cs) sequential = (each_of (Before c) cs sequential.1.0, one_by_one cs sequential.1.1)
 
     all_respond : (cs : List (Called Call Answer)) → Sequential cs → (c : Called Call Answer) → Contains cs c → Responds c
-    all_respond [] s c h = absurd (none_there c h)
-    all_respond (d ∷ cs) s c h = ⊎_elim (λ e. subst Responds e s.0) (λ more. all_respond cs s.1.1 c more) (split d c cs h)
+    all_respond [] sequential c h = absurd (none_there c h)
+    all_respond (d ∷ cs) sequential c h = ⊎_elim (λ e. subst Responds e sequential.0) (λ more. all_respond cs sequential.1.1 c more) (split d c cs h)
 
     pub in_sequence : (history : List (Event Call Answer)) (now : ℕ) → Sequential (calls_from history 0)
         → ActsAt at history now → IsChain 0 (map (λ (x : Entry Call Answer). x.1) (acted (calls_from history 0))) now
-    in_sequence history now s h = by_order history now (one_by_one (calls_from history 0) s) (all_respond (calls_from history 0) s) h
+    in_sequence history now sequential h = by_order history now (one_by_one (calls_from history 0) sequential) (all_respond (calls_from history 0) sequential) h

@@ -54,14 +54,14 @@ module _ (c : ℕ) (few : c < 2 ^ 32) where
 
   -- a step of a call of the page leaves the words of the roles
   leaves : (k : Roles) (words : List ℕ) (stage : page.Stage) → Tells k words → Leaves blank (Tells k) words (page.does c stage).0
-  leaves k words (page.PushLoadsWrite value) t = at_write k words t
-  leaves k words (page.PushLoadsRead value write) t = at_read k words t
-  leaves k words (page.PushStoresCell value write) t = at_cell k words t _
-  leaves k words (page.PushStoresWrite value write) t = at_write k words t
-  leaves k words page.PopLoadsRead t = at_read k words t
-  leaves k words (page.PopLoadsWrite read) t = at_write k words t
-  leaves k words (page.PopLoadsCell read) t = at_cell k words t _
-  leaves k words (page.PopStoresRead read value) t = at_read k words t
+  leaves k words (page.PushLoadsWrite value) tells = at_write k words tells
+  leaves k words (page.PushLoadsRead value write) tells = at_read k words tells
+  leaves k words (page.PushStoresCell value write) tells = at_cell k words tells _
+  leaves k words (page.PushStoresWrite value write) tells = at_write k words tells
+  leaves k words page.PopLoadsRead tells = at_read k words tells
+  leaves k words (page.PopLoadsWrite read) tells = at_write k words tells
+  leaves k words (page.PopLoadsCell read) tells = at_cell k words tells _
+  leaves k words (page.PopStoresRead read value) tells = at_read k words tells
 
   -- what is to be shown of the index queue where its roles change hands
   handed : Hands by_role (tie c few) Roles

@@ -26,7 +26,7 @@ conserved first (act ∷ acts) last chain =
     omega arith
 
 chain_push : (first : ℕ) (acts : List Act) (act : Act) → IsChain first acts act.found → IsChain first (acts ++ act ∷ []) act.left
-chain_push first [] act e = (sym e, refl)
+chain_push first [] act is_chain = (sym is_chain, refl)
 chain_push first (x ∷ acts) act chain = (chain.0, chain_push x.left acts act chain.1)
 
 -- ---- the log
@@ -112,17 +112,18 @@ module _ {Call Answer : Type 0} (at : Call → Answer → Option Act) where
           once = core.once;
           real_time = core.real_time;
           earlier = λ c is.
-              ⊎_elim (λ old. let lt = core.earlier c old in let more = longer in omega arith)
-              (λ e. let at : length h ≡ c.place = ap (λ (c : Called Call Answer). c.place) e in let more = longer in omega arith) (either c is);
+              ⊎_elim (λ old. let more = longer in omega (arith, core.earlier c old))
+              (λ e. let same_length : length h ≡ c.place = ap (λ (c : Called Call Answer). c.place) e in let more = longer in omega arith) (either c is);
           one = λ c d a b same.
               ⊎_elim
               (λ old. ⊎_elim (λ too. core.one c d old too same)
-              (λ e. let at : length h ≡ d.place = ap (λ (c : Called Call Answer). c.place) e in
+              (λ e. let same_length : length h ≡ d.place = ap (λ (c : Called Call Answer). c.place) e in
               let lt = core.earlier c old in
               absurd (omega arith))
               (either d b))
               (λ e. ⊎_elim
-              (λ too. let at : length h ≡ c.place = ap (λ (c : Called Call Answer). c.place) e in let lt = core.earlier d too in absurd (omega arith))
+              (λ too.
+              let same_length : length h ≡ c.place = ap (λ (c : Called Call Answer). c.place) e in absurd (omega (arith, core.earlier d too)))
               (λ f. sym e ∙ f) (either d b)) (either c a);
         }
 
@@ -134,7 +135,7 @@ module _ {Call Answer : Type 0} (at : Call → Answer → Option Act) where
           called = subst (λ cs. Contains cs (open_call (length h) p call)) (sym calls_are) (push_new (calls_from h 0) (open_call (length h) p call));
           only = λ c is own none.
               ⊎_elim (λ old. absurd (free c old own none)) (λ e. sym (ap (λ (c : Called Call Answer). c.place) e)) (either c is);
-          linked = λ x is same. (let lt = core.earlier x.0 (core.invoked x is) in absurd (omega arith));
+          linked = λ x is same. (absurd (omega (arith, core.earlier x.0 (core.invoked x is))));
         }
 
     -- an invocation by one party leaves what the log says of every other
@@ -162,9 +163,9 @@ module _ {Call Answer : Type 0} (at : Call → Answer → Option Act) where
   one_entry (z ∷ log) once x y a b same =
       ⊎_elim
       (λ e. ⊎_elim (λ f. sym e ∙ f)
-      (λ more. let at : z.0.place ≡ x.0.place = ap (λ (x : Entry). x.0.place) e in absurd (once.0 y more (at ∙ same)))
+      (λ more. let same_place : z.0.place ≡ x.0.place = ap (λ (x : Entry). x.0.place) e in absurd (once.0 y more (same_place ∙ same)))
       (split z y log b))
-      (λ rest. ⊎_elim (λ f. let at : z.0.place ≡ y.0.place = ap (λ (x : Entry). x.0.place) f in absurd (once.0 x rest (at ∙ sym same)))
+      (λ rest. ⊎_elim (λ f. let same_place : z.0.place ≡ y.0.place = ap (λ (x : Entry). x.0.place) f in absurd (once.0 x rest (same_place ∙ sym same)))
       (λ more. one_entry log once.1 x y rest more same) (split z y log b))
       (split z x log a)
 
@@ -216,16 +217,16 @@ module _ {Call Answer : Type 0} (at : Call → Answer → Option Act) where
     -- an act of one party leaves what the log says of every other
     pub acted_other : (q : ℕ) → q ≢ p → (o : Option (Call × Option Act)) → Party h log q o → Party h log_acted q o
     acted_other q ne None free = free
-    acted_other q ne (Some x) s = record { place = s.place; called = s.called; only = s.only; linked = go x.1 s.linked }
+    acted_other q ne (Some x) party = record { place = party.place; called = party.called; only = party.only; linked = go x.1 party.linked }
       where
-        -- so does it whether the other's call has acted or not
-        go : (d : Option Act) → Linked s.place q x.0 d log → Linked s.place q x.0 d log_acted
+        -- the cases are whether the other's call has acted
+        go : (d : Option Act) → Linked party.place q x.0 d log → Linked party.place q x.0 d log_acted
         go None linked =
             λ z is same.
             ⊎_elim (λ old. linked z old same)
-            (λ e. let at : own.place ≡ z.0.place = ap (λ (x : Entry). x.0.place) e in
-            places_apart h log v core p q own.place s.place call x.0 ne own.called s.called (sym same ∙ sym at)) (pushed log acted z is)
-        go (Some a) linked = push_old log acted (open_call s.place q x.0, a) linked
+            (λ e. let same_place : own.place ≡ z.0.place = ap (λ (x : Entry). x.0.place) e in
+            places_apart h log v core p q own.place party.place call x.0 ne own.called party.called (sym same ∙ sym same_place)) (pushed log acted z is)
+        go (Some a) linked = push_old log acted (open_call party.place q x.0, a) linked
 
   -- ---- a call has done nothing after all
 
@@ -254,7 +255,7 @@ module _ {Call Answer : Type 0} (at : Call → Answer → Option Act) where
     other_stays x ne = grind (arith, nat_tests)
 
     stays_other : (x : Entry) → stays x ≡ true → x.0.place ≢ own.place
-    stays_other x t = grind (arith, nat_tests)
+    stays_other x it_stays = grind (arith, nat_tests)
 
     -- without the entry of a call that left what it found the log is that of the same history
     pub forgotten_core : Core h log_forgotten v
@@ -271,7 +272,7 @@ module _ {Call Answer : Type 0} (at : Call → Answer → Option Act) where
         }
       where
         all_idle : (x : Entry) → Contains log x → stays x ≡ false → x.1.found ≡ x.1.left
-        all_idle x is t =
+        all_idle x is it_goes =
             let same : x.0.place ≡ own.place = grind (arith, nat_tests) in
             let e = one_entry log core.once (open_call own.place p call, act) x own.linked is (sym same) in
             subst (λ (x : Entry). x.1.found ≡ x.1.left) e idle
@@ -299,13 +300,13 @@ module _ {Call Answer : Type 0} (at : Call → Answer → Option Act) where
     -- what the log says of every other party stays
     pub forgotten_other : (q : ℕ) → q ≢ p → (o : Option (Call × Option Act)) → Party h log q o → Party h log_forgotten q o
     forgotten_other q ne None free = free
-    forgotten_other q ne (Some x) s = record { place = s.place; called = s.called; only = s.only; linked = go x.1 s.linked }
+    forgotten_other q ne (Some x) party = record { place = party.place; called = party.called; only = party.only; linked = go x.1 party.linked }
       where
-        go : (d : Option Act) → Linked s.place q x.0 d log → Linked s.place q x.0 d log_forgotten
+        go : (d : Option Act) → Linked party.place q x.0 d log → Linked party.place q x.0 d log_forgotten
         go None linked = λ z is. linked z (filtered stays log z is).0
         go (Some a) linked =
-            passes stays log (open_call s.place q x.0, a) linked
-            (other_stays (open_call s.place q x.0, a) (places_apart h log v core p q own.place s.place call x.0 ne own.called s.called))
+            passes stays log (open_call party.place q x.0, a) linked
+            (other_stays (open_call party.place q x.0, a) (places_apart h log v core p q own.place party.place call x.0 ne own.called party.called))
 
   -- ---- a call responds
 
@@ -359,7 +360,7 @@ module _ {Call Answer : Type 0} (at : Call → Answer → Option Act) where
     answered_then : (x : Entry) → Contains log x → IsAnswered (on_entry x)
     answered_then x is = go x.0.response refl (core.answered x is)
       where
-        -- so it does whether its call had responded before or not
+        -- the cases are whether its call had responded before
         go : (o : Option (ℕ × Answer)) → x.0.response ≡ o
             → (a : Answer) × ((at x.0.call a ≡ Some x.1) × IfSome o (λ r. r.1 ≡ a))
             → (a : Answer) × ((at x.0.call a ≡ Some x.1) × IfSome (responded p (length h) answer x.0.party o) (λ r. r.1 ≡ a))
@@ -378,7 +379,7 @@ module _ {Call Answer : Type 0} (at : Call → Answer → Option Act) where
         more : (a : Act) → Contains log (c, a) → Contains log_done (on c, a)
         more a had = mapped on_entry log (c, a) had
 
-        -- so it is whether the call had responded before or not
+        -- the cases are whether the call had responded before
         go : (o : Option (ℕ × Answer)) → c.response ≡ o → IfSome o (λ r. IfSome (at c.call r.1) (λ act. Contains log (c, act)))
             → IfSome (responded p (length h) answer c.party o) (λ r. IfSome (at c.call r.1) (λ act. Contains log_done (on c, act)))
         go (Some r) e had = old (at c.call r.1) had
@@ -405,13 +406,13 @@ module _ {Call Answer : Type 0} (at : Call → Answer → Option Act) where
     in_time : (x y : Entry) → Contains log x → Contains log y → InTime x y → InTime (on_entry x) (on_entry y)
     in_time x y a b had = go y.0.response had
       where
-        -- so it does whether the second of them had responded before or not
+        -- the cases are whether the second of them had responded before
         go : (o : Option (ℕ × Answer)) → IfSome o (λ r. x.0.place ≤ r.0) → IfSome (responded p (length h) answer y.0.party o) (λ r. x.0.place ≤ r.0)
         go (Some r) had = had
         go None had = by_party (p == y.0.party)
           where
             by_party : (b : Bool) → IfSome (cond b its_response None) (λ (r : ℕ × Answer). x.0.place ≤ r.0)
-            by_party true = let lt = core.earlier x.0 (core.invoked x a) in omega arith
+            by_party true = omega (arith, core.earlier x.0 (core.invoked x a))
             by_party false = tt
 
     longer_then : length h_done ≡ length h + 1
@@ -431,10 +432,9 @@ module _ {Call Answer : Type 0} (at : Call → Answer → Option Act) where
           real_time = later_map on_entry InTime InTime log in_time core.real_time;
           earlier = λ z is.
               (let had = was_called z is in
-              let at : had.0.place ≡ z.place = ap (λ (c : Called Call Answer). c.place) had.1.1 in
-              let lt = core.earlier had.0 had.1.0 in
+              let same_place : had.0.place ≡ z.place = ap (λ (c : Called Call Answer). c.place) had.1.1 in
               let more = longer_then in
-              omega arith);
+              omega (arith, core.earlier had.0 had.1.0));
           one = λ c d a b same.
               (let x = was_called c a in
               let y = was_called d b in
@@ -465,7 +465,7 @@ module _ {Call Answer : Type 0} (at : Call → Answer → Option Act) where
         not_own had.0.party (subst (λ o. responded p (length h) answer had.0.party o ≡ None) was is_none) (same ∙ party)
 
     other_same : (q : ℕ) → q ≢ p → responded p (length h) answer q None ≡ None
-    other_same q ne = let t : (p == q) ≡ false = grind (arith, nat_tests) in rw t refl
+    other_same q ne = let is_other : (p == q) ≡ false = grind (arith, nat_tests) in rw is_other refl
 
     -- a response of one party leaves what the log says of every other
     pub done_other : (q : ℕ) → q ≢ p → (o : Option (Call × Option Act)) → Party h log q o → Party h_done log_done q o
@@ -489,7 +489,7 @@ module _ {Call Answer : Type 0} (at : Call → Answer → Option Act) where
         open_same : (k : ℕ) (c : Call) → on (open_call k q c) ≡ open_call k q c
         open_same k c = ap (λ o. record { place = k; party = q; call = c; response = o }) (other_same q ne)
 
-        -- so does it whether the other's call has acted or not
+        -- the cases are whether the other's call has acted
         go : (d : Option Act) → Linked s.place q x.0 d log → Linked s.place q x.0 d log_done
         go None linked =
             λ z is same.

@@ -46,6 +46,7 @@ use Rattle.pages.proofs.Roles.{among, coded, effects_own, effects_unseen, held, 
 
 -- ---- the tables are the same
 
+-- the call that a stage belongs to
 abbrev pub call_at : page.Stage → page.Call
 call_at (page.PushLoadsWrite value) = page.Push value
 call_at (page.PushLoadsRead value write) = page.Push value
@@ -148,6 +149,7 @@ goes c roles words beside p before stage old =
 
 -- ---- who may begin
 
+-- the type of a tie between the page of this queue and the code's calls
 abbrev tied : ℕ → Type 0
 tied c = Tie ℕ (page.overflowing_queue c) reading is_push_or_pop kinds.Overflow c kept
 
@@ -190,13 +192,13 @@ tie c some =
 
     admits : (p : ℕ) (call : page.Call) → page.may p call ≡ true
         → first_row (begin_rows kinds.Overflow c kept p (Queues (queue_start call))) ≡ None
-    admits p (page.Push value) m = holds_row 0 p m
-    admits p page.Pop m = holds_row 1 p m
+    admits p (page.Push value) allowed = holds_row 0 p allowed
+    admits p page.Pop allowed = holds_row 1 p allowed
 
     refuses : (p : ℕ) (call : page.Call) → page.may p call ≡ false
         → is_some (first_row (begin_rows kinds.Overflow c kept p (Queues (queue_start call)))) ≡ true
-    refuses p (page.Push value) m = lacks_row 0 p m
-    refuses p page.Pop m = lacks_row 1 p m
+    refuses p (page.Push value) refused = lacks_row 0 p refused
+    refuses p page.Pop refused = lacks_row 1 p refused
 
     begins : (call : page.Call)
         → model.first_of kinds.Overflow c (Queues (queue_start call)) kept
@@ -289,8 +291,8 @@ opens c some =
     }
 
 may_below : (p : ℕ) (call : page.Call) → page.may p call ≡ true → p < 2
-may_below p (page.Push value) m = grind (arith, nat_tests)
-may_below p page.Pop m = grind (arith, nat_tests)
+may_below p (page.Push value) allowed = grind (arith, nat_tests)
+may_below p page.Pop allowed = grind (arith, nat_tests)
 
 all_within : (c : ℕ) (some : (c == 0) ≡ false) (turns : List (machine.Turn page.Call)) → AllByRecursion (simulates.IsWithin (tie c some) 2 roles_told) turns
 all_within c some [] = tt
@@ -327,22 +329,27 @@ pub linearizable : (c : ℕ) (turns : List (machine.Turn page.Call)) → 0 < c �
     → machine.IsLinearizable (page.overflowing_list c) (world_of c turns).history
 linearizable c turns more few small =
     let some = some_is c more in
-    let s = simulated c turns some small in
-    let t = trace (tie c some) 2 roles_told (world_of c turns).words s.latest s.changes s.turns s.events in
-    let r : IsReached t = subst IsReached s.is (reached c (map as_turn turns) few) in
-    let keeps = (queue_keeps {T = ℕ} queue_kinds.Overflow).kept t refl r in
-    subst (machine.IsLinearizable (page.overflowing_list c)) s.told
+    let meeting = simulated c turns some small in
+    let run_now = trace (tie c some) 2 roles_told (world_of c turns).words meeting.latest meeting.changes meeting.turns meeting.events in
+    let is_reached : IsReached run_now = subst IsReached meeting.is (reached c (map as_turn turns) few) in
+    let keeps = (queue_keeps {T = ℕ} queue_kinds.Overflow).kept run_now refl is_reached in
+    subst (machine.IsLinearizable (page.overflowing_list c)) meeting.told
     (carried reading (as_list queue_kinds.Overflow c) (page.overflowing_list c) (is_list c) roles_told 4
-    s.events s.own (among s.events) (within s.events)
-    (run_linearizable t keeps))
+    meeting.events meeting.own (among meeting.events) (within meeting.events)
+    (run_linearizable run_now keeps))
 
 pub code : OverflowingDoesAsTheCode
 code c before stage = (asks_same c before stage, after_same c before stage)
 
 pub runs : OverflowingRunsAsTheMachine
 runs c turns more few small =
-    let s = simulated c turns (some_is c more) small in
-    record { events = s.events; is = ap (λ (t : Trace ℕ). t.events) s.is; history = s.told; words = ap (λ (t : Trace ℕ). t.world.words) s.is }
+    let meeting = simulated c turns (some_is c more) small in
+    record {
+      events = meeting.events;
+      is = ap (λ (t : Trace ℕ). t.events) meeting.is;
+      history = meeting.told;
+      words = ap (λ (t : Trace ℕ). t.world.words) meeting.is;
+    }
 
 pub by_pushes : OverflowingPushesByTable
 by_pushes c value stage old = (refl, refl)

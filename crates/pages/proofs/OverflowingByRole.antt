@@ -60,16 +60,16 @@ module _ (c : ℕ) (more : 0 < c) where
 
   -- a step of a call of the page leaves the words of the roles
   leaves : (k : Roles) (words : List ℕ) (stage : page.Stage) → Tells k words → Leaves blank (Tells k) words (page.does c stage).0
-  leaves k words (page.PushLoadsWrite value) t = at_write k words t
-  leaves k words (page.PushLoadsRead value write) t = at_read k words t
-  leaves k words (page.PushStoresCell value write read) t = at_cell k words t _
-  leaves k words (page.PushStoresWrite value write read) t = at_write k words t
-  leaves k words (page.PushMovesRead value read) t = at_read k words t
-  leaves k words (page.PushLoadsOldest value read) t = at_cell k words t _
-  leaves k words page.PopLoadsRead t = at_read k words t
-  leaves k words (page.PopLoadsWrite read) t = at_write k words t
-  leaves k words (page.PopLoadsCell read) t = at_cell k words t _
-  leaves k words (page.PopMovesRead read value) t = at_read k words t
+  leaves k words (page.PushLoadsWrite value) tells = at_write k words tells
+  leaves k words (page.PushLoadsRead value write) tells = at_read k words tells
+  leaves k words (page.PushStoresCell value write read) tells = at_cell k words tells _
+  leaves k words (page.PushStoresWrite value write read) tells = at_write k words tells
+  leaves k words (page.PushMovesRead value read) tells = at_read k words tells
+  leaves k words (page.PushLoadsOldest value read) tells = at_cell k words tells _
+  leaves k words page.PopLoadsRead tells = at_read k words tells
+  leaves k words (page.PopLoadsWrite read) tells = at_write k words tells
+  leaves k words (page.PopLoadsCell read) tells = at_cell k words tells _
+  leaves k words (page.PopMovesRead read value) tells = at_read k words tells
 
   -- what is to be shown of the overflowing queue where its roles change hands
   handed : Hands by_role (tie c (some_is c more)) Roles

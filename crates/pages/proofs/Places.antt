@@ -33,6 +33,7 @@ module _ {Call Stage Answer : Type 0} (of : Structure Call Stage Answer) (at : C
     Goes stage (GoOn next) v w = GoesOn stage next v w
     Goes stage (Done answer) v w = Moves at (call_at stage) (did stage) (at (call_at stage) answer) v w
 
+  -- the words after the operation that a stage asks for
   abbrev pub words_then : List ℕ → Stage → List ℕ
   words_then words stage =
       slice_set words (of.does stage).0 (written (of.does stage).1 (slice_index words (of.does stage).0))
@@ -168,7 +169,7 @@ module _ {Call Stage Answer : Type 0} (of : Structure Call Stage Answer) (at : C
         let own = subst (λ o. Party at w.history s.log p (Pending o)) pending (s.parties p) in
         by ((of.does stage).2 old) words step.0 own step.1
       where
-        -- so there is whether the call goes on or is done
+        -- the cases are whether the call goes on or is done
         by : (a : After Stage Answer) (words : List ℕ) → law.Good (n + 1) words → IsOpen at w.history s.log p (law.call_at stage) (law.did stage)
             → Goes law.call_at law.did law.Fits stage a (law.value w.words) (law.value words)
             → Holds (machine.gone of w p words a) (n + 1)
@@ -208,6 +209,7 @@ module _ {Call Stage Answer : Type 0} (of : Structure Call Stage Answer) (at : C
     one_turn : (w : World Call Stage Answer) (n : ℕ) (turn : Turn Call) → law.Few n → Holds w n → Holds (machine.turned of w turn) (n + 1)
     one_turn w n (Begin p call) few s = go (of.may p call) refl (w.pending p) refl
       where
+        -- the cases are whether the party may begin the call and whether it has one under way
         go : (b : Bool) → of.may p call ≡ b → (o : Option Stage) → w.pending p ≡ o → Holds (machine.begun of w p call b o) (n + 1)
         go true may None free = begins w n p call s may free
         go true may (Some stage) e = waits w n s

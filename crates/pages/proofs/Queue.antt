@@ -46,6 +46,7 @@ use Rattle.pages.proofs.Roles.{among, coded, effects_own, effects_unseen, held, 
 
 -- ---- the tables are the same
 
+-- the call that a stage belongs to
 abbrev pub call_at : page.Stage → page.Call
 call_at (page.PushLoadsWrite value) = page.Push value
 call_at (page.PushLoadsRead value write) = page.Push value
@@ -64,14 +65,14 @@ fits c stage = true
 
 -- a stage that passes the test fits
 pub fits_so : (c : ℕ) (stage : page.Stage) → fits c stage ≡ true → Fits c stage
-fits_so c (page.PushLoadsWrite value) e = tt
-fits_so c (page.PushLoadsRead value write) e = tt
-fits_so c (page.PushStoresCell value write) e = grind arith
-fits_so c (page.PushStoresWrite value write) e = tt
-fits_so c page.PopLoadsRead e = tt
-fits_so c (page.PopLoadsWrite read) e = tt
-fits_so c (page.PopLoadsCell read) e = grind arith
-fits_so c (page.PopStoresRead read value) e = tt
+fits_so c (page.PushLoadsWrite value) fitting = tt
+fits_so c (page.PushLoadsRead value write) fitting = tt
+fits_so c (page.PushStoresCell value write) fitting = grind arith
+fits_so c (page.PushStoresWrite value write) fitting = tt
+fits_so c page.PopLoadsRead fitting = tt
+fits_so c (page.PopLoadsWrite read) fitting = tt
+fits_so c (page.PopLoadsCell read) fitting = grind arith
+fits_so c (page.PopStoresRead read value) fitting = tt
 
 abbrev comes : ℕ → page.Stage → ℕ → (machine.After page.Stage page.Answer)
 comes c stage old = (page.does c stage).2 old
@@ -131,6 +132,7 @@ right c (page.PushStoresWrite value write) old = tt
 right c page.PopLoadsRead old = (refl, refl)
 right c (page.PopLoadsWrite read) old = go (c == 0) refl (old == read)
   where
+    -- the cases are whether the queue has places at all and whether it is empty
     go : (a : Bool) → (c == 0) ≡ a → (d : Bool)
         → GoesRight call_at (fits c) page.Pop (cond (a || d) (machine.Done (page.Popped None)) (machine.GoOn (page.PopLoadsCell read)))
     go true t d = tt
@@ -171,6 +173,7 @@ goes c roles words beside p stage old =
 
 -- ---- who may begin
 
+-- the type of a tie between the page of this queue and the code's calls
 abbrev tied : ℕ → Type 0
 tied c = Tie (Unit {0}) (page.index_queue c) reading is_push_or_pop kinds.IndexQueue c kept
 
@@ -214,13 +217,13 @@ tie c few =
 
     admits : (p : ℕ) (call : page.Call) → page.may p call ≡ true
         → first_row (begin_rows kinds.IndexQueue c kept p (Queues (queue_start call))) ≡ None
-    admits p (page.Push value) m = holds_row 0 p m
-    admits p page.Pop m = holds_row 1 p m
+    admits p (page.Push value) allowed = holds_row 0 p allowed
+    admits p page.Pop allowed = holds_row 1 p allowed
 
     refuses : (p : ℕ) (call : page.Call) → page.may p call ≡ false
         → is_some (first_row (begin_rows kinds.IndexQueue c kept p (Queues (queue_start call)))) ≡ true
-    refuses p (page.Push value) m = lacks_row 0 p m
-    refuses p page.Pop m = lacks_row 1 p m
+    refuses p (page.Push value) refused = lacks_row 0 p refused
+    refuses p page.Pop refused = lacks_row 1 p refused
 
     begins : (call : page.Call)
         → model.first_of kinds.IndexQueue c (Queues (queue_start call)) kept
@@ -305,8 +308,8 @@ opens c few =
     }
 
 may_below : (p : ℕ) (call : page.Call) → page.may p call ≡ true → p < 2
-may_below p (page.Push value) m = grind (arith, nat_tests)
-may_below p page.Pop m = grind (arith, nat_tests)
+may_below p (page.Push value) allowed = grind (arith, nat_tests)
+may_below p page.Pop allowed = grind (arith, nat_tests)
 
 all_within : (c : ℕ) (few : c < 2 ^ 32) (turns : List (machine.Turn page.Call)) → AllByRecursion (simulates.IsWithin (tie c few) 2 roles_told) turns
 all_within c few [] = tt
@@ -338,22 +341,27 @@ simulated c turns few small =
 pub linearizable : (c : ℕ) (turns : List (machine.Turn page.Call)) → c < 2 ^ 32 → length turns < 2 ^ 63
     → machine.IsLinearizable (page.bounded_list c) (world_of c turns).history
 linearizable c turns few small =
-    let s = simulated c turns few small in
-    let t = trace (tie c few) 2 roles_told (world_of c turns).words s.latest s.changes s.turns s.events in
-    let r : IsReached t = subst IsReached s.is (reached c (map as_turn turns) few) in
-    let keeps = (queue_keeps {T = ℕ} queue_kinds.IndexQueue).kept t refl r in
-    subst (machine.IsLinearizable (page.bounded_list c)) s.told
+    let meeting = simulated c turns few small in
+    let run_now = trace (tie c few) 2 roles_told (world_of c turns).words meeting.latest meeting.changes meeting.turns meeting.events in
+    let is_reached : IsReached run_now = subst IsReached meeting.is (reached c (map as_turn turns) few) in
+    let keeps = (queue_keeps {T = ℕ} queue_kinds.IndexQueue).kept run_now refl is_reached in
+    subst (machine.IsLinearizable (page.bounded_list c)) meeting.told
     (carried reading (as_list queue_kinds.IndexQueue c) (page.bounded_list c) (is_list c) roles_told 4
-    s.events s.own (among s.events) (within s.events)
-    (run_linearizable t keeps))
+    meeting.events meeting.own (among meeting.events) (within meeting.events)
+    (run_linearizable run_now keeps))
 
 pub code : DoesAsTheCode
 code c stage few fits = (asks_same c stage few fits, after_same c stage)
 
 pub runs : RunsAsTheMachine
 runs c turns few small =
-    let s = simulated c turns few small in
-    record { events = s.events; is = ap (λ (t : Trace ℕ). t.events) s.is; history = s.told; words = ap (λ (t : Trace ℕ). t.world.words) s.is }
+    let meeting = simulated c turns few small in
+    record {
+      events = meeting.events;
+      is = ap (λ (t : Trace ℕ). t.events) meeting.is;
+      history = meeting.told;
+      words = ap (λ (t : Trace ℕ). t.world.words) meeting.is;
+    }
 
 pub pushes : PushesByTable
 pushes c value stage old = (refl, refl)

@@ -126,6 +126,7 @@ module _ {T : Type 0} where
   IsPeek (flights.Queues (Values (rings.Peek run))) = Unit {0}
   IsPeek flight = ⊥
 
+  -- a call under way that is no push and no pop is at the stage that its kind has
   abbrev pub OtherOf : Roles → ℕ → QueueStart T → Flight T → Type 0
   OtherOf roles p AcquireProducer flight = flight ≡ flights.Queues (acquire_of producer_word)
   OtherOf roles p ReleaseProducer flight = (flight ≡ flights.Queues (release_of producer_word)) × (roles.producer ≡ Some p)
@@ -188,7 +189,7 @@ module _ {T : Type 0} where
     -- a length asks for a load, and puts no question
     length_asks : (stage : LenStage) (which : LengthOf) (run : Running lengths.Len (Unit {0}) (Unit {0})) → run.call.stage ≡ stage
         → is_question (want_of code (flights.Queues (Length which run))) ≡ false
-    length_asks stage which run e = go run.call.stage
+    length_asks stage which run same_stage = go run.call.stage
       where
         go : (stage : LenStage) → is_question (len_asks stage) ≡ false
         go LoadsWrite = refl
@@ -197,7 +198,8 @@ module _ {T : Type 0} where
         go (LoadsReadAgain write read) = refl
 
     no_question : (flight : Flight T) → IsLength flight → is_question (want_of code flight) ≡ false
-    no_question flight h = subst (λ f. is_question (want_of code f) ≡ false) (sym h.is) (length_asks h.run.call.stage h.which h.run refl)
+    no_question flight length =
+        subst (λ f. is_question (want_of code f) ≡ false) (sym length.is) (length_asks length.run.call.stage length.which length.run refl)
 
     peek_loads : (stage : PeekStage) → is_question (peek_asks stage) ≡ false
     peek_loads peeks.LoadsRead = refl
@@ -205,9 +207,9 @@ module _ {T : Type 0} where
     peek_loads (peeks.LoadsCell cell at) = refl
 
     peek_asks_nothing : (flight : Flight T) → IsPeek flight → is_question (want_of code flight) ≡ false
-    peek_asks_nothing (flights.Queues (Indices (rings.Peek run))) h = peek_loads run.call.stage
-    peek_asks_nothing (flights.Queues (Values (rings.Peek run))) h = peek_loads run.call.stage
-    peek_asks_nothing flight h = absurd h
+    peek_asks_nothing (flights.Queues (Indices (rings.Peek run))) peek = peek_loads run.call.stage
+    peek_asks_nothing (flights.Queues (Values (rings.Peek run))) peek = peek_loads run.call.stage
+    peek_asks_nothing flight peek = absurd peek
 
     -- a call that the page has not puts no question
     pub asks_nothing : (roles : Roles) (p : ℕ) (start : Start T) (flight : Flight T) → Other roles p start flight → is_question (want_of code flight) ≡ false
@@ -285,6 +287,7 @@ module _ {T : Type 0} where
             others = λ q start flight ne h. others_stay (both None co) (both (Some p) co) q (λ e. no_one e) (λ e. e) start flight h;
           }
         where
+          -- the producer's role was free and is the party's now; the consumer's has the holder that it had
           who_is : (n : ℕ) → (who (both (Some p) co) n ≡ who (both None co) n) ⊎ ((who (both None co) n ≡ None) ⊎ (who (both None co) n ≡ Some p))
           who_is zero = inr (inl refl)
           who_is (suc zero) = inl refl
@@ -316,6 +319,7 @@ module _ {T : Type 0} where
             others = λ q start flight ne h. others_stay (both pr None) (both pr (Some p)) q (λ e. e) (λ e. no_one e) start flight h;
           }
         where
+          -- the consumer's role was free and is the party's now; the producer's has the holder that it had
           who_is : (n : ℕ) → (who (both pr (Some p)) n ≡ who (both pr None) n) ⊎ ((who (both pr None) n ≡ None) ⊎ (who (both pr None) n ≡ Some p))
           who_is zero = inl refl
           who_is (suc zero) = inr (inl refl)
@@ -429,13 +433,13 @@ module _ {T : Type 0} where
 
       -- a step of a peek comes to what it may
       by_peek : (pr co : Option ℕ) (flight : Flight T) → IsPeek flight → StepOf (both pr co) p (Queues Peek) flight (words_of pr co) beside
-      by_peek pr co (flights.Queues (Indices (rings.Peek run))) h =
+      by_peek pr co (flights.Queues (Indices (rings.Peek run))) peek =
           loads (Queues Peek) (flights.Queues (Indices (rings.Peek run))) pr co (peeks_alone pr co run.call.stage) refl refl
           (λ then e. goes_on_so IsPeek (λ r. Indices (rings.Peek r)) (λ r. tt) popped (λ end given room. pop_answer room.0 end) _ _ _ then e)
-      by_peek pr co (flights.Queues (Values (rings.Peek run))) h =
+      by_peek pr co (flights.Queues (Values (rings.Peek run))) peek =
           loads (Queues Peek) (flights.Queues (Values (rings.Peek run))) pr co (peeks_alone pr co run.call.stage) refl refl
           (λ then e. goes_on_so IsPeek (λ r. Values (rings.Peek r)) (λ r. tt) popped_value (λ end given room. pop_answer (read_in code room) end) _ _ _ then e)
-      by_peek pr co flight h = absurd h
+      by_peek pr co flight peek = absurd peek
 
       -- each call that the page has not comes to what it may, from words that tell the roles
       by_start : (pr co : Option ℕ) (start : QueueStart T) (flight : Flight T) → Other (both pr co) p (Queues start) flight
@@ -474,7 +478,7 @@ module _ {T : Type 0} where
     -- a step of a call that the page has not comes to what it may
     pub goes_other : (roles : Roles) (words : List ℕ) (beside : Option (ℕ × ℕ)) (p : ℕ) (start : Start T) (flight : Flight T)
         → Other roles p start flight → Tells roles words → StepOf roles p start flight words beside
-    goes_other roles words beside p (Queues start) flight h t =
-        subst (λ ws. StepOf roles p (Queues start) flight ws beside) (sym t.is)
-        (by_start p t.write t.read t.cells beside roles.producer roles.consumer start flight h)
-    goes_other roles words beside p other flight h t = absurd h
+    goes_other roles words beside p (Queues start) flight h tells =
+        subst (λ ws. StepOf roles p (Queues start) flight ws beside) (sym tells.is)
+        (by_start p tells.write tells.read tells.cells beside roles.producer roles.consumer start flight h)
+    goes_other roles words beside p other flight h tells = absurd h

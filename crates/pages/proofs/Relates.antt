@@ -136,8 +136,7 @@ module _ (Room : Type 0) {Call Stage Answer : Type 0} (of : machine.Structure Ca
       pub matches : (p : ℕ) → Matches p (w.pending p) (party_of p latest)
 
     known_of : (w : Page) (n : ℕ) (t : Trace ℕ) → (s : Meets w n t) → law.Known s.events s.kept
-    known_of w n t s =
-        law.known (trace s.kept w.words s.latest s.changes s.turns s.events) (subst IsReached s.is s.reached) refl refl
+    known_of w n t s = law.known (trace s.kept w.words s.latest s.changes s.turns s.events) (subst IsReached s.is s.reached) refl refl
 
     -- each party's call matches its stage once a call that matches its own is put in with it
     put_matches : (p : ℕ) (o : Option Stage) (x : Party ℕ) (pending : ℕ → Option Stage) (latest : List (ℕ × Party ℕ))
@@ -156,6 +155,7 @@ module _ (Room : Type 0) {Call Stage Answer : Type 0} (of : machine.Structure Ca
     attempted : (t : Trace ℕ) (turn : Turn ℕ) → IsReached t → IsReached (attempt t turn)
     attempted t turn r = run_keeps refusal_of IsReached (λ t turn e r. reached_more t turn e r) (turn ∷ []) t r
 
+    -- a page that has waited a turn meets the trace as before
     waits : (w : Page) (n : ℕ) (t : Trace ℕ) → Meets w n t → Meets w (n + 1) t
     waits w n t s =
         let few = s.few in
@@ -196,12 +196,12 @@ module _ (Room : Type 0) {Call Stage Answer : Type 0} (of : machine.Structure Ca
         → Meets (machine.begun of w p call true None) (n + 1) (attempt t (Begin p (law.start call)))
     begins w n p call t small s rule may below free =
         let few = s.few in
-        let lt : s.turns < 2 ^ 64 - 2 = omega arith in
+        let few_turns : s.turns < 2 ^ 64 - 2 = omega arith in
         let idle : flight_of (doing_of (party_of p s.latest)) ≡ None = subst (λ o. Matches p o (party_of p s.latest)) free (s.matches p) in
         let allows : refusal_of (world s.kept w.words s.latest s.changes s.turns) (Begin p (law.start call)) ≡ None =
         three_rows (nat_le (2 ^ 64 - 2) s.turns) (nat_le parties p) (is_some (flight_of (doing_of (party_of p s.latest)))) AtEnd NoParty Busy
         (begin_rows kind capacity s.kept p (law.start call))
-        (not_at_end s.turns lt) (not_past parties p below) (none_is _ idle)
+        (not_at_end s.turns few_turns) (not_past parties p below) (none_is _ idle)
         ∙ law.admits s.events s.kept w p call s.related (known_of w n t s) may free rule in
         let goes : Goes p (of.first call) (Some (begun_party call s.changes)) =
         record {
@@ -259,9 +259,9 @@ module _ (Room : Type 0) {Call Stage Answer : Type 0} (of : machine.Structure Ca
         (steps backs since : ℕ) → party_of p latest ≡ Some (going r stage steps backs since)
         → after_turn (trace k words latest changes turns events) (Next p)
         ≡ by_ask k words latest changes turns events p r stage steps backs since (ask_of (want_of one_word (law.flight r stage)))
-    next_is k words latest changes turns events p r stage steps backs since here =
-        ap (after_party (world k words latest changes turns) events p) here
+    next_is k words latest changes turns events p r stage steps backs since here = ap (after_party (world k words latest changes turns) events p) here
 
+    -- the machine allows the next step of a party whose call is under way
     next_allowed : (k : Registry ℕ) (words : List ℕ) (latest : List (ℕ × Party ℕ)) (changes turns p : ℕ) (r : Room) (stage : Stage) (steps backs since : ℕ)
         → p < parties → law.Fits stage → turns < 2 ^ 64 - 2 → party_of p latest ≡ Some (going r stage steps backs since)
         → refusal_of (world k words latest changes turns) (Next p) ≡ None
@@ -281,8 +281,7 @@ module _ (Room : Type 0) {Call Stage Answer : Type 0} (of : machine.Structure Ca
         ∙ law.rows k r stage)
 
     abbrev pub words_then : Page → Stage → List ℕ
-    words_then w stage =
-        slice_set w.words (of.does stage).0 (machine.written (of.does stage).1 (slice_index w.words (of.does stage).0))
+    words_then w stage = slice_set w.words (of.does stage).0 (machine.written (of.does stage).1 (slice_index w.words (of.does stage).0))
 
     -- the machine after a step that comes to this
     land : (w : Page) (n p : ℕ) (t : Trace ℕ) (s : Meets w n t) (stage : Stage) (g : Goes p stage (party_of p s.latest))
@@ -380,7 +379,7 @@ module _ (Room : Type 0) {Call Stage Answer : Type 0} (of : machine.Structure Ca
         → Goes p stage (party_of p s.latest) → Meets (machine.stepped of w p (Some stage)) (n + 1) (attempt t (Next p))
     goes_on w n p t small s stage pending g =
         let few = s.few in
-        let lt : s.turns < 2 ^ 64 - 2 = omega arith in
+        let few_turns : s.turns < 2 ^ 64 - 2 = omega arith in
         let ask = Some (asked (of.does stage).0 (of.does stage).1) in
         let x = going g.room stage g.steps g.backs g.since in
         let step = step_of one_word w.words (beside_of w.words s.kept s.latest p) p (law.start (law.call_at stage)) (law.flight g.room stage)
@@ -388,7 +387,7 @@ module _ (Room : Type 0) {Call Stage Answer : Type 0} (of : machine.Structure Ca
         let right = law.steps s.events s.kept w (beside_of w.words s.kept s.latest p) p g.room stage s.related (known_of w n t s) pending g.fits in
         let allows : refusal_of t.world (Next p) ≡ None =
         ap (λ (u : Trace ℕ). refusal_of u.world (Next p)) s.is
-        ∙ next_allowed s.kept w.words s.latest s.changes s.turns p g.room stage g.steps g.backs g.since g.below g.fits lt g.is in
+        ∙ next_allowed s.kept w.words s.latest s.changes s.turns p g.room stage g.steps g.backs g.since g.below g.fits few_turns g.is in
         let is : attempt t (Next p) ≡ made_by s.kept w.words s.latest s.changes s.turns s.events p x g.since ask step =
         taken t (Next p) allows
         ∙ (ap (λ u. after_turn u (Next p)) s.is
@@ -398,6 +397,7 @@ module _ (Room : Type 0) {Call Stage Answer : Type 0} (of : machine.Structure Ca
         let known = law.known (made_by s.kept w.words s.latest s.changes s.turns s.events p x g.since ask step) (subst IsReached is reached) refl refl in
         finish ((of.does stage).2 (slice_index w.words (of.does stage).0)) refl step right is reached (right.related known)
       where
+        -- a step of the page that comes to this is met by the machine's step, which is right and stays reachable
         finish : (a : machine.After Stage Answer) → (of.does stage).2 (slice_index w.words (of.does stage).0) ≡ a
             → (step : Step (Flight ℕ) (Registry ℕ) ℕ)
             → (right : StepsRight law.call_at law.start law.flight law.answered law.Fits law.Known law.Related s.events w p stage step)
@@ -422,6 +422,7 @@ module _ (Room : Type 0) {Call Stage Answer : Type 0} (of : machine.Structure Ca
     party_is : (p : ℕ) (stage : Stage) (o : Option (Party ℕ)) → Goes p stage o → is_some (flight_of (doing_of o)) ≡ true
     party_is p stage o g = ap (λ (x : Option (Party ℕ)). is_some (flight_of (doing_of x))) g.is
 
+    -- the machine refuses to begin a call of a party whose call is under way
     busy : (k : Registry ℕ) (words : List ℕ) (latest : List (ℕ × Party ℕ)) (changes turns p : ℕ) (start : Start ℕ)
         → is_some (flight_of (doing_of (party_of p latest))) ≡ true
         → is_some (refusal_of (world k words latest changes turns) (Begin p start)) ≡ true

@@ -38,10 +38,10 @@ kept = registries.Queues held
 
 -- who is the holder has the role, and no other has
 pub holds_row : (holder p : ℕ) → (p == holder) ≡ true → first_row ((false, WrongCall) ∷ (not (holder == p), NoRole) ∷ []) ≡ None
-holds_row holder p e = let is : (holder == p) ≡ true = grind (arith, nat_tests) in rw is refl
+holds_row holder p e = let is_same : (holder == p) ≡ true = grind (arith, nat_tests) in rw is_same refl
 
 pub lacks_row : (holder p : ℕ) → (p == holder) ≡ false → is_some (first_row ((false, WrongCall) ∷ (not (holder == p), NoRole) ∷ [])) ≡ true
-lacks_row holder p e = let is : (holder == p) ≡ false = grind (arith, nat_tests) in rw is refl
+lacks_row holder p e = let is_other : (holder == p) ≡ false = grind (arith, nat_tests) in rw is_other refl
 
 -- ---- the effects of a step
 
@@ -61,7 +61,7 @@ effects_unseen read p start (TakesOut index) outcome = refl
 effects_unseen read p start (MakesRoom item q pushed) None = refl
 effects_unseen read p start (MakesRoom item q pushed) (Some answer) = refl
 
--- no call begins by the effects of a step
+-- what a step writes begins no call but a push or a pop
 pub effects_own : {T : Type 0} → (p : ℕ) (start : QueueStart T) (eff : Effect T) (outcome : Option (Answer T))
     → AllByRecursion (IsOwn is_push_or_pop) (effects_of p start eff outcome)
 effects_own p start Quiet outcome = tt

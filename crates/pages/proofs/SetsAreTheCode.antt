@@ -76,7 +76,7 @@ one place old = (place, old) ∷ []
 pub counts_hands_out : counts_bridge.HandsOutAsTheMachine
 counts_hands_out p c found place old taken = go (old == 0)
   where
-    -- so it does whether the place counted something or not
+    -- the cases are whether the place counted something
     go : (b : Bool)
         → (counts.all_goes_on c place (cond b taken (taken ++ one place old))
         ≡ counts.all_goes_on c place (taken ++ cond b [] (one place old)))

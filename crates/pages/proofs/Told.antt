@@ -61,20 +61,20 @@ module _ {Call Stage Answer Item : Type 0} (of : machine.Structure Call Stage An
     -- as a call is invoked the page reads one invocation more, and nothing is handed out by it
     pub begins : (events : List (Event ℕ)) (w : machine.World Call Stage Answer) (p : ℕ) (call : Call) (start : Start ℕ) → IsRead events w
         → read.call start ≡ call → HandsAt (of.first call) [] → IsRead (events ++ Begun p start ∷ []) (machine.begun of w p call true None)
-    begins events w p call start r is first =
+    begins events w p call start is_read is first =
         record {
-          history = told_more [] events (Begun p start ∷ []) ∙ (ap (λ h. h ++ machine.Invoked p (read.call start) ∷ []) r.history
+          history = told_more [] events (Begun p start ∷ []) ∙ (ap (λ h. h ++ machine.Invoked p (read.call start) ∷ []) is_read.history
               ∙ ap (λ c. w.history ++ machine.Invoked p c ∷ []) is);
           hands = hands_put p (Some (of.first call)) w.pending events (Begun p start ∷ [])
               (subst (HandsAt (of.first call)) (sym (handed_more p events (Begun p start ∷ []) ∙ emptied (handed read p events))) first)
-              (λ q ne. handed_more q events (Begun p start ∷ []) ∙ left q ne (handed read q events)) r.hands;
+              (λ q ne. handed_more q events (Begun p start ∷ []) ∙ left q ne (handed read q events)) is_read.hands;
         }
       where
         emptied : (acc : List Item) → cond (p == p) [] acc ≡ []
-        emptied acc = let t : (p == p) ≡ true = grind (arith, nat_tests) in rw t refl
+        emptied acc = let is_same : (p == p) ≡ true = grind (arith, nat_tests) in rw is_same refl
 
         left : (q : ℕ) → q ≢ p → (acc : List Item) → cond (p == q) [] acc ≡ acc
-        left q ne acc = let t : (p == q) ≡ false = grind (arith, nat_tests) in rw t refl
+        left q ne acc = let is_other : (p == q) ≡ false = grind (arith, nat_tests) in rw is_other refl
 
     -- what a step comes to, which leaves this handed out
     abbrev pub Reads : (Answer → answers.Answer ℕ) → List Item → machine.After Stage Answer → Type 0
@@ -92,7 +92,7 @@ module _ {Call Stage Answer Item : Type 0} (of : machine.Structure Call Stage An
         → IsRead events w → Writes p wrote items → (a : machine.After Stage Answer) → Reads answered (handed read p events ++ items) a
         → (z : steps.After (Flight ℕ) (answers.Answer ℕ)) → z ≡ went flight answered a
         → IsRead (events ++ (wrote ++ ending_of p start (answer_in z))) (machine.gone of w p words a)
-    steps_on quiet flight answered events wrote items w p start words r writes a reads z is =
+    steps_on quiet flight answered events wrote items w p start words is_read writes a reads z is =
         subst (λ z. IsRead (events ++ (wrote ++ ending_of p start (answer_in z))) (machine.gone of w p words a)) (sym is) (by a reads)
       where
         now : handed read p (events ++ wrote) ≡ handed read p events ++ items
@@ -101,25 +101,27 @@ module _ {Call Stage Answer Item : Type 0} (of : machine.Structure Call Stage An
         others : (q : ℕ) → q ≢ p → handed read q (events ++ wrote) ≡ handed read q events
         others q ne = handed_more q events wrote ∙ writes.others q (handed read q events) ne
 
-        -- so it does whether the call goes on or is done
+        -- the cases are whether the call goes on or is done
         by : (a : machine.After Stage Answer) → Reads answered (handed read p events ++ items) a
             → IsRead (events ++ (wrote ++ ending_of p start (answer_in (went flight answered a)))) (machine.gone of w p words a)
         by (machine.GoOn next) hands =
             subst (λ es. IsRead (events ++ es) (machine.gone of w p words (machine.GoOn next))) (sym (append-nil wrote))
             (record {
-              history = told_more [] events wrote ∙ (ap (λ h. told read [] events ++ h) (writes.quiet events) ∙ (append-nil (told read [] events) ∙ r.history));
-              hands = hands_put p (Some next) w.pending events wrote (subst (HandsAt next) (sym now) hands) others r.hands;
+              history =
+                  told_more [] events wrote
+                  ∙ (ap (λ h. told read [] events ++ h) (writes.quiet events) ∙ (append-nil (told read [] events) ∙ is_read.history));
+              hands = hands_put p (Some next) w.pending events wrote (subst (HandsAt next) (sym now) hands) others is_read.hands;
             })
         by (machine.Done answer) is_answer =
             let end = Finished p start (answered answer) ∷ [] in
             record {
               history = told_more [] events (wrote ++ Finished p start (answered answer) ∷ [])
-                  ∙ (ap (λ h. h ++ told read events (wrote ++ Finished p start (answered answer) ∷ [])) r.history
+                  ∙ (ap (λ h. h ++ told read events (wrote ++ Finished p start (answered answer) ∷ [])) is_read.history
                   ∙ ap (λ h. w.history ++ h) (told_more events wrote (Finished p start (answered answer) ∷ [])
                   ∙ (ap (λ h. h ++ told read (events ++ wrote) (Finished p start (answered answer) ∷ [])) (writes.quiet events)
                   ∙ ap (λ b. machine.Responded p b ∷ []) (ap (λ xs. read.answer xs (answered answer)) now ∙ is_answer))));
               hands = hands_put p None w.pending events (wrote ++ Finished p start (answered answer) ∷ []) tt
                   (λ q ne. ap (handed read q) (sym (append_assoc events wrote (Finished p start (answered answer) ∷ [])))
                   ∙ (handed_more q (events ++ wrote) (Finished p start (answered answer) ∷ [])
-                  ∙ (ap (λ o. handed_with read q (handed read q (events ++ wrote)) o) (quiet p start (answered answer)) ∙ others q ne))) r.hands;
+                  ∙ (ap (λ o. handed_with read q (handed read q (events ++ wrote)) o) (quiet p start (answered answer)) ∙ others q ne))) is_read.hands;
             }

@@ -35,8 +35,8 @@ four_rows a b d e rows ha hb hd he = rw (ha, hb, hd, he) refl
 
 -- rows that refuse do so whatever those before them say
 pub refused_later : (before rows : List (Bool × Refusal)) → is_some (first_row rows) ≡ true → is_some (first_row (before ++ rows)) ≡ true
-refused_later [] rows e = e
-refused_later (x ∷ before) rows e = go x.0 (refused_later before rows e)
+refused_later [] rows is_refused = is_refused
+refused_later (x ∷ before) rows is_refused = go x.0 (refused_later before rows is_refused)
   where
     go : (b : Bool) → is_some (first_row (before ++ rows)) ≡ true → is_some (cond b (Some x.1) (first_row (before ++ rows))) ≡ true
     go true more = refl
@@ -82,8 +82,8 @@ taken t turn e = ap (unless_refused t (after_turn t turn)) e
 
 -- a turn that is refused changes nothing
 pub refused : {T : Type 0} → (t : Trace T) (turn : Turn T) → is_some (refusal_of t.world turn) ≡ true → attempt t turn ≡ t
-refused t turn e = go (refusal_of t.world turn) e
+refused t turn is_refused = go (refusal_of t.world turn) is_refused
   where
     go : (o : Option Refusal) → is_some o ≡ true → unless_refused t (after_turn t turn) o ≡ t
-    go None h = absurd (cc)
-    go (Some refusal) h = refl
+    go None is_refused = absurd (cc)
+    go (Some refusal) is_refused = refl

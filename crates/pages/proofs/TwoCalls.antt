@@ -61,21 +61,22 @@ module _ {Call Answer State : Type 0} (o : Object Call Answer State) (history : 
 
     -- a linearizable history has its two calls in one of the two orders
     pub in_one_order : IsLinearizable o history → InOneOrder
-    in_one_order h =
-        let ended : All (λ (call : Called Call Answer). IfSome call.response (λ r. Contains h.sequence (call, r.1))) (c ∷ d ∷ []) =
-        subst (All (λ (call : Called Call Answer). IfSome call.response (λ r. Contains h.sequence (call, r.1)))) calls h.completed in
-        let mine : Contains h.sequence one =
-        subst (λ (o : Option (ℕ × Answer)). IfSome o (λ r. Contains h.sequence (c, r.1))) first (ended 0 c (omega arith)) in
-        let theirs : Contains h.sequence two =
-        subst (λ (o : Option (ℕ × Answer)). IfSome o (λ r. Contains h.sequence (d, r.1))) second (ended 1 c (omega arith)) in
-        ordered h.sequence h.legal h.invoked mine theirs h.once h.real_time
+    in_one_order linearizable =
+        let ended : All (λ (call : Called Call Answer). IfSome call.response (λ r. Contains linearizable.sequence (call, r.1))) (c ∷ d ∷ []) =
+        subst (All (λ (call : Called Call Answer). IfSome call.response (λ r. Contains linearizable.sequence (call, r.1)))) calls linearizable.completed in
+        let mine : Contains linearizable.sequence one =
+        subst (λ (o : Option (ℕ × Answer)). IfSome o (λ r. Contains linearizable.sequence (c, r.1))) first (ended 0 c (omega arith)) in
+        let theirs : Contains linearizable.sequence two =
+        subst (λ (o : Option (ℕ × Answer)). IfSome o (λ r. Contains linearizable.sequence (d, r.1))) second (ended 1 c (omega arith)) in
+        ordered linearizable.sequence linearizable.legal linearizable.invoked mine theirs linearizable.once linearizable.real_time
 
     -- where the first has ended before the second begins, that is its order
     pub in_turn_alone : (IsLegal o o.opening (one ∷ two ∷ []) → ⊥) → place < d.place → IsLinearizable o history → ⊥
-    in_turn_alone never before h =
-        ⊎_elim never (λ (other : IsLegal o o.opening (two ∷ one ∷ []) × (d.place ≤ place)). let le = other.1 in omega arith)
-        (in_one_order h)
+    in_turn_alone never before linearizable =
+        ⊎_elim never (λ (other : IsLegal o o.opening (two ∷ one ∷ []) × (d.place ≤ place)). omega (arith, other.1))
+        (in_one_order linearizable)
 
     -- both at once
     pub neither_order : (IsLegal o o.opening (one ∷ two ∷ []) → ⊥) → (IsLegal o o.opening (two ∷ one ∷ []) → ⊥) → IsLinearizable o history → ⊥
-    neither_order never not_either h = ⊎_elim never (λ (other : IsLegal o o.opening (two ∷ one ∷ []) × (d.place ≤ place)). not_either other.0) (in_one_order h)
+    neither_order never not_either linearizable =
+        ⊎_elim never (λ (other : IsLegal o o.opening (two ∷ one ∷ []) × (d.place ≤ place)). not_either other.0) (in_one_order linearizable)

@@ -42,6 +42,7 @@ use Rattle.pages.proofs.UniqueIndexSet.{after_same, asks_same}
 -- ---- turn by turn
 
 module _ (c : ℕ) where
+  -- the call that a stage belongs to
   abbrev call_at : page.Stage → page.Call
   call_at page.AcquireLoadsHead = page.Acquire
   call_at (page.AcquireLoadsNext head) = page.Acquire
@@ -100,6 +101,7 @@ module _ (c : ℕ) where
       go false = tt
   right (page.AcquireScans index) old = go (page.has_flag old index)
     where
+      -- the cases are whether the index has its flag
       go : (x : Bool)
           → GoesRight (page.AcquireScans index)
           (cond x (machine.GoOn (page.AcquireScans (cond (nat_lt (index + 1) c) (index + 1) 0))) (machine.Done (page.Acquired index)))
@@ -231,8 +233,8 @@ module _ (c : ℕ) where
   -- ---- the relation
 
   knows_of : (t : Trace ℕ) → IsReached t → t.world.kind ≡ kinds.Indices → t.world.capacity ≡ c → Knows c t.events t.world.kept
-  knows_of t r is same =
-      let kept = (index_keeps {T = ℕ}).kept t is r in
+  knows_of t reached is same =
+      let kept = (index_keeps {T = ℕ}).kept t is reached in
       let set : IsIndexSet t = subst (λ k. (promise_of k).holds t) is kept.promised in
       record { holds = subst (λ n. readings.Each (HoldsRight n) t.events) same set.holds; keeps = set.holders }
 
@@ -240,6 +242,7 @@ module _ (c : ℕ) where
   Rule w (machine.Begin p (page.Release index l)) = w.pending p ≡ None → page.holder index w.history ≡ Some p
   Rule w turn = Unit {0}
 
+  -- the machine's step at a stage of the page keeps page and machine related
   abbrev StepIs : List (Event ℕ) → Page c → ℕ → page.Stage → Option (ℕ × ℕ) → Registry ℕ → Type 0
   StepIs events w p stage beside k =
       StepsRight (Unit {0}) (page.unique_index_set c) kinds.Indices c call_at (λ call. Indices (bridge.index_start call)) the_flight
@@ -314,27 +317,27 @@ module _ (c : ℕ) where
       admits : (events : List (Event ℕ)) (k : Registry ℕ) (w : Page c) (p : ℕ) (call : page.Call) → Related c events k w → Knows c events k
           → true ≡ true → w.pending p ≡ None → Rule w (machine.Begin p call)
           → first_row (begin_rows kinds.Indices c k p (Indices (bridge.index_start call))) ≡ None
-      admits events (registries.Indices holders) w p page.Acquire r known may free rule = refl
-      admits events (registries.Indices holders) w p (page.Release index true) r known may free rule =
-          let had = r.held index p (rule free) in
-          holds_row (nat_le c index) (holds (slice_index_or holders index None) p) (let lt = had.1 in grind (arith, nat_tests))
+      admits events (registries.Indices holders) w p page.Acquire related known may free rule = refl
+      admits events (registries.Indices holders) w p (page.Release index true) related known may free rule =
+          let had = related.held index p (rule free) in
+          holds_row (nat_le c index) (holds (slice_index_or holders index None) p) (grind (arith, nat_tests, had.1))
           (is_holder (slice_index_or holders index None) p (known.keeps index ∙ had.0))
-      admits events (registries.Indices holders) w p (page.Release index false) r known may free rule =
-          let had = r.held index p (rule free) in
-          holds_row (nat_le c index) (holds (slice_index_or holders index None) p) (let lt = had.1 in grind (arith, nat_tests))
+      admits events (registries.Indices holders) w p (page.Release index false) related known may free rule =
+          let had = related.held index p (rule free) in
+          holds_row (nat_le c index) (holds (slice_index_or holders index None) p) (grind (arith, nat_tests, had.1))
           (is_holder (slice_index_or holders index None) p (known.keeps index ∙ had.0))
-      admits events k w p call r known may free rule = absurd (known.keeps)
+      admits events k w p call related known may free rule = absurd (known.keeps)
 
       begun : (events : List (Event ℕ)) (k : Registry ℕ) (w : Page c) (p : ℕ) (call : page.Call) → Related c events k w → true ≡ true
           → w.pending p ≡ None → Rule w (machine.Begin p call)
           → Related c (events ++ Begun p (Indices (bridge.index_start call)) ∷ []) k (machine.begun (page.unique_index_set c) w p call true None)
-      begun events k w p page.Acquire r may free rule = begins_acquire c events w.history w.pending p r
-      begun events k w p (page.Release index l) r may free rule = begins_release c events w.history w.pending p index l r (rule free)
+      begun events k w p page.Acquire related may free rule = begins_acquire c events w.history w.pending p related
+      begun events k w p (page.Release index l) related may free rule = begins_release c events w.history w.pending p index l related (rule free)
 
       steps : (events : List (Event ℕ)) (k : Registry ℕ) (w : Page c) (beside : Option (ℕ × ℕ)) (p : ℕ) (stage : page.Stage)
           → Related c events k w → Knows c events k → w.pending p ≡ Some stage → StepIs events w p stage beside k
-      steps events (registries.Indices holders) w beside p stage r known here = step_by events w p stage beside holders r here
-      steps events k w beside p stage r known here = absurd (known.keeps)
+      steps events (registries.Indices holders) w beside p stage related known here = step_by events w p stage beside holders related here
+      steps events k w beside p stage related known here = absurd (known.keeps)
 
   -- ---- the rule of the callers, from the history at the end
 
@@ -376,7 +379,7 @@ module _ (c : ℕ) where
   rules_of parties [] w own = tt
   rules_of parties (turn ∷ turns) w own = (rule turn own, rules_of parties turns (machine.turned (page.unique_index_set c) w turn) own)
     where
-      -- so they do in the first of the turns
+      -- the callers keep to the rule in the first of the turns
       rule : (turn : machine.Turn page.Call)
           → page.Each page.ReleasesOwn (fold (machine.turned (page.unique_index_set c)) (machine.turned (page.unique_index_set c) w turn) turns).history
           → Rule w turn

@@ -51,6 +51,7 @@ use Rattle.pages.proofs.Roles.{holds_row, lacks_row}
 
 -- ---- the tables are the same
 
+-- the call that a stage belongs to
 abbrev pub call_at : page.Stage → page.Call
 call_at (page.StoreLoadsVersion value) = page.StoreValue value
 call_at (page.StoreStoresCell value version) = page.StoreValue value
@@ -65,8 +66,7 @@ comes stage old = (page.does stage).2 old
 cell_is : (k : ℕ) → word_at (cell_word 1 k) 0 ≡ 2 + k % 2
 cell_is k =
     let some : 0 < 2 = omega arith in
-    let lt = mod-lt k some in
-    omega arith
+    omega (arith, mod-lt k some)
 
 -- a stage of the page asks for the operation that the code asks for
 pub asks_same : (before : ℕ) (stage : page.Stage) → ask_of (want one_word (flight before stage)) ≡ Some (asked (page.does stage).0 (page.does stage).1)
@@ -90,6 +90,7 @@ after_same before (page.LoadChecksVersion version value) old = grind arith
 pub right : (stage : page.Stage) (old : ℕ) → GoesRight call_at (λ stage. true) (call_at stage) (comes stage old)
 right (page.StoreLoadsVersion value) old = go (old == 2 ^ 64 - 1)
   where
+    -- the cases are whether the version is at its end
     go : (b : Bool) → GoesRight call_at (λ stage. true) (page.StoreValue value)
         (cond b (machine.Done (page.Stored false)) (machine.GoOn (page.StoreStoresCell value old)))
     go true = tt
@@ -189,13 +190,13 @@ tie =
 
     admits : (p : ℕ) (call : page.Call) → page.may p call ≡ true
         → first_row (begin_rows kinds.Atomic 1 kept p (Atomic (value_start call))) ≡ None
-    admits p (page.StoreValue value) m = holds_row 0 p m
-    admits p page.LoadValue m = refl
+    admits p (page.StoreValue value) allowed = holds_row 0 p allowed
+    admits p page.LoadValue allowed = refl
 
     refuses : (p : ℕ) (call : page.Call) → page.may p call ≡ false
         → is_some (first_row (begin_rows kinds.Atomic 1 kept p (Atomic (value_start call)))) ≡ true
-    refuses p (page.StoreValue value) m = lacks_row 0 p m
-    refuses p page.LoadValue m = absurd (cc)
+    refuses p (page.StoreValue value) refused = lacks_row 0 p refused
+    refuses p page.LoadValue refused = absurd (cc)
 
     begins : (call : page.Call)
         → model.first_of kinds.Atomic 1 (Atomic (value_start call)) kept
@@ -323,21 +324,26 @@ pub linearizable : (turns : List (machine.Turn page.Call)) → length turns < 2 
     → machine.IsLinearizable page.register (world_of turns).history
 linearizable turns small =
     let n = parties_of turns in
-    let s = simulated n turns (omega arith) small in
-    let t = trace tie n role_told (world_of turns).words s.latest s.changes s.turns s.events in
-    let r : IsReached t = subst IsReached s.is (reached n (map as_turn turns)) in
-    let keeps = (value_keeps {T = ℕ}).kept t refl r in
-    subst (machine.IsLinearizable page.register) s.told
-    (carried reading (as_value one_word) page.register is_register role_told 2 s.events s.own (among s.events) (within s.events)
-    (run_linearizable t keeps))
+    let meeting = simulated n turns (omega arith) small in
+    let run_now = trace tie n role_told (world_of turns).words meeting.latest meeting.changes meeting.turns meeting.events in
+    let is_reached : IsReached run_now = subst IsReached meeting.is (reached n (map as_turn turns)) in
+    let keeps = (value_keeps {T = ℕ}).kept run_now refl is_reached in
+    subst (machine.IsLinearizable page.register) meeting.told
+    (carried reading (as_value one_word) page.register is_register role_told 2 meeting.events meeting.own (among meeting.events) (within meeting.events)
+    (run_linearizable run_now keeps))
 
 pub code : ValueDoesAsTheCode
 code before stage = (asks_same before stage, after_same before stage)
 
 pub runs : ValueRunsAsTheMachine
 runs turns n le small =
-    let s = simulated n turns le small in
-    record { events = s.events; is = ap (λ (t : Trace ℕ). t.events) s.is; history = s.told; words = ap (λ (t : Trace ℕ). t.world.words) s.is }
+    let meeting = simulated n turns le small in
+    record {
+      events = meeting.events;
+      is = ap (λ (t : Trace ℕ). t.events) meeting.is;
+      history = meeting.told;
+      words = ap (λ (t : Trace ℕ). t.world.words) meeting.is;
+    }
 
 pub by_stores : StoresByTable
 by_stores value stage old = (refl, refl)

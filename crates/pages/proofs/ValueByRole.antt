@@ -55,6 +55,7 @@ looks = flights.Atomic (calls.first HasProducer)
 abbrev counts : Flight ℕ
 counts = flights.Atomic (calls.first Version)
 
+-- a call under way that is no store and no load is at the stage that its kind has
 abbrev Other : Option ℕ → ℕ → Start ℕ → Flight ℕ → Type 0
 Other role p (Atomic AcquireProducer) flight = flight ≡ acquires
 Other role p (Atomic ReleaseProducer) flight = (flight ≡ releases) × (role ≡ Some p)
@@ -99,6 +100,7 @@ module _ (p version : ℕ) (cells : List ℕ) (beside : Option (ℕ × ℕ)) whe
         others = λ q start flight ne h. others_stay None (Some p) q (λ e. no_one e) start flight h;
       }
     where
+      -- the producer's role was free and is the party's now
       who_is : (n : ℕ) → (who (Some p) n ≡ who None n) ⊎ ((who None n ≡ None) ⊎ (who None n ≡ Some p))
       who_is zero = inr (inl refl)
       who_is (suc n) = inl refl
@@ -163,21 +165,23 @@ module _ (p version : ℕ) (cells : List ℕ) (beside : Option (ℕ × ℕ)) whe
 -- a step of a call that the page has not comes to what it may
 goes_other : (role : Option ℕ) (words : List ℕ) (beside : Option (ℕ × ℕ)) (p : ℕ) (start : Start ℕ) (flight : Flight ℕ)
     → Other role p start flight → Tells role words → StepOf role p start flight words beside
-goes_other role words beside p (Atomic AcquireProducer) flight h t =
-    subst (λ ws. StepOf role p (Atomic AcquireProducer) flight ws beside) (sym t.is)
-    (subst (λ f. StepOf role p (Atomic AcquireProducer) f (t.version ∷ free role ∷ t.cells) beside) (sym h) (acquire p t.version t.cells beside role))
-goes_other role words beside p (Atomic ReleaseProducer) flight h t =
-    subst (λ ws. StepOf role p (Atomic ReleaseProducer) flight ws beside) (sym t.is)
-    (subst (λ f. StepOf role p (Atomic ReleaseProducer) f (t.version ∷ free role ∷ t.cells) beside) (sym h.0) (release p t.version t.cells beside role h.1))
-goes_other role words beside p (Atomic HasProducer) flight h t =
-    subst (λ ws. StepOf role p (Atomic HasProducer) flight ws beside) (sym t.is)
-    (subst (λ f. StepOf role p (Atomic HasProducer) f (t.version ∷ free role ∷ t.cells) beside) (sym h) (look p t.version t.cells beside role))
-goes_other role words beside p (Atomic Version) flight h t =
-    subst (λ ws. StepOf role p (Atomic Version) flight ws beside) (sym t.is)
-    (subst (λ f. StepOf role p (Atomic Version) f (t.version ∷ free role ∷ t.cells) beside) (sym h) (count p t.version t.cells beside role))
-goes_other role words beside p (Atomic (Store value)) flight h t = absurd h
-goes_other role words beside p (Atomic Load) flight h t = absurd h
-goes_other role words beside p other flight h t = absurd h
+goes_other role words beside p (Atomic AcquireProducer) flight h tells =
+    subst (λ ws. StepOf role p (Atomic AcquireProducer) flight ws beside) (sym tells.is)
+    (subst (λ f. StepOf role p (Atomic AcquireProducer) f (tells.version ∷ free role ∷ tells.cells) beside) (sym h)
+    (acquire p tells.version tells.cells beside role))
+goes_other role words beside p (Atomic ReleaseProducer) flight h tells =
+    subst (λ ws. StepOf role p (Atomic ReleaseProducer) flight ws beside) (sym tells.is)
+    (subst (λ f. StepOf role p (Atomic ReleaseProducer) f (tells.version ∷ free role ∷ tells.cells) beside)
+    (sym h.0) (release p tells.version tells.cells beside role h.1))
+goes_other role words beside p (Atomic HasProducer) flight h tells =
+    subst (λ ws. StepOf role p (Atomic HasProducer) flight ws beside) (sym tells.is)
+    (subst (λ f. StepOf role p (Atomic HasProducer) f (tells.version ∷ free role ∷ tells.cells) beside) (sym h) (look p tells.version tells.cells beside role))
+goes_other role words beside p (Atomic Version) flight h tells =
+    subst (λ ws. StepOf role p (Atomic Version) flight ws beside) (sym tells.is)
+    (subst (λ f. StepOf role p (Atomic Version) f (tells.version ∷ free role ∷ tells.cells) beside) (sym h) (count p tells.version tells.cells beside role))
+goes_other role words beside p (Atomic (Store value)) flight h tells = absurd h
+goes_other role words beside p (Atomic Load) flight h tells = absurd h
+goes_other role words beside p other flight h tells = absurd h
 
 -- a call that the page has not is no store or load
 not_own : (role : Option ℕ) (p : ℕ) (start : Start ℕ) (flight : Flight ℕ) → Other role p start flight → is_store_or_load start ≡ false
@@ -251,12 +255,12 @@ module _ (role : Option ℕ) (words : List ℕ) (t : Tells role words) where
 
 -- a step of a call of the page leaves the word of the role
 leaves : (k : Option ℕ) (words : List ℕ) (stage : page.Stage) → Tells k words → Leaves blank (Tells k) words (page.does stage).0
-leaves k words (page.StoreLoadsVersion value) t = at_version k words t
-leaves k words (page.StoreStoresCell value version) t = at_cell k words t _
-leaves k words (page.StoreAddsVersion value) t = at_version k words t
-leaves k words page.LoadLoadsVersion t = at_version k words t
-leaves k words (page.LoadLoadsCell version) t = at_cell k words t _
-leaves k words (page.LoadChecksVersion version value) t = at_version k words t
+leaves k words (page.StoreLoadsVersion value) tells = at_version k words tells
+leaves k words (page.StoreStoresCell value version) tells = at_cell k words tells _
+leaves k words (page.StoreAddsVersion value) tells = at_version k words tells
+leaves k words page.LoadLoadsVersion tells = at_version k words tells
+leaves k words (page.LoadLoadsCell version) tells = at_cell k words tells _
+leaves k words (page.LoadChecksVersion version value) tells = at_version k words tells
 
 -- what is to be shown of the single value where its role changes hands
 handed : Hands by_role tie (Option ℕ)

@@ -53,20 +53,20 @@ module _ {T : Type 0} (how : page.Written T) (c : ℕ) (few : c < 2 ^ 32) where
   keeps k p start flight named = refl
 
   in_cell : (k : Roles) (words : List ℕ) → Tells k words → (first at : ℕ) → Leaves blank (Tells k) words (4 + first + at)
-  in_cell k words t first at =
+  in_cell k words tells first at =
       let far : 4 + (first + at) ≡ 4 + first + at = omega arith in
-      subst (Leaves blank (Tells k) words) far (at_cell k words t (first + at))
+      subst (Leaves blank (Tells k) words) far (at_cell k words tells (first + at))
 
   -- a step of a call of the page leaves the words of the roles
   leaves : (k : Roles) (words : List ℕ) (stage : page.Stage T) → Tells k words → Leaves blank (Tells k) words (page.does how c stage).0
-  leaves k words (page.PushLoadsWrite value) t = at_write k words t
-  leaves k words (page.PushLoadsRead value write) t = at_read k words t
-  leaves k words (page.PushStoresCell value write stored) t = in_cell k words t (how.size * (write % c)) stored
-  leaves k words (page.PushStoresWrite value write) t = at_write k words t
-  leaves k words page.PopLoadsRead t = at_read k words t
-  leaves k words (page.PopLoadsWrite read) t = at_write k words t
-  leaves k words (page.PopLoadsCell read loaded) t = in_cell k words t (how.size * (read % c)) (length loaded)
-  leaves k words (page.PopStoresRead read loaded) t = at_read k words t
+  leaves k words (page.PushLoadsWrite value) tells = at_write k words tells
+  leaves k words (page.PushLoadsRead value write) tells = at_read k words tells
+  leaves k words (page.PushStoresCell value write stored) tells = in_cell k words tells (how.size * (write % c)) stored
+  leaves k words (page.PushStoresWrite value write) tells = at_write k words tells
+  leaves k words page.PopLoadsRead tells = at_read k words tells
+  leaves k words (page.PopLoadsWrite read) tells = at_write k words tells
+  leaves k words (page.PopLoadsCell read loaded) tells = in_cell k words tells (how.size * (read % c)) (length loaded)
+  leaves k words (page.PopStoresRead read loaded) tells = at_read k words tells
 
   -- what is to be shown of the queue of values where its roles change hands
   handed : Hands (by_role how) (tie how c few) Roles

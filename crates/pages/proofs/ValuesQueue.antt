@@ -125,14 +125,14 @@ module _ {T : Type 0} (how : page.Written T) where
       go false false f e = absurd (cc)
 
   pub fits_so : (c : ℕ) (stage : page.Stage T) → fits c stage ≡ true → Fits how c stage
-  fits_so c (page.PushLoadsWrite value) e = tt
-  fits_so c (page.PushLoadsRead value write) e = tt
-  fits_so c (page.PushStoresCell value write stored) e = both_fit c stored how.size e
-  fits_so c (page.PushStoresWrite value write) e = tt
-  fits_so c page.PopLoadsRead e = tt
-  fits_so c (page.PopLoadsWrite read) e = tt
-  fits_so c (page.PopLoadsCell read loaded) e = both_fit c (length loaded) how.size e
-  fits_so c (page.PopStoresRead read loaded) e = grind (arith, nat_tests)
+  fits_so c (page.PushLoadsWrite value) fitting = tt
+  fits_so c (page.PushLoadsRead value write) fitting = tt
+  fits_so c (page.PushStoresCell value write stored) fitting = both_fit c stored how.size fitting
+  fits_so c (page.PushStoresWrite value write) fitting = tt
+  fits_so c page.PopLoadsRead fitting = tt
+  fits_so c (page.PopLoadsWrite read) fitting = tt
+  fits_so c (page.PopLoadsCell read loaded) fitting = both_fit c (length loaded) how.size fitting
+  fits_so c (page.PopStoresRead read loaded) fitting = grind (arith, nat_tests)
 
   abbrev comes : ℕ → page.Stage T → ℕ → machine.After (page.Stage T) (page.Answer T)
   comes c stage old = (page.does how c stage).2 old
@@ -213,10 +213,9 @@ module _ {T : Type 0} (how : page.Written T) where
       go false = ap (λ d. GoOn (flight how c (cond d (page.PopLoadsCell read []) (page.PopStoresRead read [])))) (sym first_word)
   after_same c (page.PopLoadsCell read loaded) old fit =
       let few = how.fits.1 in
-      let lt = fit.1 in
       let next = loaded ++ old ∷ [] in
       let long : length loaded + 1 ≡ length next = sym (length-append loaded (old ∷ [])) in
-      ap (λ room. loads_on c read (nat_lt (length loaded + 1) how.size) room (length loaded + 1)) (room_more loaded old (omega arith))
+      ap (λ room. loads_on c read (nat_lt (length loaded + 1) how.size) room (length loaded + 1)) (room_more loaded old (omega (arith, fit.1)))
       ∙ (ap (λ n. loads_on c read (nat_lt n how.size) (room_of next) n) long ∙ loads_same c read next (nat_lt (length next) how.size))
   after_same c (page.PopStoresRead read loaded) old fit = ap (λ v. Done (Popped v)) (read_is loaded fit)
 
@@ -255,16 +254,15 @@ module _ {T : Type 0} (how : page.Written T) where
       done_or c ((c == 0) || ((write + 2 ^ 64 - old) % 2 ^ 64 == c)) (page.Push value) (page.Pushed false) (page.stores how c value write 0)
       (λ e. stores_right c value write 0 (neither (c == 0) ((write + 2 ^ 64 - old) % 2 ^ 64 == c) e) (omega arith))
   right c (page.PushStoresCell value write word) old fit =
-      let lt = fit.1 in stores_right c value write (word + 1) fit.0 (omega arith)
+      stores_right c value write (word + 1) fit.0 (omega (arith, fit.1))
   right c (page.PushStoresWrite value write) old fit = tt
   right c page.PopLoadsRead old fit = (refl, refl)
   right c (page.PopLoadsWrite read) old fit =
       done_or c ((c == 0) || (old == read)) page.Pop (page.Popped None) (page.loads how c read [])
       (λ e. loads_right c read [] (neither (c == 0) (old == read) e) (omega arith))
   right c (page.PopLoadsCell read loaded) old fit =
-      let lt = fit.1 in
       let long = length-append loaded (old ∷ []) in
-      loads_right c read (loaded ++ old ∷ []) fit.0 (omega arith)
+      loads_right c read (loaded ++ old ∷ []) fit.0 (omega (arith, fit.1))
   right c (page.PopStoresRead read loaded) old fit = tt
 
   -- ---- what a step does beside
@@ -341,13 +339,13 @@ module _ {T : Type 0} (how : page.Written T) where
 
       admits : (p : ℕ) (call : page.Call T) → page.may p call ≡ true
           → first_row (begin_rows kinds.Queue c kept p (Queues (queue_start call))) ≡ None
-      admits p (page.Push value) m = holds_row 0 p m
-      admits p page.Pop m = holds_row 1 p m
+      admits p (page.Push value) allowed = holds_row 0 p allowed
+      admits p page.Pop allowed = holds_row 1 p allowed
 
       refuses : (p : ℕ) (call : page.Call T) → page.may p call ≡ false
           → is_some (first_row (begin_rows kinds.Queue c kept p (Queues (queue_start call)))) ≡ true
-      refuses p (page.Push value) m = lacks_row 0 p m
-      refuses p page.Pop m = lacks_row 1 p m
+      refuses p (page.Push value) refused = lacks_row 0 p refused
+      refuses p page.Pop refused = lacks_row 1 p refused
 
       begins : (call : page.Call T)
           → model.first_of kinds.Queue c (Queues (queue_start call)) kept
@@ -439,8 +437,8 @@ module _ {T : Type 0} (how : page.Written T) where
       }
 
   may_below : (p : ℕ) (call : page.Call T) → page.may p call ≡ true → p < 2
-  may_below p (page.Push value) m = grind (arith, nat_tests)
-  may_below p page.Pop m = grind (arith, nat_tests)
+  may_below p (page.Push value) allowed = grind (arith, nat_tests)
+  may_below p page.Pop allowed = grind (arith, nat_tests)
 
   all_within : (c : ℕ) (few : c < 2 ^ 32) (turns : List (machine.Turn (page.Call T)))
       → AllByRecursion (simulates.IsWithin (tie c few) 2 roles_told) turns
@@ -474,14 +472,14 @@ module _ {T : Type 0} (how : page.Written T) where
   pub linearizable : (c : ℕ) (turns : List (machine.Turn (page.Call T))) → c < 2 ^ 32 → length turns < 2 ^ 63
       → machine.IsLinearizable (page.bounded_list c) (world_of c turns).history
   linearizable c turns few small =
-      let s = simulated c turns few small in
-      let t = trace (tie c few) 2 roles_told (world_of c turns).words s.latest s.changes s.turns s.events in
-      let r : IsReached t = subst IsReached s.is (reached c (map as_turn turns) few) in
-      let keeps = (queue_keeps {T = T} queue_kinds.Queue).kept t refl r in
-      subst (machine.IsLinearizable (page.bounded_list c)) s.told
+      let meeting = simulated c turns few small in
+      let run_now = trace (tie c few) 2 roles_told (world_of c turns).words meeting.latest meeting.changes meeting.turns meeting.events in
+      let is_reached : IsReached run_now = subst IsReached meeting.is (reached c (map as_turn turns) few) in
+      let keeps = (queue_keeps {T = T} queue_kinds.Queue).kept run_now refl is_reached in
+      subst (machine.IsLinearizable (page.bounded_list c)) meeting.told
       (carried (reading how) (as_list queue_kinds.Queue c) (page.bounded_list c) (is_list c) roles_told 4
-      s.events s.own (among s.events) (within s.events)
-      (run_linearizable t keeps))
+      meeting.events meeting.own (among meeting.events) (within meeting.events)
+      (run_linearizable run_now keeps))
 
 module _ {T : Type 0} where
   pub code : QueueDoesAsTheCode T
@@ -489,8 +487,8 @@ module _ {T : Type 0} where
 
   pub runs : QueueRunsAsTheMachine T
   runs how c turns few small =
-      let s = simulated how c turns few small in
-      record { events = s.events; is = ap (λ (t : Trace T). t.events) s.is; history = s.told; words = ap (λ (t : Trace T). t.world.words) s.is }
+      let met = simulated how c turns few small in
+      record { events = met.events; is = ap (λ (t : Trace T). t.events) met.is; history = met.told; words = ap (λ (t : Trace T). t.world.words) met.is }
 
   pub by_pushes : QueuePushesByTable T
   by_pushes coding c value stage old = (refl, refl)

@@ -109,7 +109,7 @@ one_is_none n e f = omega arith
 from_nothing : ActsAt (at 3) (one_call ResetNext (WasReset (Some 3))) 0 → ⊥
 from_nothing h = one_is_none 1 refl (of_one ResetNext (WasReset (Some 3)) (record { found = 1; left = 0 }) 0 refl h).0
 
--- so by a reset of all
+-- a reset of all hands out bits that nobody set
 all_from_nothing : ActsAt (at 3) (one_call ResetAll (WereReset (2 ∷ 3 ∷ []))) 0 → ⊥
 all_from_nothing h = one_is_none 1 refl (of_one ResetAll (WereReset (2 ∷ 3 ∷ [])) (record { found = 1; left = 0 }) 0 refl h).0
 

@@ -4,6 +4,7 @@ use Rattle.std.specs.Prelude.{slice_index}
 use Rattle.pages.specs.Machine.{Begin, Next, Invoked, Responded, Turn, opening, turned}
 use Rattle.pages.specs.Queue.{Call, Pop, Popped, Push, Pushed, Written, queue}
 
+-- how a pair is written as two words
 abbrev pub pairs : Written (ℕ × ℕ)
 pairs =
     record {

@@ -52,16 +52,16 @@ one_is_other m n lt e = let same : m ≡ n = cc in omega arith
 
 -- a second holder
 twice : Each (HoldsAlone 2) (Responded 0 (Acquired 0) ∷ Responded 1 (Acquired 0) ∷ []) → ⊥
-twice h = some_is_none 0 (h (Responded 0 (Acquired 0) ∷ []) [] (Responded 1 (Acquired 0)) refl).1
+twice each = some_is_none 0 (each (Responded 0 (Acquired 0) ∷ []) [] (Responded 1 (Acquired 0)) refl).1
 
 -- an index once the set is locked
 late : Each (HoldsAlone 2) (Responded 0 (Released true) ∷ Responded 1 (Acquired 0) ∷ []) → ⊥
-late h = true≢false (h (Responded 0 (Released true) ∷ []) [] (Responded 1 (Acquired 0)) refl).2
+late each = true≢false (each (Responded 0 (Released true) ∷ []) [] (Responded 1 (Acquired 0)) refl).2
 
 -- a lock while an index has a holder
 early : Each (HoldsAlone 2) (Responded 0 (Acquired 0) ∷ Responded 1 (Released true) ∷ []) → ⊥
-early h = some_is_none 0 (h (Responded 0 (Acquired 0) ∷ []) [] (Responded 1 (Released true)) refl 0)
+early each = some_is_none 0 (each (Responded 0 (Acquired 0) ∷ []) [] (Responded 1 (Released true)) refl 0)
 
 -- who gives back what another one holds breaks the rule
 not_own : Each ReleasesOwn (Responded 0 (Acquired 0) ∷ Invoked 1 (Release 0 false) ∷ []) → ⊥
-not_own h = one_is_other 0 1 (omega arith) (h (Responded 0 (Acquired 0) ∷ []) [] (Invoked 1 (Release 0 false)) refl)
+not_own each = one_is_other 0 1 (omega arith) (each (Responded 0 (Acquired 0) ∷ []) [] (Invoked 1 (Release 0 false)) refl)

@@ -46,9 +46,9 @@ next_element (bits.SetExchangesElement place element) =
 next_element stage = bits.does 70 stage
 
 not_next_element : BitsAct next_element set_3 → ⊥
-not_next_element h =
+not_next_element bits_act =
     unequal_back 0 1 (omega arith) (in_sequence (bits.at 3) (over next_element set_3).history (bits.now (over next_element set_3).words 3)
-    (((1, bits.WasSet true), refl), (tt, tt)) h).1
+    (((1, bits.WasSet true), refl), (tt, tt)) bits_act).1
 
 -- a set answers true, and has not written
 abbrev unwritten : Bits
@@ -56,9 +56,9 @@ unwritten (bits.SetLoadsElement place) = (1 + place / 64, Load, λ old. Done (bi
 unwritten stage = bits.does 70 stage
 
 not_unwritten : BitsAct unwritten set_3 → ⊥
-not_unwritten h =
+not_unwritten bits_act =
     unequal_back 0 1 (omega arith) (in_sequence (bits.at 3) (over unwritten set_3).history (bits.now (over unwritten set_3).words 3)
-    (((1, bits.WasSet true), refl), (tt, tt)) h).1
+    (((1, bits.WasSet true), refl), (tt, tt)) bits_act).1
 
 -- a reset of the next place hands it out untested
 abbrev untested : Bits
@@ -69,9 +69,9 @@ abbrev reset_next : List (Turn bits.Call)
 reset_next = Begin 0 bits.ResetNext ∷ Next 0 ∷ Next 0 ∷ Next 0 ∷ []
 
 not_untested : BitsAct untested reset_next → ⊥
-not_untested h =
+not_untested bits_act =
     unequal_back 0 1 (omega arith) (in_sequence (bits.at 3) (over untested reset_next).history (bits.now (over untested reset_next).words 3)
-    (((1, bits.WasReset (Some 3)), refl), (tt, tt)) h).0
+    (((1, bits.WasReset (Some 3)), refl), (tt, tt)) bits_act).0
 
 -- a reset of all loads the elements, and swaps none
 abbrev loads_all : Bits
@@ -86,9 +86,9 @@ abbrev set_reset : List (Turn bits.Call)
 set_reset = set_3 ++ Begin 0 bits.ResetAll ∷ Next 0 ∷ Next 0 ∷ []
 
 not_loads_all : BitsAct loads_all set_reset → ⊥
-not_loads_all h =
+not_loads_all bits_act =
     unequal 0 1 (omega arith) (in_sequence (bits.at 3) (over loads_all set_reset).history (bits.now (over loads_all set_reset).words 3)
-    (((1, bits.WasSet true), refl), (((below 0 2 refl, below 1 2 refl), tt), (((3, bits.WereReset (3 ∷ [])), refl), (tt, tt)))) h).1.1
+    (((1, bits.WasSet true), refl), (((below 0 2 refl, below 1 2 refl), tt), (((3, bits.WereReset (3 ∷ [])), refl), (tt, tt)))) bits_act).1.1
 
 -- a reset of all hands out the places of the last element alone
 abbrev last_alone : Bits
@@ -100,9 +100,9 @@ last_alone (bits.AllSwapsElement word places) = (
 last_alone stage = bits.does 70 stage
 
 not_last_alone : BitsAct last_alone set_reset → ⊥
-not_last_alone h =
+not_last_alone bits_act =
     unequal 0 1 (omega arith) (in_sequence (bits.at 3) (over last_alone set_reset).history (bits.now (over last_alone set_reset).words 3)
-    (((1, bits.WasSet true), refl), (((below 0 2 refl, below 1 2 refl), tt), (((3, bits.WereReset []), refl), (tt, tt)))) h).1.0
+    (((1, bits.WasSet true), refl), (((below 0 2 refl, below 1 2 refl), tt), (((3, bits.WereReset []), refl), (tt, tt)))) bits_act).1.0
 
 -- a search does not go on at 0 behind the last place
 abbrev no_wrap : Bits
@@ -164,9 +164,9 @@ next_place (counts.SetAdds place) = (place + 1, Add 1, λ old. Done (counts.Coun
 next_place stage = counts.does 2 stage
 
 not_next_place : CountsAct next_place count_0 → ⊥
-not_next_place h =
+not_next_place counts_act =
     unequal_back 0 1 (omega arith) (in_sequence (counts.at 0) (counted next_place count_0).history (slice_index (counted next_place count_0).words 0)
-    (((1, counts.Counted 0), refl), (tt, tt)) h).1
+    (((1, counts.Counted 0), refl), (tt, tt)) counts_act).1
 
 -- a set answers the count after it
 abbrev count_after : Counts
@@ -174,9 +174,9 @@ count_after (counts.SetAdds place) = (place, Add 1, λ old. Done (counts.Counted
 count_after stage = counts.does 2 stage
 
 not_count_after : CountsAct count_after count_0 → ⊥
-not_count_after h =
+not_count_after counts_act =
     unequal_back 0 1 (omega arith) (in_sequence (counts.at 0) (counted count_after count_0).history (slice_index (counted count_after count_0).words 0)
-    (((1, counts.Counted 1), refl), (tt, tt)) h).0
+    (((1, counts.Counted 1), refl), (tt, tt)) counts_act).0
 
 -- a reset of all leaves the counts
 abbrev loads_counts : Counts
@@ -188,9 +188,9 @@ abbrev count_reset : List (Turn counts.Call)
 count_reset = count_0 ++ Begin 0 counts.ResetAll ∷ Next 0 ∷ Next 0 ∷ []
 
 not_loads_counts : CountsAct loads_counts count_reset → ⊥
-not_loads_counts h =
+not_loads_counts counts_act =
     unequal 0 1 (omega arith) (in_sequence (counts.at 0) (counted loads_counts count_reset).history (slice_index (counted loads_counts count_reset).words 0)
-    (((1, counts.Counted 0), refl), (((below 0 2 refl, below 1 2 refl), tt), (((3, counts.WereReset ((0, 1) ∷ [])), refl), (tt, tt)))) h).1.1
+    (((1, counts.Counted 0), refl), (((below 0 2 refl, below 1 2 refl), tt), (((3, counts.WereReset ((0, 1) ∷ [])), refl), (tt, tt)))) counts_act).1.1
 
 -- ---- the unique index set
 
@@ -213,9 +213,9 @@ locks_early (unique.ReleaseExchangesHead index may_lock head) =
 locks_early stage = unique.does 2 stage
 
 not_locks_early : HoldAlone locks_early (acquiring 0 ++ acquiring 1 ++ Begin 0 (unique.Release 0 true) ∷ Next 0 ∷ Next 0 ∷ Next 0 ∷ Next 0 ∷ []) → ⊥
-not_locks_early h =
+not_locks_early hold_alone =
     some_is_none 1
-    (h (Invoked 0 unique.Acquire ∷ Responded 0 (unique.Acquired 0) ∷ Invoked 1 unique.Acquire ∷ Responded 1 (unique.Acquired 1)
+    (hold_alone (Invoked 0 unique.Acquire ∷ Responded 0 (unique.Acquired 0) ∷ Invoked 1 unique.Acquire ∷ Responded 1 (unique.Acquired 1)
     ∷ Invoked 0 (unique.Release 0 true) ∷ []) [] (Responded 0 (unique.Released true)) refl 1)
 
 -- an acquire does not look whether the set is locked
@@ -225,9 +225,9 @@ lock_unseen unique.AcquireLoadsHead =
 lock_unseen stage = unique.does 2 stage
 
 not_lock_unseen : HoldAlone lock_unseen (acquiring 0 ++ Begin 0 (unique.Release 0 true) ∷ Next 0 ∷ Next 0 ∷ Next 0 ∷ Next 0 ∷ acquiring 1) → ⊥
-not_lock_unseen h =
+not_lock_unseen hold_alone =
     true≢false
-    (h (Invoked 0 unique.Acquire ∷ Responded 0 (unique.Acquired 0) ∷ Invoked 0 (unique.Release 0 true) ∷ Responded 0 (unique.Released true)
+    (hold_alone (Invoked 0 unique.Acquire ∷ Responded 0 (unique.Acquired 0) ∷ Invoked 0 (unique.Release 0 true) ∷ Responded 0 (unique.Released true)
     ∷ Invoked 1 unique.Acquire ∷ []) [] (Responded 1 (unique.Acquired 0)) refl).2
 
 -- a scan takes an index whose flag is set
@@ -244,9 +244,9 @@ scanning =
 
 -- here an index is acquired that has a holder
 not_flag_unseen : HoldAlone flag_unseen scanning → ⊥
-not_flag_unseen h =
+not_flag_unseen hold_alone =
     some_is_none 0
-    (h (Invoked 0 unique.Acquire ∷ Responded 0 (unique.Acquired 0) ∷ Invoked 1 unique.Acquire ∷ Responded 1 (unique.Acquired 1)
+    (hold_alone (Invoked 0 unique.Acquire ∷ Responded 0 (unique.Acquired 0) ∷ Invoked 1 unique.Acquire ∷ Responded 1 (unique.Acquired 1)
     ∷ Invoked 1 (unique.Release 1 false) ∷ Invoked 0 (unique.Release 0 false) ∷ Responded 0 (unique.Released false)
     ∷ Responded 1 (unique.Released false) ∷ Invoked 0 unique.Acquire ∷ Responded 0 (unique.Acquired 0) ∷ Invoked 1 unique.Acquire ∷ [])
     [] (Responded 1 (unique.Acquired 0)) refl).1

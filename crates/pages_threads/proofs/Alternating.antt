@@ -26,8 +26,7 @@ module _ {Call Answer : Type 0} (n : ℕ) where
   one_more b (x ∷ es) e h fits = (h.0, one_more (open_after b x) es e h.1 fits)
 
 module _ {Call Stage Answer : Type 0} (of : Structure Call Stage Answer) (n : ℕ) where
-  -- the party begins a call only where it has none pending, and the history says whether it has
-  -- one pending now
+  -- the party begins a call only where it has none pending, and the history says whether it has one pending now
   record Ties (w : World Call Stage Answer) : Type 0 where
     pub alternates : Alternates {Call = Call} {Answer = Answer} n false w.history
     pub tells : fold (open_after {Call = Call} {Answer = Answer} n) false w.history ≡ is_some (w.pending n)
@@ -41,7 +40,7 @@ module _ {Call Stage Answer : Type 0} (of : Structure Call Stage Answer) (n : �
 
   goes_on : (p : ℕ) (b : Bool) (o : Option Stage) (stage : Stage) → b ≡ is_some o → ((n == p) ≡ true → b ≡ true)
       → b ≡ is_some (if n == p then Some stage else o)
-  goes_on p b o stage b_is b_is_true = grind (arith, nat_tests)
+  goes_on p b o stage b_is own_then = grind (arith, nat_tests)
 
   is_it : (p : ℕ) → (p == n) ≡ true → p ≡ n
   is_it p p_is_n = grind (arith, nat_tests)

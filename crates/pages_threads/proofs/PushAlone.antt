@@ -54,17 +54,17 @@ IsQuiet e = Unit {0}
 -- ---- what the page sees of it
 
 plain_passes : (b : Bool) (e : Event ℕ) (rest : List (machine.Event _ _)) → is_plain e ≡ true → Alternates 0 b (told by_role e ++ rest) → Alternates 0 b rest
-plain_passes b e rest is_plain_true alternates_holds = grind arith
+plain_passes b e rest plain alternating = grind arith
 
 plain_silent : (e : Event ℕ) → is_plain e ≡ true → IsSilent 0 (told by_role e)
-plain_silent e is_plain_true = grind arith
+plain_silent e plain = grind arith
 
 told_begun : (p : ℕ) (start : Start ℕ) → is_push start ≡ true → told by_role (Begun p start) ≡ machine.Invoked 0 (call_seen start) ∷ []
-told_begun p start is_push_true = grind arith
+told_begun p start pushed = grind arith
 
 told_ended : (p : ℕ) (start : Start ℕ) (answer : Answer ℕ) → is_push start ≡ true
     → told by_role (Finished p start answer) ≡ machine.Responded 0 (answer_seen answer) ∷ []
-told_ended p start answer is_push_true = grind arith
+told_ended p start answer pushed = grind arith
 
 -- ---- of whom a push is under way
 
@@ -81,17 +81,17 @@ span_more : (q : ℕ) (before : List (Event ℕ)) (e : Event ℕ) → span_of q 
 span_more q before e = fold-append (span_after q) Never before (e ∷ [])
 
 never_ended : (span : Span ℕ) (answer : Answer ℕ) → pushes (ended span answer) ≡ true → ⊥
-never_ended span answer pushes_true = grind arith
+never_ended span answer pushing = grind arith
 
 writes_more : (b : Bool) (span : Span ℕ) (e : Event ℕ) → pushes (if b then longer span e else span) ≡ true → pushes span ≡ true
-writes_more b span e pushes_true = grind arith
+writes_more b span e pushing = grind arith
 
 begins_none : (b : Bool) (span : Span ℕ) (start : Start ℕ) → not (is_push start) ≡ true → pushes (if b then Open start [] else span) ≡ true
     → pushes span ≡ true
-begins_none b span start not_push pushes_true = grind arith
+begins_none b span start not_push pushing = grind arith
 
 ends_none : (b : Bool) (span : Span ℕ) (answer : Answer ℕ) → pushes (if b then ended span answer else span) ≡ true → pushes span ≡ true
-ends_none b span answer pushes_true = grind (arith, never_ended)
+ends_none b span answer pushing = grind (arith, never_ended)
 
 after_plain : (q : ℕ) (span : Span ℕ) (e : Event ℕ) → is_plain e ≡ true → pushes (span_after q span e) ≡ true → pushes span ≡ true
 after_plain q span (Begun p start) other pushing = begins_none (p == q) span start other pushing
@@ -99,9 +99,9 @@ after_plain q span (Finished p start answer) other pushing = ends_none (p == q) 
 after_plain q span e other pushing = writes_more (is_party q (whose e)) span e pushing
 
 open_pushes : (start : Start ℕ) (P : List (Event ℕ) → Type 0) (span : Span ℕ) → IsOpenFor start P span → is_push start ≡ true → pushes span ≡ true
-open_pushes start P Never h push = absurd h
-open_pushes start P (Open call wrote) h push = ap is_push h.0 ∙ push
-open_pushes start P (Ended call answer wrote) h push = absurd h
+open_pushes start P Never open_for push = absurd open_for
+open_pushes start P (Open call wrote) open_for push = ap is_push open_for.0 ∙ push
+open_pushes start P (Ended call answer wrote) open_for push = absurd open_for
 
 is_it : (p q : ℕ) → (p == q) ≡ true → p ≡ q
 is_it p q p_is_q = grind (arith, nat_tests)
@@ -152,8 +152,8 @@ all_after P [] ys h = h
 all_after P (x ∷ xs) ys h = all_after P xs ys h.1
 
 none_is : (o : Option ℕ) → is_some o ≡ false → o ≡ None
-none_is None e = refl
-none_is (Some p) e = absurd (cc)
+none_is None nothing = refl
+none_is (Some p) nothing = absurd (cc)
 
 module _ (promise : Promise ℕ) (capacity : ℕ) (es : List (Event ℕ)) (spans : Each (StandsRight promise capacity) es) where
   -- so far at most this party pushes, and the page sees its calls alternate from here on
@@ -168,48 +168,48 @@ module _ (promise : Promise ℕ) (capacity : ℕ) (es : List (Event ℕ)) (spans
 
   -- an event that is no begin and no end of a push leaves who pushes
   passes : (e : Event ℕ) (before after : List (Event ℕ)) → is_plain e ≡ true → Here before (e ∷ after) → Here (before ++ e ∷ []) after
-  passes e before after plain h =
+  passes e before after plain here =
       record {
-        who = h.who;
-        only = only_plain h.who before e plain h.only;
-        rest = plain_passes (is_some h.who) e (all_told by_role after) plain h.rest;
+        who = here.who;
+        only = only_plain here.who before e plain here.only;
+        rest = plain_passes (is_some here.who) e (all_told by_role after) plain here.rest;
       }
 
   -- as a call begins it is its party that pushes, if it is a push
   begins : (p : ℕ) (start : Start ℕ) (before after : List (Event ℕ)) → Here before (Begun p start ∷ after) → (b : Bool) → is_push start ≡ b
       → Here (before ++ Begun p start ∷ []) after
-  begins p start before after h false other = passes (Begun p start) before after (ap not other) h
-  begins p start before after h true push =
-      let sees = subst (λ ts. Alternates 0 (is_some h.who) (ts ++ all_told by_role after)) (told_begun p start push) h.rest in
+  begins p start before after here false other = passes (Begun p start) before after (ap not other) here
+  begins p start before after here true push =
+      let sees = subst (λ ts. Alternates 0 (is_some here.who) (ts ++ all_told by_role after)) (told_begun p start push) here.rest in
       record {
         who = Some p;
-        only = only_begun before p start (subst (λ o. Only o before) (none_is h.who (sees.0 refl)) h.only);
+        only = only_begun before p start (subst (λ o. Only o before) (none_is here.who (sees.0 refl)) here.only);
         rest = sees.1;
       }
 
   -- as a call ends nobody pushes, if it was a push
   finishes : (p : ℕ) (start : Start ℕ) (answer : Answer ℕ) (before after : List (Event ℕ)) → es ≡ before ++ Finished p start answer ∷ after
       → Here before (Finished p start answer ∷ after) → (b : Bool) → is_push start ≡ b → Here (before ++ Finished p start answer ∷ []) after
-  finishes p start answer before after is h false other = passes (Finished p start answer) before after (ap not other) h
-  finishes p start answer before after is h true push =
-      let sees = subst (λ ts. Alternates 0 (is_some h.who) (ts ++ all_told by_role after)) (told_ended p start answer push) h.rest in
-      let own = h.only p (ends_own before after p start answer is push) in
+  finishes p start answer before after is here false other = passes (Finished p start answer) before after (ap not other) here
+  finishes p start answer before after is here true push =
+      let sees = subst (λ ts. Alternates 0 (is_some here.who) (ts ++ all_told by_role after)) (told_ended p start answer push) here.rest in
+      let own = here.only p (ends_own before after p start answer is push) in
       record {
         who = None;
-        only = only_ended before p start answer (subst (λ o. Only o before) own h.only);
+        only = only_ended before p start answer (subst (λ o. Only o before) own here.only);
         rest = sees.1;
       }
 
   step : (e : Event ℕ) (before after : List (Event ℕ)) → es ≡ before ++ e ∷ after → Here before (e ∷ after) → Here (before ++ e ∷ []) after
-  step (Begun p start) before after is h = begins p start before after h (is_push start) refl
-  step (Finished p start answer) before after is h = finishes p start answer before after is h (is_push start) refl
-  step e before after is h = passes e before after refl h
+  step (Begun p start) before after is here = begins p start before after here (is_push start) refl
+  step (Finished p start answer) before after is here = finishes p start answer before after is here (is_push start) refl
+  step e before after is here = passes e before after refl here
 
   -- over any events of the run one party at most pushes
   walk : (xs before after : List (Event ℕ)) → es ≡ before ++ (xs ++ after) → Here before (xs ++ after) → Here (before ++ xs) after
-  walk [] before after is h = subst (λ bs. Here bs after) (sym (append-nil before)) h
-  walk (e ∷ xs) before after is h =
-      let next = step e before (xs ++ after) is h in
+  walk [] before after is here = subst (λ bs. Here bs after) (sym (append-nil before)) here
+  walk (e ∷ xs) before after is here =
+      let next = step e before (xs ++ after) is here in
       subst (λ bs. Here bs after) (append_assoc before (e ∷ []) xs)
       (walk xs (before ++ e ∷ []) after (is ∙ sym (append_assoc before (e ∷ []) (xs ++ after))) next)
 
@@ -274,16 +274,18 @@ module _ (promise : Promise ℕ) (capacity : ℕ) (es : List (Event ℕ)) (spans
       silent p during (before ++ Begun p start ∷ []) end (is ∙ sym (append_assoc before (Begun p start ∷ []) (during ++ end)))
       (only_begun before p start (subst (λ o. Only o before) none there.only)) there.rest.1 quiet
 
--- of what a pass knows
+-- what a pass knows of the index queue is a run of its page, in which a push is alone
 pub push_alone : (capacity : ℕ) (v : View ℕ) → Knows one_word IndexQueue capacity v → RunsThePage (index_page capacity) v
     → (p value : ℕ) (answer : Answer ℕ) (before during : List (Event ℕ))
     → v.seen ≡ before ++ Begun p (Queues (PushIndex value)) ∷ (during ++ Finished p (Queues (PushIndex value)) answer ∷ [])
     → AllByRecursion IsQuiet (events_by p during) → IsSilent 0 (all_told by_role during)
 push_alone capacity v knows runs p value answer before during is quiet =
-    let t = run_of one_word IndexQueue capacity v.turns in
+    let run_now = run_of one_word IndexQueue capacity v.turns in
     let r = known_run knows in
-    let on = queue_run one_word capacity queue_kinds.IndexQueue t r in
-    let kept = kept_on queue_kinds.IndexQueue t r.of_kind on.reached.coded on.reached.admitted on.fresh in
-    let promise = promise_of {T = ℕ} t.world.kind in
-    of_push promise t.world.capacity v.seen (subst (Each (StandsRight promise t.world.capacity)) (sym knows.is) kept.spans) p value answer before during is
+    let on = queue_run one_word capacity queue_kinds.IndexQueue run_now r in
+    let kept = kept_on queue_kinds.IndexQueue run_now r.of_kind on.reached.coded on.reached.admitted on.fresh in
+    let promise = promise_of {T = ℕ} run_now.world.kind in
+    of_push promise run_now.world.capacity v.seen
+    (subst (Each (StandsRight promise run_now.world.capacity)) (sym knows.is) kept.spans) p value answer before
+    during is
     (subst (Alternates 0 false) (sym runs) (alternates (index_queue capacity) 0 (turns_of (index_page capacity) v))) quiet

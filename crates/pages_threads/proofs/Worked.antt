@@ -61,4 +61,4 @@ abbrev lying : View ℕ
 lying = record knowing { seen = (run_of one_word IndexQueue 2 (call 3 starts.AcquireProducer 1)).events }
 
 runs_not : RunsThePage (index_page 2) lying → ⊥
-runs_not e = absurd (cc)
+runs_not runs_the_page = absurd (cc)

@@ -6,7 +6,7 @@ use Rattle.lock_free_queues.specs.Queues.Merges.{Merges, StandIn}
 in_turn : Merges {A = ℕ} (1 ∷ 3 ∷ []) (2 ∷ []) (1 ∷ 2 ∷ 3 ∷ [])
 in_turn = inl (3 ∷ [], refl, inr ([], refl, inl ([], refl, (refl, refl))))
 
--- of equal ones each stands once
+-- of equal numbers each stands once
 equal_ones : Merges {A = ℕ} (1 ∷ []) (1 ∷ []) (1 ∷ 1 ∷ [])
 equal_ones = inr ([], refl, inl ([], refl, (refl, refl)))
 
@@ -15,27 +15,27 @@ none = (refl, refl)
 
 -- one of the pushed is in neither, at the beginning, in the middle or at the end
 first_dropped : Merges {A = ℕ} (2 ∷ []) (3 ∷ []) (1 ∷ 2 ∷ 3 ∷ []) → ⊥
-first_dropped h = ⊎_elim (λ x. let e = x.1 in cc) (λ x. let e = x.1 in cc) h
+first_dropped merges = ⊎_elim (λ x. cc (x.1)) (λ x. cc (x.1)) merges
 
 one_dropped : Merges {A = ℕ} (1 ∷ []) (3 ∷ []) (1 ∷ 2 ∷ 3 ∷ []) → ⊥
-one_dropped h =
-    ⊎_elim (λ x. let e = x.1 in ⊎_elim (λ y. let f = y.1 in cc) (λ y. let f = y.1 in cc) x.2) (λ x. let e = x.1 in cc) h
+one_dropped merges =
+    ⊎_elim (λ x. let e = x.1 in ⊎_elim (λ y. let f = y.1 in cc) (λ y. let f = y.1 in cc) x.2) (λ x. let e = x.1 in cc) merges
 
 last_dropped : Merges {A = ℕ} (1 ∷ []) [] (1 ∷ 2 ∷ []) → ⊥
-last_dropped h =
-    ⊎_elim (λ x. let e = x.1 in ⊎_elim (λ y. let f = y.1 in cc) (λ y. let f = y.1 in cc) x.2) (λ x. let e = x.1 in cc) h
+last_dropped merges =
+    ⊎_elim (λ x. let e = x.1 in ⊎_elim (λ y. let f = y.1 in cc) (λ y. let f = y.1 in cc) x.2) (λ x. let e = x.1 in cc) merges
 
 -- one is in both that was pushed once
 twice : Merges {A = ℕ} (1 ∷ []) (1 ∷ []) (1 ∷ []) → ⊥
-twice h = ⊎_elim (λ x. let e = x.2.1 in cc) (λ x. let e = x.2.0 in cc) h
+twice merges = ⊎_elim (λ x. cc (x.2.1)) (λ x. cc (x.2.0)) merges
 
 -- one was never pushed
 invented : Merges {A = ℕ} (1 ∷ []) (4 ∷ []) (1 ∷ []) → ⊥
-invented h = ⊎_elim (λ x. let e = x.2.1 in cc) (λ x. let e = x.1 in cc) h
+invented merges = ⊎_elim (λ x. cc (x.2.1)) (λ x. cc (x.1)) merges
 
 -- two stand in the other order
 out_of_order : Merges {A = ℕ} (2 ∷ 1 ∷ []) [] (1 ∷ 2 ∷ []) → ⊥
-out_of_order h = ⊎_elim (λ x. let e = x.1 in cc) (λ x. let e = x.1 in cc) h
+out_of_order merges = ⊎_elim (λ x. cc (x.1)) (λ x. cc (x.1)) merges
 
 -- ---- lists that stand in another, in its order
 
@@ -44,7 +44,7 @@ stand = inl (refl, inr (inl (refl, tt)))
 
 not_in_order : StandIn {A = ℕ} (2 ∷ 1 ∷ []) (1 ∷ 2 ∷ []) → ⊥
 not_in_order h =
-    ⊎_elim (λ x. let e = x.0 in cc) (λ h. ⊎_elim (λ x. x.1) (λ no. no) h) h
+    ⊎_elim (λ x. cc (x.0)) (λ h. ⊎_elim (λ x. x.1) (λ no. no) h) h
 
 not_there : StandIn {A = ℕ} (4 ∷ []) (1 ∷ []) → ⊥
-not_there h = ⊎_elim (λ x. let e = x.0 in cc) (λ no. no) h
+not_there h = ⊎_elim (λ x. cc (x.0)) (λ no. no) h

@@ -62,16 +62,16 @@ abbrev both_push : View ℕ
 both_push = knowing one_word kinds.Overflow 1 (call 3 (Queues (queues.PushIndex 5)) 1 ++ call 7 (Queues (queues.PushIndex 6)) 0)
 
 no_two_push : RunsThePage (overflowing_page 1) both_push → ⊥
-no_two_push e = absurd (cc)
+no_two_push runs_the_page = absurd (cc)
 
 abbrev both_pop : View ℕ
 both_pop = knowing one_word kinds.Overflow 1 (call 3 (Queues queues.Pop) 1 ++ call 7 (Queues queues.Pop) 0)
 
 no_two_pop : RunsThePage (overflowing_page 1) both_pop → ⊥
-no_two_pop e = absurd (cc)
+no_two_pop runs_the_page = absurd (cc)
 
 not_known : Knows one_word kinds.Overflow 1 both_push → ⊥
-not_known h = let e = h.allowed.0 in cc
+not_known knows = cc (knows.allowed.0)
 
 -- ---- the value
 
@@ -104,7 +104,7 @@ abbrev both_store : View ℕ
 both_store = knowing one_word kinds.Atomic 1 (call 3 (Atomic (values.Store 5)) 1 ++ call 7 (Atomic (values.Store 6)) 0)
 
 no_two_store : RunsThePage value_page both_store → ⊥
-no_two_store e = absurd (cc)
+no_two_store runs_the_page = absurd (cc)
 
 both_load : RunsThePage value_page (knowing one_word kinds.Atomic 1 (call 3 (Atomic values.Load) 1 ++ call 7 (Atomic values.Load) 0))
 both_load = refl
@@ -155,10 +155,10 @@ both_push_values =
     knowing (code_of pairs) kinds.Queue 2 (call 3 (Queues (queues.Push (5, 6))) 1 ++ call 7 (Queues (queues.Push (7, 8))) 0)
 
 no_two_push_values : RunsThePage (queue_page pairs 2) both_push_values → ⊥
-no_two_push_values e = absurd (cc)
+no_two_push_values runs_the_page = absurd (cc)
 
 abbrev both_pop_values : View (ℕ × ℕ)
 both_pop_values = knowing (code_of pairs) kinds.Queue 2 (call 3 (Queues queues.Pop) 1 ++ call 7 (Queues queues.Pop) 0)
 
 no_two_pop_values : RunsThePage (queue_page pairs 2) both_pop_values → ⊥
-no_two_pop_values e = absurd (cc)
+no_two_pop_values runs_the_page = absurd (cc)

@@ -54,7 +54,7 @@ module _ {C G M E : Type 0} (want_of : C → G → Want (Unit {0})) (after : C �
       let u = step_on h.left h.stop h.last_room h.last_words call d room words h.stops goes in
       record {
         left = u.0;
-        few = let f = h.few in let e = u.1 in omega arith;
+        few = omega (arith, h.few, u.1);
         stop = h.stop;
         last_room = h.last_room;
         last_words = h.last_words;
@@ -113,8 +113,7 @@ module _ {C G M E : Type 0} (want_of : C → G → Want (Unit {0})) (after : C �
       subst (λ (z : After C (Stop C E) × M × List ℕ). On call room words z.0 z.1 z.2)
       (λ i. (sym goes i, sym keeps i, sym writes i)) (step_on_from call room words)
 
-  -- first steps of a call, and further ones from where these have come to, are first steps of the
-  -- call
+  -- first steps of a call, and further ones from where these have come to, are first steps of the call
   pub more_steps : (call d : C) (room x x₁ : M) (words y y₁ : List ℕ) (b a : After C (Stop C E)) → b ≡ GoOn d
       → On call room words b x y → On d x y a x₁ y₁ → On call room words a x₁ y₁
   more_steps call d room x x₁ words y y₁ b a is first later n s r ws t =
@@ -127,15 +126,15 @@ module _ {C G M E : Type 0} (want_of : C → G → Want (Unit {0})) (after : C �
   -- come to, with no step done
   pub begins_later : (call d : C) (room x : M) (words y : List ℕ) (a : After C (Stop C E)) → a ≡ GoOn d
       → CanStop want_of after kept given call room words → On call room words a x y → Going call room words 0 d x y
-  begins_later call d room x words y a is can_stop_holds on =
+  begins_later call d room x words y a is may_stop on =
       let so = subst (λ c. On call room words c x y) is on in
-      let u = so can_stop_holds.steps can_stop_holds.stop can_stop_holds.last_room can_stop_holds.last_words can_stop_holds.stops in
+      let u = so may_stop.steps may_stop.stop may_stop.last_room may_stop.last_words may_stop.stops in
       record {
         left = u.0;
-        few = let f = can_stop_holds.few in let e = u.1 in omega arith;
-        stop = can_stop_holds.stop;
-        last_room = can_stop_holds.last_room;
-        last_words = can_stop_holds.last_words;
+        few = omega (arith, may_stop.few, u.1);
+        stop = may_stop.stop;
+        last_room = may_stop.last_room;
+        last_words = may_stop.last_words;
         stops = u.2;
         alike = λ n s r ws t. let v = so n s r ws t in (v.0, v.2);
       }
@@ -151,14 +150,14 @@ module _ {C G M E : Type 0} (want_of : C → G → Want (Unit {0})) (after : C �
   pub end_is_stop : (call : C) (room : M) (words : List ℕ)
       → CanEnd want_of after kept given call room words
       → CanStop want_of after kept given call room words
-  end_is_stop call room words can_end_holds =
+  end_is_stop call room words ends_alone =
       record {
-        steps = can_end_holds.steps;
-        few = can_end_holds.few;
-        stop = Ended can_end_holds.end;
-        last_room = can_end_holds.last_room;
-        last_words = can_end_holds.last_words;
-        stops = can_end_holds.ends;
+        steps = ends_alone.steps;
+        few = ends_alone.few;
+        stop = Ended ends_alone.end;
+        last_room = ends_alone.last_room;
+        last_words = ends_alone.last_words;
+        stops = ends_alone.ends;
       }
 
   abbrev has_ended : Stop C E → Type 0

@@ -74,8 +74,7 @@ module _ {F : Type 0} (pre : F → BitState → Type 0) (step : F → BitState �
   abbrev left : ℕ → List BitState
   left place = states_from place (drop place before)
 
-  -- before this place each word is 0, and the counts from it on are those that are still to be
-  -- handed out
+  -- before this place each word is 0, and the counts from it on are those that are still to be handed out
   pub record Emptying (place : ℕ) (call : ResetAll) (words : List ℕ) (visit : F) : Type 0 where
     pub long : length before ≡ capacity
     pub at : place < capacity → call ≡ record { word = place; end = capacity }

@@ -86,8 +86,7 @@ module _ {C E : Type 0} (want : C → Want (Unit {0})) (after : C → ℕ → Af
     (goes_low : (c : C) (old : ℕ) → Low c → LowThen Low (after c old))
     (before : List ℕ) (P Q : E → List ℕ → Type 0)
     (so : (e : E) (last : List ℕ) → Behind k before last → P e (take k last) → Q e last) where
-  -- what a step comes to over the front alone it comes to over all the words, where the rest of
-  -- the walk does
+  -- what a step comes to over the front alone it comes to over all the words, where the rest of the walk does
   from_front : (n : ℕ) (w : Want (Unit {0})) (call : C) (a : After C E) (words : List ℕ)
       → LowThen Low a → Behind k before words
       → ((d : C) → Low d → Walks want after n (OnEnd P) d (take k words) → Walks want after n (OnEnd Q) d words)

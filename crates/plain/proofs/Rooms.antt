@@ -36,8 +36,7 @@ module _ {C G M E : Type 0} (want_of : C → G → Want (Unit {0})) (after : C �
       (s : Stop C E) × (r : M) × (ws : List ℕ) × StopsFrom want_of after kept given
       (StopsIn want_of after kept given n s r ws) a room words s r ws × Apart P s r ws
 
-  -- a step of both together that halts so is a step of the call that stops so, with the room as
-  -- the step leaves it
+  -- a step of both together that halts so is a step of the call that stops so, with the room as the step leaves it
   found_goes : (n : ℕ) (P : Stop (C × M) (E × M) → List ℕ → Type 0) (w : Want (Unit {0})) (call : C) (a : After C E) (room next : M) (words : List ℕ)
       → ((d : C) → Walks want_both after_both n P (d, next) words → Found n P d next words)
       → WalksFrom (Walks want_both after_both n P) P (stepped w (call, room) (with_room next a)) words

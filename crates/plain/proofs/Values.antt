@@ -78,7 +78,7 @@ module _ {V : Type 0} (words_of : V → List ℕ) (value_of : List ℕ → V) (s
     within = cell_within size v
 
     small : cell + 0 + size < 2 ^ 64
-    small = let w = within in omega arith
+    small = omega (arith, within)
 
     stands : slice_index cells 0 ≡ v
     stands = stored_other ws cell (words_of value) 0 size 0 small (inl (omega arith))
@@ -90,14 +90,14 @@ module _ {V : Type 0} (words_of : V → List ℕ) (value_of : List ℕ → V) (s
     version_is = grind (arith, cells_long, stands, get_or-set_same, written)
 
     before : before_version (slice_index last 0) ≡ v
-    before = let is = version_is in let f = fits.fits in omega (arith, more)
+    before = omega (arith, more, version_is, fits.fits)
 
     -- the cell then has the words of this value
     own : value_of (words_from last cell size) ≡ value
     own =
         let at : words_from cells cell size ≡ words_of value =
         subst (λ k. words_from cells k size ≡ words_of value) (omega arith)
-        (stored_words ws cell (words_of value) 0 size small (let a = within in let b = fits.long in omega arith)
+        (stored_words ws cell (words_of value) 0 size small (omega (arith, within, fits.long))
         ∙ subst (λ n. words_from (words_of value) 0 n ≡ words_of value) (sized value) (words_all (words_of value))) in
         let same : words_from last cell size ≡ words_from cells cell size =
         words_same last cells cell size (λ i low high. get_or-set_other cells 0 i (written (Add 1) (slice_index cells 0)) 0 (λ e. absurd (omega arith))) in

@@ -13,7 +13,7 @@ plus (suc m) n = suc (plus m n)
 
 pub plus_sum : (m n : ℕ) → plus m n ≡ m + n
 plus_sum zero n = omega arith
-plus_sum (suc m) n = let e = plus_sum m n in omega arith
+plus_sum (suc m) n = omega (arith, plus_sum m n)
 
 module _ {C E : Type 0} where
   -- it has stopped, and P holds of that, or it goes on
@@ -58,8 +58,8 @@ module _ {C E : Type 0} (want : C → Want (Unit {0})) (after : C → ℕ → Af
 
   pub goes_longer : (m n : ℕ) (P : Stop C E → List ℕ → Type 0) (a : After C E) (words : List ℕ)
       → Goes n P a words → Goes (plus m n) P a words
-  goes_longer m n P a words goes_holds =
-      from_map (Walks n P) (Walks (plus m n) P) P (goes a) words (λ d u. longer m n P d words u) goes_holds
+  goes_longer m n P a words walked =
+      from_map (Walks n P) (Walks (plus m n) P) P (goes a) words (λ d u. longer m n P d words u) walked
 
 -- this holds of the call, if it goes on
 module _ {C E : Type 0} (Low : C → Type 0) where
@@ -88,9 +88,9 @@ module _ {C E D X : Type 0} (want : C → Want (Unit {0})) (after : C → ℕ �
       → ((d : D) → Low d → Walks part_want part_after m (OnEnd (Then n P)) d words → Walks want after (plus m n) P (within d) words)
       → Goes part_want part_after m (OnEnd (Then n P)) a words
       → Goes want after (plus m n) P (lift a) words
-  part_goes m n P (GoOn d) words low on goes_holds =
-      subst (λ a. Goes want after (plus m n) P a words) (sym (lifts d)) (on d low goes_holds)
-  part_goes m n P (Done x) words low on goes_holds = goes_longer want after m n P (lift (Done x)) words goes_holds
+  part_goes m n P (GoOn d) words low on walked =
+      subst (λ a. Goes want after (plus m n) P a words) (sym (lifts d)) (on d low walked)
+  part_goes m n P (Done x) words low on walked = goes_longer want after m n P (lift (Done x)) words walked
 
   part_from : (m n : ℕ) (P : Stop C E → List ℕ → Type 0) (w : Want (Unit {0})) (d : D) (a : After D X) (words : List ℕ) → LowThen Low a
       → ((e : D) → Low e → Walks part_want part_after m (OnEnd (Then n P)) e words → Walks want after (plus m n) P (within e) words)
@@ -131,7 +131,7 @@ module _ {C G E : Type 0} (want_of : C → G → Want (Unit {0})) (after : C →
   Found n P call room words =
       (s : Stop C E) × (r : Unit {0}) × (ws : List ℕ) × StopsIn want_of after (λ c (room : Unit {0}) old. room) given n s r ws call room words × P s ws
 
-  -- so it is of what a step has come to
+  -- where the walk of each call that goes on is a run of the driver, so is that of what a step comes to
   found_from : (n : ℕ) (P : Stop C E → List ℕ → Type 0) (a : After C (Stop C E)) (room : Unit {0}) (words : List ℕ)
       → ((d : C) → Walks (λ c. want_of c given) (λ c old. after c given old) n P d words → Found n P d room words)
       → WalksFrom (Walks (λ c. want_of c given) (λ c old. after c given old) n P) P a words

@@ -11,10 +11,10 @@ use Rattle.plain.specs.Queues.{words_from}
 pub words_same : (ws vs : List ℕ) (at n : ℕ)
     → ((i : ℕ) → at ≤ i → i < at + n → slice_index ws i ≡ slice_index vs i)
     → words_from ws at n ≡ words_from vs at n
-words_same ws vs at zero same_slice_index = refl
-words_same ws vs at (suc n) same_slice_index =
-    let head = same_slice_index at (omega arith) (omega arith) in
-    let tail = words_same ws vs (suc at) n (λ i low high. same_slice_index i (omega arith) (omega arith)) in
+words_same ws vs at zero same_words = refl
+words_same ws vs at (suc n) same_words =
+    let head = same_words at (omega arith) (omega arith) in
+    let tail = words_same ws vs (suc at) n (λ i low high. same_words i (omega arith) (omega arith)) in
     λ i. head i ∷ tail i
 
 shifted : (x : ℕ) (xs : List ℕ) (at n : ℕ) → words_from (x ∷ xs) (suc at) n ≡ words_from xs at n
@@ -39,7 +39,7 @@ stored_length ws k xs at (suc n) =
     stored_length (slice_set ws (word_at k at) (slice_index xs at)) k xs (at + 1) n
     ∙ length-set ws (word_at k at) (slice_index xs at)
 
--- and it leaves each word before the stored ones and behind them
+-- a store of words leaves each word before the stored ones and behind them
 pub stored_other : (ws : List ℕ) (k : ℕ) (xs : List ℕ) (at n j : ℕ) → k + at + n < 2 ^ 64
     → (j < k + at) ⊎ (k + at + n ≤ j)
     → slice_index (stored ws k xs at n) j ≡ slice_index ws j
@@ -50,7 +50,7 @@ stored_other ws k xs at (suc n) j small out =
     ∙ get_or-set_other ws (word_at k at) j (slice_index xs at) 0
     (λ e. ⊎_elim (λ h. absurd (omega arith)) (λ h. absurd (omega arith)) out)
 
--- where it has stored it has the stored words
+-- the list has the stored words where they were stored
 pub stored_words : (ws : List ℕ) (k : ℕ) (xs : List ℕ) (at n : ℕ) → k + at + n < 2 ^ 64
     → k + at + n ≤ length ws → words_from (stored ws k xs at n) (k + at) n ≡ words_from xs at n
 stored_words ws k xs at zero small within = refl
@@ -91,7 +91,7 @@ loaded_length xs ws k at (suc n) =
     loaded_length (slice_set xs at (slice_index ws (word_at k at))) ws k (at + 1) n
     ∙ length-set xs at (slice_index ws (word_at k at))
 
--- where it has loaded the room has the loaded words
+-- the room has the loaded words where they were loaded
 pub loaded_words : (xs ws : List ℕ) (k at n : ℕ) → k + at + n < 2 ^ 64 → at + n ≤ length xs
     → words_from (loaded xs ws k at n) at n ≡ words_from ws (k + at) n
 loaded_words xs ws k at zero small within = refl

@@ -11,6 +11,7 @@ use Rattle.schedule.specs.Written.{AppendsPart, Writes, IsUnread}
 same_input : (known : Option (List ℕ)) (one other : List ℕ) → IfSome known (λ bytes. bytes ≡ one) → one ≡ other → IfSome known (λ bytes. bytes ≡ other)
 same_input known one other read e = subst (λ i. IfSome known (λ bytes. bytes ≡ i)) e read
 
+-- what is said of a run over these bytes holds of one that is told them as known
 pub run_known : (known b a : Option (List ℕ)) (input : List ℕ) (r : Result (Unit {0}) ScheduleError) → IfSome known (λ bytes. bytes ≡ input)
     → IsRun (Some input) b a r → IsRun known b a r
 run_known known b a input (Ok u) read p = (p.0, same_input known input p.0 read p.1, p.2)

@@ -22,6 +22,7 @@ use Rattle.schedule.proofs.Writing.{part_within}
 abbrev as_output : Result (Unit {0}) (ℕ × Cause) → List ℕ → Output
 as_output end text = record { text = text; end = end }
 
+-- what a line does by what it was read as: it stops with the cause, or prints its command and goes on
 abbrev line_as : Kind → ℕ → List (List ℕ) → State → Result Command Cause → Output
 line_as kind number rest s read =
     elim read [
@@ -105,6 +106,7 @@ ended : (end : Result (Unit {0}) (ℕ × Cause)) (o : Output) (b a : Option (Lis
     → (o.end ≡ end) × Appends b a o.text
 ended end o b a text e p = (ap (λ r. r.end) e, subst (Appends b a) (sym (ap (λ r. r.text) e ∙ append-nil text)) p)
 
+-- where no line is left, what was written is the whole output
 pub lines_ended : (kind : Kind) (lines left : List (List ℕ)) (number : ℕ) (old w : World ℕ) (b a : Option (List ℕ)) (refusals : List Bool) (text : List ℕ)
     → Done kind lines number left old w refusals text → Appends b a text → left ≡ [] → IsOutput (output_from kind lines old) b a (Ok tt)
 lines_ended kind lines left number old w b a refusals text done p none =
@@ -112,6 +114,7 @@ lines_ended kind lines left number old w b a refusals text done p none =
     let end = ended (Ok tt) _ b a text whole p in
     (refusals ++ [], end.0, end.1)
 
+-- the first line that is left is malformed: the output ends with its number and the cause
 pub lines_malformed : (kind : Kind) (lines left rest : List (List ℕ)) (line : List ℕ) (number : ℕ) (old w : World ℕ) (b a : Option (List ℕ))
     (refusals : List Bool) (text : List ℕ) (cause : Cause) → Done kind lines number left old w refusals text → Appends b a text → left ≡ line ∷ rest
     → 0 < length line → command_of kind (words line) ≡ Err cause → IsOutput (output_from kind lines old) b a (Err (Malformed number cause))

@@ -53,6 +53,7 @@ pub taken_told : (w new : World ℕ) (turn : Turn ℕ) (b a : Option (List ℕ))
 taken_told w new turn b a (Ok u) e same p = (false, subst (λ o. IsTurn o new b a (Ok u)) (sym (outcome_taken w turn e)) (same, p))
 taken_told w new turn b a (Err error) e same p = (false, subst (λ o. IsTurn o new b a (Err error)) (sym (outcome_taken w turn e)) p)
 
+-- a turn that the machine refuses leaves it as it was, and writes the text of the refusal
 pub refused_told : (w new : World ℕ) (turn : Turn ℕ) (b a : Option (List ℕ)) (refusal : Refusal) (r : Result (Unit {0}) ScheduleError)
     → IsRefusal w turn refusal → new ≡ w → Writes b a r (refusal_text refusal) → (short : Bool) × IsTurn (outcome short w turn) new b a r
 refused_told w new turn b a refusal (Ok u) e same p =
@@ -73,6 +74,7 @@ as_printed s text = record { text = text; state = s }
 after_text-after_text : (s t : List ℕ) (p : Printed) → after_text s (after_text t p) ≡ after_text (s ++ t) p
 after_text-after_text s t p = ap (as_printed p.state) (sym (append_assoc s t p.text))
 
+-- where the party's call goes on, the text of the turn comes before that of the others
 nexts_going : (left party : ℕ) (w : World ℕ) (short : Bool) (more : List Bool) → goes_on party (outcome short w (Next party)) ≡ true
     → nexts (suc left) party (at w (short ∷ more))
     ≡ after_text (outcome short w (Next party)).text (nexts left party (at (outcome short w (Next party)).world more))
@@ -81,6 +83,7 @@ nexts_going left party w short more e =
     let o = outcome short w (Next party) in
     ap (λ g. cond g (after_text o.text (nexts left party (at o.world more))) (printed o more)) e
 
+-- where the party's call ends or is refused, no more turns are taken
 nexts_ending : (left party : ℕ) (w : World ℕ) (short : Bool) (more : List Bool) → goes_on party (outcome short w (Next party)) ≡ false
     → nexts (suc left) party (at w (short ∷ more)) ≡ printed (outcome short w (Next party)) more
 unfolding nexts
@@ -99,7 +102,7 @@ one_going left p w more e going =
     let same = outcome_taken w (Next p) e in
     nexts_going left p w false more (ap (goes_on p) same ∙ going) ∙ ap (λ (o : Outcome). after_text o.text (nexts left p (at o.world more))) same
 
--- and one behind which it does not
+-- a turn that is taken, behind which the call does not go on
 one_ending : (left p : ℕ) (w : World ℕ) (more : List Bool) → refusal_of w (Next p) ≡ None → is_going (world_after w (Next p)) p ≡ false
     → nexts (suc left) p (at w (false ∷ more)) ≡ as_printed (at (world_after w (Next p)) more) (events_text (events_of w (Next p)))
 one_ending left p w more e ending =
@@ -146,6 +149,7 @@ after_one p w e left more =
     by true going = one_going left p w more e going
     by false ending = one_ending left p w more e ending ∙ ap (as_printed (at (world_after w (Next p)) more)) (sym (append-nil text))
 
+-- one allowed turn comes before those that were taken, as the call goes on after it
 after_more : (n p : ℕ) (w now : World ℕ) (told : List (Event ℕ)) → refusal_of w (Next p) ≡ None → is_going (world_after w (Next p)) p ≡ true
     → Taken (suc n) p (world_after w (Next p)) now told → Taken (suc (suc n)) p w now (events_of w (Next p) ++ told)
 after_more n p w now told e going taken left more =
@@ -157,6 +161,7 @@ after_more n p w now told e going taken left more =
     ∙ after_text-after_text (events_text first) (events_text told) (left_over (suc n) now p left more)
     ∙ ap (λ text. after_text text (left_over (suc n) now p left more)) (sym (flat_map-append event_text first told))
 
+-- so many allowed turns write down what the machine's history has more
 pub taken_is : (n p : ℕ) (t : Trace ℕ) → AreAllowed t (replicate n (Next p))
     → (told : List (Event ℕ)) × ((after_turns t (replicate n (Next p))).events ≡ t.events ++ told)
     × Taken n p t.world (after_turns t (replicate n (Next p))).world told
@@ -190,6 +195,7 @@ stops_over : (n p left : ℕ) (now : World ℕ) (more : List Bool) → n ≢ 0 �
 stops_over zero p left now more some ending = absurd (some refl)
 stops_over (suc n) p left now more some ending = ap (λ b. cond b (nexts left p (at now more)) (as_printed (at now more) [])) ending
 
+-- a turn that is refused prints the text of its refusal, and is the last one
 refused_over : (p left : ℕ) (now : World ℕ) (refusal : Refusal) → IsRefusal now (Next p) refusal
     → (short : Bool) × ((more : List Bool) → nexts (suc left) p (at now (short ∷ more)) ≡ as_printed (at now more) (refusal_text refusal))
 refused_over p left now refusal is =
@@ -224,7 +230,7 @@ call_ended most n p old now told b a below some ending taken q =
       q,
     )
 
--- where the next turn was refused
+-- the turns that were taken lead to the refusal of the next one
 refused_leads : (most n p : ℕ) (old now : World ℕ) (told : List (Event ℕ)) (refusal : Refusal) → n < most → (n ≡ 0) ⊎ (is_going now p ≡ true)
     → Taken n p old now told → IsRefusal now (Next p) refusal
     → (refusals : List Bool) × Leads (nexts most p) old now refusals (events_text told ++ refusal_text refusal)
@@ -239,6 +245,7 @@ refused_leads most n p old now told refusal below goes taken is =
           ∙ ap (after_text (events_text told)) (goes_over n p (suc left) now (r.0 ∷ more) goes ∙ r.1 more),
     )
 
+-- the turns that were taken and the refusal of the next one are what the command prints
 pub next_refused : (most n p : ℕ) (old now : World ℕ) (told : List (Event ℕ)) (refusal : Refusal) (b m a : Option (List ℕ)) → n < most
     → (n ≡ 0) ⊎ (is_going now p ≡ true) → Taken n p old now told → IsRefusal now (Next p) refusal
     → Appends b m (events_text told) → Appends m a (refusal_text refusal) → Prints (nexts most p) old now b a (Ok tt)
@@ -257,6 +264,7 @@ events_failed most n p old now told b a within taken q =
           (AppendsPart_more b a (events_text told) (left_over n now p (most - n) []).text q),
     )
 
+-- a write of the refusal that failed has written a part of what the command prints
 pub refusal_failed : (most n p : ℕ) (old now : World ℕ) (told : List (Event ℕ)) (refusal : Refusal) (b m a : Option (List ℕ)) → n < most
     → (n ≡ 0) ⊎ (is_going now p ≡ true) → Taken n p old now told → IsRefusal now (Next p) refusal
     → Appends b m (events_text told) → AppendsPart m a (refusal_text refusal)
@@ -268,6 +276,7 @@ refusal_failed most n p old now told refusal b m a below goes taken is q r =
           (append-nil (events_text told ++ refusal_text refusal) ∙ sym (ap (λ (p : Printed). p.text) (leads.1 []))),
     )
 
+-- where the next turn is refused, the command prints so, whether the write succeeds or fails
 pub refused_prints : (most n p : ℕ) (old now : World ℕ) (told : List (Event ℕ)) (refusal : Refusal) (b m a : Option (List ℕ))
     (r : Result (Unit {0}) ScheduleError) → n < most → (n ≡ 0) ⊎ (is_going now p ≡ true) → Taken n p old now told → IsRefusal now (Next p) refusal
     → Appends b m (events_text told) → Writes m a r (refusal_text refusal) → Prints (nexts most p) old now b a r
@@ -292,6 +301,7 @@ pub ran_of : (most n p : ℕ) (t u : Trace ℕ) → n ≤ most → AreAllowed t 
 ran_of most n p t u within all is =
     subst (λ (v : Trace ℕ). (told : List (Event ℕ)) × (v.events ≡ t.events ++ told) × Taken n p t.world v.world told) (sym is) (taken_is n p t all)
 
+-- what a machine answers to so many turns says how many it took and what they wrote
 pub ran_is : (most p : ℕ) (t u : Trace ℕ) (r : Result (Unit {0}) Stopped) → OnOk r (AreAllowed t (replicate most (Next p)))
     → OnOk r (u ≡ after_turns t (replicate most (Next p))) → IfErr r (λ stopped. stopped.taken < most)
     → IfErr r (λ stopped. AreAllowed t (replicate stopped.taken (Next p)))
@@ -307,6 +317,7 @@ ran_is most p t u (Err stopped) all is below allowed taken =
 
 -- ---- one turn as a command
 
+-- one turn as a command prints what the turn prints
 pub once_told : (turn : Turn ℕ) (old new : World ℕ) (b a : Option (List ℕ)) (short : Bool) (r : Result (Unit {0}) ScheduleError)
     → IsTurn (outcome short old turn) new b a r → Prints (commanded (Once turn)) old new b a r
 once_told turn old new b a short (Ok u) p =

@@ -67,6 +67,7 @@ first_refused : (ws : List (List ℕ)) (setup : Setup) (cause : Cause) → setup
     → machine_of ws ≡ Err cause
 first_refused ws setup cause is refused = read_so ws (Ok setup) is ∙ ap (admitted setup) refused
 
+-- no machine is made of the first line: the output ends for want of memory, or with the cause in that line
 pub text_unopened : (input first : List ℕ) (rest : List (List ℕ)) (b : Option (List ℕ)) (setup : Setup) (e : ScheduleError) → lines input ≡ first ∷ rest
     → setup_of (words first) ≡ Ok setup → IsUnopened setup e → IsOutput (output_of input) b b (Err e)
 text_unopened input first rest b setup e split read (inl memory) =
@@ -89,6 +90,7 @@ same_output one other same b a (Err WriteFailed) p = (p.0, subst (λ o. AppendsP
 same_output one other same b a (Err ReadFailed) p = p
 same_output one other same b a (Err NoMemory) p = p
 
+-- the output of the other lines, from the machine that the first line makes, is that of the whole text
 pub text_lines : (input first : List ℕ) (rest : List (List ℕ)) (setup : Setup) (kind : Kind) (w : World ℕ) (b a : Option (List ℕ))
     → (r : Result (Unit {0}) ScheduleError) → lines input ≡ first ∷ rest → machine_of (words first) ≡ Ok setup → kind ≡ kind_in setup.shape
     → w ≡ (trace_of setup).world → IsOutput (output_from kind rest w) b a r → IsOutput (output_of input) b a r
@@ -110,6 +112,7 @@ flushed_end known b m a input (Ok u) read p q failed = (input, read, (p.0, p.1, 
 flushed_end known b m a input (Err e) read p q failed =
     subst (λ x. IsRun known b a (Err x)) (sym failed) (input, read, (p.0, kept_part b m a _ p.2 q))
 
+-- the text was malformed and the writer failed to write the rest out: the run ends with that failure
 pub flush_failed : (known b m a : Option (List ℕ)) (input : List ℕ) (ended : ScheduleError) (line : ℕ) (cause : Cause) (e : ScheduleError)
     → IfSome known (λ bytes. bytes ≡ input) → ended ≡ Malformed line cause → IsOutput (output_of input) b m (Err ended)
     → Keeps m a → e ≡ WriteFailed → IsRun known b a (Err e)

@@ -20,6 +20,7 @@ AppendsPart_nil a text = ([], text, refl, Appends-nil a)
 
 -- ---- a write that took `count` bytes of what is left, and one that failed
 
+-- a write that took `count` bytes: what was written so far, and what is left, are still all the bytes
 pub wrote_more : (a b c : Option (List ℕ)) (bytes part left new_left : List ℕ) (count : ℕ) → part ++ left ≡ bytes → Appends a b part
     → Appends b c (take count left) → new_left ≡ drop count left → (all : List ℕ) × (all ++ new_left ≡ bytes) × Appends a c all
 wrote_more a b c bytes part left new_left count e p q f = (

@@ -156,6 +156,7 @@ struct List<'a> {
 }
 
 impl List<'_> {
+    /// Adds a word or a number to those that are listed.
     fn put(&mut self, text: &str) {
         self.pen.put(if self.is_begun { ", " } else { " " });
         self.pen.put(text);

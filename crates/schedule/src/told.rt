@@ -8,6 +8,7 @@ use std::io::Write;
 use texts::error::ScheduleError;
 use texts::line::Line;
 
+/// Writes what is told of a run that ended so.
 #[tactic(auto, unfolding(crate::specs::Told::message_text))]
 fn put_message<W: Write>(
     ran: &Result<(), ScheduleError>,

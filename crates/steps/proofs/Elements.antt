@@ -36,8 +36,7 @@ module _ {T : Type 0} where
   shown_first-append None index xs ys = refl
   shown_first-append (Some value) index xs ys = refl
 
-  -- one element more shows what the elements before it show, and then its own value where it shows
-  -- one
+  -- one element more shows what the elements before it show, and then its own value where it shows one
   shown_next : (index : ℕ) (es : List (Element T)) (i : ℕ) (e : Element T)
       → slice_get es i ≡ Some e
       → shown_from index (take (suc i) es)

@@ -22,7 +22,7 @@ module _ (p c : ℕ) where
   abbrev Masks : Type 0
   Masks = bit_and p (c - 1) ≡ p % c
 
--- where a number has no bit in common with the one before it
+-- to mask with the number before c gives the remainder by c, where these two have no bit in common
 pub masked : (most p c : ℕ) → c ≤ most → 0 < c → bit_and c (c - 1) ≡ 0 → Masks p c
 masked zero p c low some alone = let no : ⊥ = omega arith in absurd no
 masked (suc most) p c low some alone = dite (ℕ_discrete c 1) one (more (masked most (p / 2) (c / 2)))

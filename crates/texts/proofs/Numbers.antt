@@ -13,6 +13,7 @@ and_false : (a b : Bool) → b ≡ false → (a && b) ≡ false
 and_false true b e = e
 and_false false b e = refl
 
+-- where the first characters are digits and the next one is too, one more of them are digits
 pub all_digits_more : (word : List ℕ) (at : ℕ) → at < length word → all_ascii_digits (take at word) ≡ true
     → is_ascii_digit (get_or word at 0) ≡ true → all_ascii_digits (take (at + 1) word) ≡ true
 all_digits_more [] at at_below all digit = absurd (omega arith)
@@ -29,7 +30,7 @@ no_digit (c ∷ cs) zero at_below digit = rw digit refl
 no_digit (c ∷ cs) (suc at) at_below digit = and_false (is_ascii_digit c) _ (no_digit cs at (omega arith) digit)
 
 pub no_number : (greatest : ℕ) (word : List ℕ) → all_ascii_digits word ≡ false → number_of greatest word ≡ Err BadValue
-no_number greatest word all_ascii_digits_false = rw all_ascii_digits_false refl
+no_number greatest word not_digits = rw not_digits refl
 
 pub too_great : (greatest : ℕ) (word : List ℕ) (at : ℕ) → greatest < digits_value 10 (take at word) → number_of greatest word ≡ Err BadValue
 too_great greatest word at greatest_below =

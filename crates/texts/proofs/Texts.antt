@@ -11,7 +11,7 @@ pub first_part : (separator : ℕ) (text : List ℕ) (at : ℕ) → at ≡ posit
     → parts separator text ≡ take at text ∷ parts separator (take (length text - (at + 1)) (drop (at + 1) text))
 first_part separator text at e at_below = rw (take_rest text (at + 1), e) (slice_split_first (λ b. b == separator) text 0 (omega arith))
 
--- with no separator it is the text
+-- a text with no separator is its only part
 pub only_part : (separator : ℕ) (text : List ℕ) (at : ℕ) → at ≡ position_or_len (λ b. b == separator) text → length text ≤ at
     → parts separator text ≡ text ∷ []
 only_part separator text at e h =

@@ -11,6 +11,7 @@ use crate::text::Rest;
 use model::event::Start;
 use model::families::atomic::AtomicStart;
 
+/// A store, by the value that these words begin with.
 #[tactic(auto, unfolding(crate::specs::Atomic::store))]
 fn store(words: Rest<'_>) -> Result<(AtomicStart<u128>, Rest<'_>), Cause>
     ensures { Gives (λ x. (x.0, words_left x.1)) result (store (words_left words.entry)) }
@@ -19,6 +20,7 @@ fn store(words: Rest<'_>) -> Result<(AtomicStart<u128>, Rest<'_>), Cause>
     Ok((AtomicStart::Store(value), rest))
 }
 
+/// The call of the single value with this name, and the words that are left.
 #[tactic(auto, unfolding(crate::specs::Atomic::any_value_call))]
 fn any_value_call<'a>(name: &[u8], words: Rest<'a>) -> Result<(AtomicStart<u128>, Rest<'a>), Cause>
     ensures { Gives (λ x. (x.0, words_left x.1)) result

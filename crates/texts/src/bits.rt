@@ -12,6 +12,7 @@ use crate::text::Rest;
 use model::event::Start;
 use model::families::bits::BitsStart;
 
+/// A set, by the place that these words begin with.
 #[tactic(auto, unfolding(crate::specs::Bits::set))]
 fn set(words: Rest<'_>) -> Result<(BitsStart, Rest<'_>), Cause>
     ensures { Gives (λ x. (x.0, words_left x.1)) result (set (words_left words.entry)) }
@@ -20,6 +21,7 @@ fn set(words: Rest<'_>) -> Result<(BitsStart, Rest<'_>), Cause>
     Ok((BitsStart::Set(place as u64), rest))
 }
 
+/// A look at a place, by the place that these words begin with.
 #[tactic(auto, unfolding(crate::specs::Bits::is_set))]
 fn is_set(words: Rest<'_>) -> Result<(BitsStart, Rest<'_>), Cause>
     ensures { Gives (λ x. (x.0, words_left x.1)) result (is_set (words_left words.entry)) }
@@ -28,6 +30,7 @@ fn is_set(words: Rest<'_>) -> Result<(BitsStart, Rest<'_>), Cause>
     Ok((BitsStart::IsSet(place as u64), rest))
 }
 
+/// A look at a count, by the place that these words begin with.
 #[tactic(auto, unfolding(crate::specs::Bits::count))]
 fn count(words: Rest<'_>) -> Result<(BitsStart, Rest<'_>), Cause>
     ensures { Gives (λ x. (x.0, words_left x.1)) result (count (words_left words.entry)) }
@@ -36,6 +39,7 @@ fn count(words: Rest<'_>) -> Result<(BitsStart, Rest<'_>), Cause>
     Ok((BitsStart::Count(place as u64), rest))
 }
 
+/// The call of either bit set with this name, and the words that are left.
 #[tactic(auto, unfolding(crate::specs::Bits::any_set_call))]
 fn any_set_call<'a>(name: &[u8], words: Rest<'a>) -> Result<(BitsStart, Rest<'a>), Cause>
     ensures { Gives (λ x. (x.0, words_left x.1)) result
@@ -50,6 +54,7 @@ fn any_set_call<'a>(name: &[u8], words: Rest<'a>) -> Result<(BitsStart, Rest<'a>
     }
 }
 
+/// The call of a bit set with this name, and the words that are left.
 fn any_bit_set_call<'a>(name: &[u8], words: Rest<'a>) -> Result<(BitsStart, Rest<'a>), Cause>
     ensures { Gives (λ x. (x.0, words_left x.1)) result
         (any_bit_set_call name.now (words_left words.entry)) }
@@ -63,6 +68,7 @@ fn any_bit_set_call<'a>(name: &[u8], words: Rest<'a>) -> Result<(BitsStart, Rest
     }
 }
 
+/// The call of a counting bit set with this name, and the words that are left.
 fn any_counting_call<'a>(name: &[u8], words: Rest<'a>) -> Result<(BitsStart, Rest<'a>), Cause>
     ensures { Gives (λ x. (x.0, words_left x.1)) result
         (any_counting_call name.now (words_left words.entry)) }

@@ -16,6 +16,7 @@ use steps::container::enums::{ContainerAddFailure, ContainerRemoveError};
 
 // What holds an owner is passed on by a match: the borrow checker has no rule for `?` on it.
 
+/// An add, by a value and an owner.
 #[tactic(auto, unfolding(crate::specs::Container::add))]
 fn add(words: Rest<'_>) -> Result<(ContainerStart<u128>, Rest<'_>), Cause>
     ensures { Gives (λ x. (x.0, words_left x.1)) result (add (words_left words.entry)) }
@@ -28,6 +29,7 @@ fn add(words: Rest<'_>) -> Result<(ContainerStart<u128>, Rest<'_>), Cause>
     Ok((ContainerStart::Add(value, owner), rest))
 }
 
+/// A remove, by an index, an owner and a mode.
 #[tactic(auto, unfolding(crate::specs::Container::remove))]
 fn remove(words: Rest<'_>) -> Result<(ContainerStart<u128>, Rest<'_>), Cause>
     ensures { Gives (λ x. (x.0, words_left x.1)) result (remove (words_left words.entry)) }
@@ -41,6 +43,7 @@ fn remove(words: Rest<'_>) -> Result<(ContainerStart<u128>, Rest<'_>), Cause>
     Ok((ContainerStart::Remove(index as u64, owner, mode), rest))
 }
 
+/// A replace, by an index, a value and an owner.
 #[tactic(auto, unfolding(crate::specs::Container::replace))]
 fn replace(words: Rest<'_>) -> Result<(ContainerStart<u128>, Rest<'_>), Cause>
     ensures { Gives (λ x. (x.0, words_left x.1)) result (replace (words_left words.entry)) }
@@ -54,6 +57,7 @@ fn replace(words: Rest<'_>) -> Result<(ContainerStart<u128>, Rest<'_>), Cause>
     Ok((ContainerStart::Replace(index as u64, value, owner), rest))
 }
 
+/// A find, by an owner.
 #[tactic(auto, unfolding(crate::specs::Container::find))]
 fn find(words: Rest<'_>) -> Result<(ContainerStart<u128>, Rest<'_>), Cause>
     ensures { Gives (λ x. (x.0, words_left x.1)) result (find (words_left words.entry)) }
@@ -65,6 +69,7 @@ fn find(words: Rest<'_>) -> Result<(ContainerStart<u128>, Rest<'_>), Cause>
     Ok((ContainerStart::Find(owner), rest))
 }
 
+/// A recovery, by an owner and a mode.
 #[tactic(auto, unfolding(crate::specs::Container::recover))]
 fn recover(words: Rest<'_>) -> Result<(ContainerStart<u128>, Rest<'_>), Cause>
     ensures { Gives (λ x. (x.0, words_left x.1)) result (recover (words_left words.entry)) }
@@ -77,6 +82,7 @@ fn recover(words: Rest<'_>) -> Result<(ContainerStart<u128>, Rest<'_>), Cause>
     Ok((ContainerStart::Recover(owner, mode), rest))
 }
 
+/// The call with this name that looks at the whole container and has no arguments, if there is one.
 fn look_call(name: &[u8]) -> Option<ContainerStart<u128>>
     ensures { result ≡ look_call name.now }
 {
@@ -95,6 +101,7 @@ fn look_call(name: &[u8]) -> Option<ContainerStart<u128>>
     }
 }
 
+/// The call of the container with this name, and the words that are left.
 #[tactic(auto, unfolding(crate::specs::Container::any_container_call))]
 fn any_container_call<'a>(
     name: &[u8],
@@ -135,6 +142,7 @@ pub fn container_call<'a>(name: &[u8], words: Rest<'a>) -> Result<(Start<u128>, 
 }
 
 impl Line {
+    /// Adds an index and the value there.
     fn push_placed(&mut self, index: u64, value: u128)
         requires { length self.old + 79 ≤ 256 }
         ensures text { self.new ≡ self.old ++ placed_text index value }

@@ -42,6 +42,7 @@ pub fn next_word(words: Rest<'_>) -> Result<(&[u8], Rest<'_>), Cause>
     }
 }
 
+/// Refuses a line that has a word more.
 fn ended(words: Rest<'_>) -> Result<(), Cause>
     ensures { Gives (λ x. x) result (ended (words_left words.entry)) }
 {
@@ -76,6 +77,7 @@ pub fn owner_at(words: Rest<'_>) -> Result<(OwnerId, Rest<'_>), Cause>
 
 // ---- the first line
 
+/// The kind of this name.
 fn kind_of(name: &[u8]) -> Result<Kind, Cause>
     ensures { Gives (λ kind. kind) result (kind_of name.now) }
 {
@@ -118,6 +120,7 @@ pub fn setup_of(line: &[u8]) -> Result<Setup, Cause>
 
 // What holds an owner is passed on by a match: the borrow checker has no rule for `?` on it.
 
+/// A turn `Begin` of the party, by the call that these words name.
 #[tactic(auto, unfolding(crate::specs::Grammar::begin_of))]
 fn begin_of(kind: Kind, party: u32, words: Rest<'_>) -> Result<Command, Cause>
     ensures { Gives (λ command. command) result (begin_of kind party (words_left words.entry)) }
@@ -131,6 +134,7 @@ fn begin_of(kind: Kind, party: u32, words: Rest<'_>) -> Result<Command, Cause>
     Ok(Command::Once(Turn::Begin(party, start)))
 }
 
+/// A number of turns, from 1.
 fn count_of(word: &[u8]) -> Result<u64, Cause>
     ensures { Gives (λ count. count) result (count_of word.now) }
 {
@@ -141,6 +145,7 @@ fn count_of(word: &[u8]) -> Result<u64, Cause>
     Ok(count as u64)
 }
 
+/// Turns `Next` of the party: one, or as many as the word says.
 #[tactic(auto, unfolding(crate::specs::Grammar::next_of))]
 fn next_of(party: u32, words: Rest<'_>) -> Result<Command, Cause>
     ensures { Gives (λ command. command) result (next_of party (words_left words.entry)) }
@@ -155,6 +160,7 @@ fn next_of(party: u32, words: Rest<'_>) -> Result<Command, Cause>
     }
 }
 
+/// A turn `Decide` of the party, with nothing behind it.
 #[tactic(auto, unfolding(crate::specs::Grammar::decision_of))]
 fn decision_of(party: u32, said: bool, words: Rest<'_>) -> Result<Command, Cause>
     ensures { Gives (λ command. command) result (decision_of party said (words_left words.entry)) }
@@ -163,6 +169,7 @@ fn decision_of(party: u32, said: bool, words: Rest<'_>) -> Result<Command, Cause
     Ok(Command::Once(Turn::Decide(party, said)))
 }
 
+/// The turn or turns of the party that these words name.
 #[tactic(auto, unfolding(crate::specs::Grammar::turn_of))]
 fn turn_of(kind: Kind, party: u32, words: Rest<'_>) -> Result<Command, Cause>
     ensures { Gives (λ command. command) result (turn_of kind party (words_left words.entry)) }
@@ -181,6 +188,7 @@ fn turn_of(kind: Kind, party: u32, words: Rest<'_>) -> Result<Command, Cause>
     }
 }
 
+/// A turn `Die`, by the owner that these words name.
 #[tactic(auto, unfolding(crate::specs::Grammar::death_of))]
 fn death_of(words: Rest<'_>) -> Result<Command, Cause>
     ensures { Gives (λ command. command) result (death_of (words_left words.entry)) }

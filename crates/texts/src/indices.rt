@@ -15,6 +15,7 @@ use model::event::Start;
 use model::families::indices::IndexStart;
 use steps::indices::enums::{ReleaseMode, ReleaseState, UniqueIndexSetAcquireFailure};
 
+/// The mode that a word names.
 fn mode_of(word: &[u8]) -> Result<ReleaseMode, Cause>
     ensures { Gives (λ mode. mode) result (mode_of word.now) }
 {
@@ -37,6 +38,7 @@ pub fn mode_at(words: Rest<'_>) -> Result<(ReleaseMode, Rest<'_>), Cause>
     Ok((mode, rest))
 }
 
+/// A release, by an index and a mode.
 #[tactic(auto, unfolding(crate::specs::Indices::release))]
 fn release(words: Rest<'_>) -> Result<(IndexStart, Rest<'_>), Cause>
     ensures { Gives (λ x. (x.0, words_left x.1)) result (release (words_left words.entry)) }
@@ -46,6 +48,7 @@ fn release(words: Rest<'_>) -> Result<(IndexStart, Rest<'_>), Cause>
     Ok((IndexStart::Release(index as u64, mode), rest))
 }
 
+/// The call of the unique index set with this name, and the words that are left.
 #[tactic(auto, unfolding(crate::specs::Indices::any_index_call))]
 fn any_index_call<'a>(name: &[u8], words: Rest<'a>) -> Result<(IndexStart, Rest<'a>), Cause>
     ensures { Gives (λ x. (x.0, words_left x.1)) result

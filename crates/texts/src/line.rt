@@ -49,6 +49,7 @@ impl Line {
         &self.bytes[..self.len]
     }
 
+    /// Adds these bytes, for which there has to be room.
     fn push_bytes(&mut self, text: &[u8])
         requires { length self.old + length text.now ≤ ROOM }
         ensures { self.new ≡ self.old ++ text.now }
@@ -136,6 +137,7 @@ impl Line {
         line
     }
 
+    /// Adds a refusal by its name.
     fn push_refusal(&mut self, refusal: Refusal)
         requires { length self.old + 20 ≤ ROOM }
         ensures text { self.new ≡ self.old ++ refusal_name refusal }
@@ -157,6 +159,7 @@ impl Line {
         }
     }
 
+    /// Adds why a line is malformed.
     fn push_cause(&mut self, cause: Cause)
         requires { length self.old + 40 ≤ ROOM }
         ensures text { self.new ≡ self.old ++ cause_text cause }

@@ -11,6 +11,7 @@ use crate::text::Rest;
 use model::event::Start;
 use model::families::loan::LoanStart;
 
+/// A send, by the index that these words begin with.
 #[tactic(auto, unfolding(crate::specs::Loan::send))]
 fn send(words: Rest<'_>) -> Result<(LoanStart, Rest<'_>), Cause>
     ensures { Gives (λ x. (x.0, words_left x.1)) result (send (words_left words.entry)) }
@@ -19,6 +20,7 @@ fn send(words: Rest<'_>) -> Result<(LoanStart, Rest<'_>), Cause>
     Ok((LoanStart::Send(index as u64), rest))
 }
 
+/// A call that gives a loaned index up, by the index that these words begin with.
 #[tactic(auto, unfolding(crate::specs::Loan::give_up))]
 fn give_up(words: Rest<'_>) -> Result<(LoanStart, Rest<'_>), Cause>
     ensures { Gives (λ x. (x.0, words_left x.1)) result (give_up (words_left words.entry)) }
@@ -27,6 +29,7 @@ fn give_up(words: Rest<'_>) -> Result<(LoanStart, Rest<'_>), Cause>
     Ok((LoanStart::GiveUp(index as u64), rest))
 }
 
+/// A give-back, by the index that these words begin with.
 #[tactic(auto, unfolding(crate::specs::Loan::give_back))]
 fn give_back(words: Rest<'_>) -> Result<(LoanStart, Rest<'_>), Cause>
     ensures { Gives (λ x. (x.0, words_left x.1)) result (give_back (words_left words.entry)) }
@@ -35,6 +38,7 @@ fn give_back(words: Rest<'_>) -> Result<(LoanStart, Rest<'_>), Cause>
     Ok((LoanStart::GiveBack(index as u64), rest))
 }
 
+/// The call with this name that has no argument, if there is one.
 fn bare_call(name: &[u8]) -> Option<LoanStart>
     ensures { result ≡ bare_call name.now }
 {
@@ -51,6 +55,7 @@ fn bare_call(name: &[u8]) -> Option<LoanStart>
     }
 }
 
+/// The call of the loan channel with this name, and the words that are left.
 #[tactic(auto, unfolding(crate::specs::Loan::any_loan_call))]
 fn any_loan_call<'a>(name: &[u8], words: Rest<'a>) -> Result<(LoanStart, Rest<'a>), Cause>
     ensures { Gives (λ x. (x.0, words_left x.1)) result

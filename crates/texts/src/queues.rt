@@ -12,6 +12,7 @@ use crate::text::Rest;
 use model::event::{Item, Start};
 use model::families::queues::QueueStart;
 
+/// The call with this name after which no value follows, if there is one.
 fn call_without_value(name: &[u8]) -> Option<QueueStart<u128>>
     ensures { result ≡ call_without_value name.now }
 {
@@ -40,6 +41,7 @@ fn call_without_value(name: &[u8]) -> Option<QueueStart<u128>>
     }
 }
 
+/// A push of the index that these words begin with.
 #[tactic(auto, unfolding(crate::specs::Queues::push_index))]
 fn push_index(words: Rest<'_>) -> Result<(Start<u128>, Rest<'_>), Cause>
     ensures { Gives (λ x. (x.0, words_left x.1)) result (push_index (words_left words.entry)) }
@@ -48,6 +50,7 @@ fn push_index(words: Rest<'_>) -> Result<(Start<u128>, Rest<'_>), Cause>
     Ok((Start::Queues(QueueStart::PushIndex(index as u64)), rest))
 }
 
+/// A push of the value that these words begin with.
 #[tactic(auto, unfolding(crate::specs::Queues::push_value))]
 fn push_value(words: Rest<'_>) -> Result<(Start<u128>, Rest<'_>), Cause>
     ensures { Gives (λ x. (x.0, words_left x.1)) result (push_value (words_left words.entry)) }
@@ -56,6 +59,7 @@ fn push_value(words: Rest<'_>) -> Result<(Start<u128>, Rest<'_>), Cause>
     Ok((Start::Queues(QueueStart::Push(value)), rest))
 }
 
+/// The call with this name, of those that every queue has, and the words that are left.
 #[tactic(auto, unfolding(crate::specs::Queues::any_queue_call))]
 fn any_queue_call<'a>(name: &[u8], words: Rest<'a>) -> Result<(Start<u128>, Rest<'a>), Cause>
     ensures { Gives (λ x. (x.0, words_left x.1)) result
@@ -67,6 +71,7 @@ fn any_queue_call<'a>(name: &[u8], words: Rest<'a>) -> Result<(Start<u128>, Rest
     }
 }
 
+/// The call with this name, of those that both bounded queues have, and the words that are left.
 fn any_bounded_call<'a>(name: &[u8], words: Rest<'a>) -> Result<(Start<u128>, Rest<'a>), Cause>
     ensures { Gives (λ x. (x.0, words_left x.1)) result
         (any_bounded_call name.now (words_left words.entry)) }
@@ -118,6 +123,7 @@ pub fn value_queue_call<'a>(name: &[u8], words: Rest<'a>) -> Result<(Start<u128>
 }
 
 impl Line {
+    /// Adds an index or a value.
     fn push_item(&mut self, item: Item<u128>)
         requires { length self.old + 39 ≤ 256 }
         ensures text { self.new ≡ self.old ++ item_text item }

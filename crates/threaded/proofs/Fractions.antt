@@ -12,7 +12,7 @@ all_is_part n s any is = (any, ap (λ z. z * n) is)
 
 -- half of a share is as many of twice as many
 pub half_is_part : (k whole : ℕ) (s : Share) → IsPart k whole s → IsPart k (whole + whole) (half_of s)
-half_is_part k whole s is_part = (let any = is_part.0 in omega arith, go s.part s.parts is_part.1)
+half_is_part k whole s is_part = (omega (arith, is_part.0), go s.part s.parts is_part.1)
   where
     go : (a b : ℕ) → a * whole ≡ b * k → a * (whole + whole) ≡ (b + b) * k
     go a b e = omega arith

@@ -59,15 +59,11 @@ tally_twice k (suc n) =
     both
 
 tally_at : (k : ℕ → ℕ) (i n : ℕ) → i < n → k i ≤ tally k n
-tally_at k i n lt = let h = tally_put k i 0 n lt in omega arith
+tally_at k i n lt = omega (arith, tally_put k i 0 n lt)
 
 -- two numbers at different places are together at most the sum
 tally_two : (k : ℕ → ℕ) (i j n : ℕ) → j ≢ i → i < n → j < n → k i + k j ≤ tally k n
-tally_two k i j n ne below lt =
-    let h = tally_put k i 0 n below in
-    let g = tally_at (put k i 0) j n lt in
-    let e = put_other k i 0 j ne in
-    omega arith
+tally_two k i j n ne below lt = omega (arith, tally_put k i 0 n below, tally_at (put k i 0) j n lt, put_other k i 0 j ne)
 
 -- ---- numbers
 
@@ -99,13 +95,13 @@ module _ {V : Type 0} where
   pub at_below : (l : List V) (i : ℕ) (a : V) → get_elem? l i ≡ some a → i < length l
   at_below [] i a e = absurd (some-ne-none a (sym e))
   at_below (x ∷ xs) zero a e = omega arith
-  at_below (x ∷ xs) (suc i) a e = let h = at_below xs i a e in omega arith
+  at_below (x ∷ xs) (suc i) a e = omega (arith, at_below xs i a e)
 
   at_snoc_end : (l : List V) (a b : V) (j : ℕ) → get_elem? (l ++ a ∷ []) j ≡ some b → (get_elem? l j ≡ some b) ⊎ ((j ≡ length l) × (a ≡ b))
   at_snoc_end [] a b zero e = inr (refl, some-injective a b e)
   at_snoc_end [] a b (suc j) e = absurd (some-ne-none b (sym e))
   at_snoc_end (x ∷ xs) a b zero e = inl e
-  at_snoc_end (x ∷ xs) a b (suc j) e = ⊎_elim (λ h. inl h) (λ t. inr (let h = t.0 in omega arith, t.1)) (at_snoc_end xs a b j e)
+  at_snoc_end (x ∷ xs) a b (suc j) e = ⊎_elim (λ h. inl h) (λ t. inr (omega (arith, t.0), t.1)) (at_snoc_end xs a b j e)
 
   -- what holds of each seat after the change of one
   pub every : (F : ℕ → V → Type 0) (views : List V) (id : ℕ) (w : V) → ((j : ℕ) (u : V) → j ≢ id → get_elem? views j ≡ some u → F j u) → F id w
@@ -114,7 +110,7 @@ module _ {V : Type 0} where
       ⊎_elim (λ (t : (j ≡ id) × (w ≡ u)). subst (λ (z : ℕ × V). F z.0 z.1) (λ i. (sym t.0 i, t.1 i)) mine)
       (λ (t : (j ≢ id) × (get_elem? views j ≡ some u)). others j u t.0 t.1) (at_set views id j w u e)
 
-  -- and of the only seat
+  -- what holds of the only seat holds of each seat
   pub alone : (F : ℕ → V → Type 0) (v : V) → F 0 v → (j : ℕ) (u : V) → get_elem? (v ∷ []) j ≡ some u → F j u
   alone F v mine zero u e = subst (F 0) (some-injective v u e) mine
   alone F v mine (suc j) u e = absurd (some-ne-none u (sym e))
@@ -161,19 +157,17 @@ module _ {V : Type 0} (share : V → Share) where
       let one : ℕ → ℕ = put twice id (k id) in
       let two : ℕ → ℕ = put one n (k id) in
       let below = at_below views id v at in
-      let long : length (set views id left ++ right ∷ []) ≡ suc n = let a = length-append (set views id left) (right ∷ []) in
-      let b = length-set views id left in
-      omega arith in
+      let long : length (set views id left ++ right ∷ []) ≡ suc n = omega (arith, length-append (set views id left) (right ∷ []), length-set views id left) in
       let first = tally_same one two n (λ j lt. put_other one n (k id) j (λ e. absurd (omega arith))) in
       let second = tally_put twice id (k id) n below in
       let third = tally_twice k n in
       let last : two n ≡ k id = put_same one n (k id) in
-      let sum : tally two n + two n ≡ h.whole + h.whole = let s = h.sum in omega arith in
+      let sum : tally two n + two n ≡ h.whole + h.whole = omega (arith, h.sum) in
       let mine = h.fits id v at in
       record {
         whole = h.whole + h.whole;
         each = two;
-        any = let s = h.any in omega arith;
+        any = omega (arith, h.any);
         sum = ap (tally two) long ∙ sum;
         fits = λ j u e. ⊎_elim
             (λ e'. every (λ j u. Fits (h.whole + h.whole) (two j) (share u)) views id left
@@ -184,14 +178,14 @@ module _ {V : Type 0} (share : V → Share) where
             (theirs.0, same_twice (share u).part h.whole (share u).parts (k j) (two j) is theirs.1))
             (let is : two id ≡ k id = put_other one n (k id) id (λ e. absurd (omega arith)) ∙ put_same twice id (k id) in
             subst (Fits (h.whole + h.whole) (two id)) (sym e₀)
-            (let s = mine.0 in omega arith, same_half (share v).part h.whole (share v).parts (k id) (two id) is mine.1))
+            (omega (arith, mine.0), same_half (share v).part h.whole (share v).parts (k id) (two id) is mine.1))
             j u e')
             (λ (t : (j ≡ length (set views id left)) × (right ≡ u)).
             let here : j ≡ n = t.0 ∙ length-set views id left in
             let is : two j ≡ k id = ap two here ∙ last in
             subst (λ z. Fits (h.whole + h.whole) (two j) (share z)) t.1
             (subst (Fits (h.whole + h.whole) (two j)) (sym e₁)
-            (let s = mine.0 in omega arith, same_half (share v).part h.whole (share v).parts (k id) (two j) is mine.1)))
+            (omega (arith, mine.0), same_half (share v).part h.whole (share v).parts (k id) (two j) is mine.1)))
             (at_snoc_end (set views id left) right u j e);
       }
     where
@@ -215,7 +209,7 @@ module _ {V : Type 0} (share : V → Share) where
       let first = tally_put k id (k id + k other) n below in
       let second = tally_put one other 0 n below' in
       let third : one other ≡ k other = put_other k id (k id + k other) other apart in
-      let sum : tally two n ≡ h.whole = let s = h.sum in omega arith in
+      let sum : tally two n ≡ h.whole = omega (arith, h.sum) in
       let mine = h.fits id v at in
       let theirs = h.fits other w at' in
       record {
@@ -237,7 +231,7 @@ module _ {V : Type 0} (share : V → Share) where
                   ∙ ap (λ z. (share v).parts * (share w).parts * z) (sym is),
             ))
             j u e ne)
-            (subst (Fits h.whole (two other)) (sym e₁) (omega arith, (let is = put_same one other 0 in omega arith)));
+            (subst (Fits h.whole (two other)) (sym e₁) (omega arith, (omega (arith, put_same one other 0))));
       }
 
   -- who has all shares leaves none to the others

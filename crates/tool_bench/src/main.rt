@@ -61,7 +61,7 @@ fn main(rt: HostRuntime) -> io::Result<()> {
     let printed = if asked.together {
         print_rows(&rt, rt.alloc(), &asked, &[64])
     } else {
-        print_rows(&rt, rt.alloc(), &asked, &[8, 64, 4096])
+        print_rows(&rt, rt.alloc(), &asked, &[8, 64, 1024, 10_000])
     };
     match printed {
         Some(()) => Ok(()),

@@ -30,6 +30,7 @@ fn form_asked(rt: &HostRuntime) -> io::Result<Option<Form>> {
     }
 }
 
+/// Whether `--turns` or `--words` is given.
 fn turns_asked(rt: &HostRuntime) -> io::Result<Option<Form>> {
     if is_given(rt, "--turns")?.is_some() {
         return Ok(Some(Form::Turns(false)));

@@ -18,6 +18,7 @@ use std::io::{Read, Write};
 /// Of so many parties and places at most it is told what they show.
 const MOST: u64 = 8;
 
+/// A machine whose turns are shown, and the text so far.
 struct Shown<'a, M> {
     setup: Setup,
     machine: M,
@@ -45,6 +46,7 @@ fn party_of(turn: &Turn<u128>) -> u32 {
 }
 
 impl<'a, M: TakesTurns<u128>> Shown<'a, M> {
+    /// Adds the events from this one on.
     fn show_events(&mut self, before: usize) {
         let events = self.machine.events();
         for at in before..events.len() {
@@ -56,6 +58,7 @@ impl<'a, M: TakesTurns<u128>> Shown<'a, M> {
         }
     }
 
+    /// Adds why a turn was refused.
     fn show_refusal(&mut self, refusal: Refusal) {
         let line = line_of_refusal(refusal);
         self.pen.put(text_of(&line));
@@ -77,6 +80,7 @@ impl<'a, M: TakesTurns<u128>> Shown<'a, M> {
         refusal.is_none() && self.machine.is_going(party)
     }
 
+    /// Takes up to so many turns `Next` of the party, until its call is over or a turn is refused.
     fn take_nexts(&mut self, number: u64, party: u32, most: u64) {
         for _ in 0..most {
             if !self.take(number, &Turn::Next(party)) {
@@ -85,6 +89,7 @@ impl<'a, M: TakesTurns<u128>> Shown<'a, M> {
         }
     }
 
+    /// Takes the turn or turns of a line.
     fn take_all(&mut self, number: u64, command: Command) {
         match command {
             Command::Once(turn) => {
@@ -94,6 +99,7 @@ impl<'a, M: TakesTurns<u128>> Shown<'a, M> {
         }
     }
 
+    /// Adds the machine's words.
     fn show_words(&mut self) {
         self.pen.put("words");
         for word in self.machine.words() {
@@ -102,6 +108,7 @@ impl<'a, M: TakesTurns<u128>> Shown<'a, M> {
         self.pen.put("\n");
     }
 
+    /// Adds how far the party's latest call has come.
     fn show_progress(&mut self, party: u32, progress: Progress) {
         self.pen.large("call ", u128::from(party));
         self.pen.large(" ", u128::from(progress.steps));
@@ -111,6 +118,7 @@ impl<'a, M: TakesTurns<u128>> Shown<'a, M> {
             .put(if progress.finished { " ended\n" } else { "\n" });
     }
 
+    /// Adds how far the party's latest call has come, and what its state shows.
     fn show_party(&mut self, party: u32) {
         if let Some(progress) = self.machine.under_way(party) {
             self.show_progress(party, progress);
@@ -118,6 +126,7 @@ impl<'a, M: TakesTurns<u128>> Shown<'a, M> {
         self.show_state(party);
     }
 
+    /// Adds what the party's state shows, if it has one.
     fn show_state(&mut self, party: u32) {
         let Some(state) = self.machine.state(party) else {
             return;
@@ -191,6 +200,7 @@ fn run_on<M: TakesTurns<u128> + Drop, W: Write>(
     ended
 }
 
+/// Shows the turns of a schedule on this input.
 fn run<R: Read, W: Write>(
     alloc: Global,
     has_words: bool,

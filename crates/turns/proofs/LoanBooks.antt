@@ -13,8 +13,8 @@ use Rattle.model.specs.Step.{answer_in}
 
 -- a call that came to this has this answer
 came : {C A : Type 0} (done : Option A) (call : C) (next : After C A) → CameTo done call next → done ≡ answer_in next
-came None call next came_to_holds = sym (ap answer_in came_to_holds)
-came (Some answer) call next came_to_holds = sym (ap answer_in came_to_holds)
+came None call next came_to = sym (ap answer_in came_to)
+came (Some answer) call next came_to = sym (ap answer_in came_to)
 
 module _ (T : Type 0) (words : List ℕ) (push : Option (ℕ × ℕ)) (p : ℕ) (start : LoanStart)
     (flight flight' : LoanFlight) (old : ℕ) (book noted settled : Book) (effect : Effect)

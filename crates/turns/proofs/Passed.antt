@@ -19,8 +19,8 @@ use Rattle.turns.specs.Went.{IsOfStep}
 
 came_as : {R F A : Type 0} (flight : R → F) (done : Option A) (run : R) (next : After R A) → CameTo done run next
     → CameTo done (flight run) (as_call flight (λ answer. answer) next)
-came_as flight None run next came_to_holds = ap (as_call flight (λ answer. answer)) came_to_holds
-came_as flight (Some answer) run next came_to_holds = ap (as_call flight (λ answer. answer)) came_to_holds
+came_as flight None run next came_to = ap (as_call flight (λ answer. answer)) came_to
+came_as flight (Some answer) run next came_to = ap (as_call flight (λ answer. answer)) came_to
 
 -- what a family's call came to is what the machine's call came to
 pub passed : {R K T : Type 0} (flight : R → Flight T) (keeps : K → Registry T) (s : Step R K T) (went : Went T) (run : R) (kept : K)

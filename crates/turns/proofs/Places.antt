@@ -34,12 +34,12 @@ module _ {T : Type 0} where
   -- the next bit stood
   pub stood_more : (p found first n : ℕ) → has_flag found (first + n) ≡ true
       → clears_so_far p found first (n + 1) ≡ clears_so_far p found first n ++ Cleared p (first + n) ∷ []
-  stood_more p found first n has_flag_true =
-      one_more p found first n ∙ ap (λ b. clears_so_far p found first n ++ map (λ b. Cleared p b) (cond b ((first + n) ∷ []) [])) has_flag_true
+  stood_more p found first n stood =
+      one_more p found first n ∙ ap (λ b. clears_so_far p found first n ++ map (λ b. Cleared p b) (cond b ((first + n) ∷ []) [])) stood
 
-  -- or not
+  -- the next bit did not stand: no clear is added
   pub clear_more : (p found first n : ℕ) → has_flag found (first + n) ≡ false → clears_so_far p found first (n + 1) ≡ clears_so_far p found first n
-  clear_more p found first n has_flag_false =
+  clear_more p found first n clear =
       one_more p found first n
-      ∙ (ap (λ b. clears_so_far p found first n ++ map (λ b. Cleared p b) (cond b ((first + n) ∷ []) [])) has_flag_false
+      ∙ (ap (λ b. clears_so_far p found first n ++ map (λ b. Cleared p b) (cond b ((first + n) ∷ []) [])) clear
       ∙ append-nil (clears_so_far p found first n))

@@ -24,6 +24,4 @@ module _ (old new : View ℕ) (place left : ℕ) where
       let c : counts place old.seen ≡ counts place old.made = before (λ e. cond (is_count_of place e) 1 0) in
       let t : takes place old.seen ≡ takes place old.made = before (take_of place) in
       let less : takes place old.made ≤ counts place old.made = omega arith in
-      let is = answers_count old new place left after counted answers in
-      let sum = rest_of (counts place old.made) (takes place old.made) less few in
-      omega arith
+      omega (arith, answers_count old new place left after counted answers, rest_of (counts place old.made) (takes place old.made) less few)

@@ -32,18 +32,14 @@ seen_more f p start answer wrote old new c =
     let all = ap (sum_by f) c.is in
     let first = sum_by-append f (old.seen ++ c.others) (Begun p start ∷ (c.during ++ end)) in
     let before = sum_by-append f old.seen c.others in
-    let begun = sum_by-cons f (Begun p start) (c.during ++ end) in
-    let inside = sum_by-append f c.during end in
-    let own = ap (sum_by f) c.during_own in
-    let some = of_party f p c.during in
-    omega arith
+    omega (arith, sum_by-cons f (Begun p start) (c.during ++ end), sum_by-append f c.during end, ap (sum_by f) c.during_own, of_party f p c.during)
 
 -- a set that answers true has set its place once more than was seen before
 set_once : (place : ℕ) (old new : View ℕ) → HasSet place true old new → sets place old.seen + 1 ≤ sets place new.seen
-set_once place old new h =
-    let wrote : List (Event ℕ) = events.Set h.by place ∷ [] in
+set_once place old new set =
+    let wrote : List (Event ℕ) = events.Set set.by place ∷ [] in
     let more : sets place old.seen + sets place wrote ≤ sets place new.seen =
-    seen_more (λ e. cond (is_set_of place e) 1 0) h.by _ _ wrote old new h.called in
+    seen_more (λ e. cond (is_set_of place e) 1 0) set.by _ _ wrote old new set.called in
     let same : (place == place) ≡ true = grind (arith, nat_tests) in
     let one : sets place wrote ≡ 1 = rw same (omega arith) in
     omega arith
@@ -54,6 +50,4 @@ pub cleared_since : (place : ℕ) (old between new : View ℕ) → HasSet place 
     → sets place new.seen ≡ clears place new.seen + standing place new.seen → standing place new.seen ≤ 1
     → clears place old.seen < clears place new.seen
 cleared_since place old between new one two before after most =
-    let first = set_once place old between one in
-    let second = set_once place between new two in
-    omega arith
+    omega (arith, set_once place old between one, set_once place between new two)

@@ -47,7 +47,7 @@ taken_in : (place : ℕ) (es : List (Event ℕ)) → 1 ≤ takes place es → Ta
 taken_in place [] some = absurd (omega arith)
 taken_in place (TakenOut p x m ∷ es) some = go (x == place) refl (λ more. taken_in place es more)
   where
-    -- so it is whether the first event takes out of this place or of another
+    -- an event that takes out of this place is the first one, or one of the later ones
     go : (t : Bool) → (x == place) ≡ t → (1 ≤ takes place es → TakenIn place es) → TakenIn place (TakenOut p x m ∷ es)
     go true t rest =
         let same : x ≡ place = grind (arith, nat_tests) in
@@ -104,22 +104,16 @@ module _ (place p : ℕ) (start : Start ℕ) (end : Event ℕ) (events earlier s
       taken = ap (takes place) is ∙ takes_more place (earlier ++ Begun p start ∷ since) (end ∷ [])
 
       none : count_at place earlier ≤ 0 → counts place events ≤ takes place events
-      none low =
-          let t = taken in
-          let more = takes_more place earlier (Begun p start ∷ since) in
-          omega arith
+      none low = omega (arith, taken, takes_more place earlier (Begun p start ∷ since))
 
-      -- so it is where the place counted something
+      -- where the place counted something before the call, as much was taken out of it as was counted
       some : 0 < count_at place earlier → counts place events ≤ takes place events
       some stood = ⊎_elim (λ out. by_one (taken_in place since out)) wrapped (missed (omega arith))
         where
           -- too little was counted for the count to wrap
           wrapped : 2 ^ 64 ≤ counts place earlier + counts place since → counts place events ≤ takes place events
           wrapped many =
-              let c = counted in
-              let more = counts_more place earlier (Begun p start ∷ since) in
-              let begun = counts_more place (Begun p start ∷ []) since in
-              absurd (omega arith)
+              absurd (omega (arith, counted, counts_more place earlier (Begun p start ∷ since), counts_more place (Begun p start ∷ []) since))
 
 -- ---- a call of a pass with the whole share
 
@@ -133,28 +127,28 @@ module _ {F : Type 0} (step : F → BitState → F → Type 0) (capacity : ℕ) 
   pub drained : (place : ℕ) → place < capacity → counts place old.made < 2 ^ 64 → takes place new.made ≡ counts place new.made
   drained place low few =
       let is_count : Event ℕ → ℕ = λ e. cond (is_count_of place e) 1 0 in
-      let p = taken.made.by in
+      let party_there = taken.made.by in
       let q = missed.by in
       let c = taken.made.called in
       let s = missed.taken in
       let front : List (Event ℕ) = old.seen ++ c.others in
-      let end : List (Event ℕ) = Finished p (Bits ResetAll) Done ∷ [] in
+      let end : List (Event ℕ) = Finished party_there (Bits ResetAll) Done ∷ [] in
       let end_there : List (Event ℕ) = Finished q (Bits ResetAll) Done ∷ [] in
-      let ends : (front ++ Begun p (Bits ResetAll) ∷ c.during) ++ end ≡ missed.before ++ end_there =
-      append_assoc front (Begun p (Bits ResetAll) ∷ c.during) end ∙ (sym c.is ∙ missed.is) in
+      let ends : (front ++ Begun party_there (Bits ResetAll) ∷ c.during) ++ end ≡ missed.before ++ end_there =
+      append_assoc front (Begun party_there (Bits ResetAll) ∷ c.during) end ∙ (sym c.is ∙ missed.is) in
       let last =
-      same_last (front ++ Begun p (Bits ResetAll) ∷ c.during) missed.before (Finished p (Bits ResetAll) Done)
+      same_last (front ++ Begun party_there (Bits ResetAll) ∷ c.during) missed.before (Finished party_there (Bits ResetAll) Done)
       (Finished q (Bits ResetAll) Done) ends in
-      let party : q ≡ p = cc in
+      let party : q ≡ party_there = cc in
       let there : new.seen ≡ (s.before ++ Begun q s.start ∷ s.since) ++ end_there = missed.is ∙ ap (λ es. es ++ end_there) s.is in
       let part : List (Event ℕ) = s.before ++ Begun q s.start ∷ [] in
       let rest : List (Event ℕ) = s.since ++ end_there in
       let cut : (s.before ++ Begun q s.start ∷ s.since) ++ end_there ≡ part ++ rest =
       append_assoc s.before (Begun q s.start ∷ s.since) end_there ∙ sym (append_assoc s.before (Begun q s.start ∷ []) rest) in
-      let both : front ++ Begun p (Bits ResetAll) ∷ (c.during ++ end) ≡ part ++ rest = sym c.is ∙ (there ∙ cut) in
-      let none : BeginsNone p rest = begins_none_more p s.since end_there (subst (λ z. BeginsNone z s.since) party s.within) tt in
+      let both : front ++ Begun party_there (Bits ResetAll) ∷ (c.during ++ end) ≡ part ++ rest = sym c.is ∙ (there ∙ cut) in
+      let none : BeginsNone party_there rest = begins_none_more party_there s.since end_there (subst (λ z. BeginsNone z s.since) party s.within) tt in
       let reached : counts place front ≤ counts place part =
-      reaches is_count p (Bits ResetAll) front (c.during ++ end) part rest both none in
+      reaches is_count party_there (Bits ResetAll) front (c.during ++ end) part rest both none in
       let grown = counts_more place old.seen c.others in
       let begun = counts_more place s.before (Begun q s.start ∷ []) in
       let adds = (take_adds old new step capacity visit taken place).0 in

@@ -33,7 +33,7 @@ module _ (f : Event ℕ → ℕ) (p : ℕ) where
   own_none e none = go (is_party p (whose e))
     where
       go : (b : Bool) → sum_by f (if b then e ∷ [] else []) ≡ 0
-      go true = let is = sum_by-cons f e [] in omega arith
+      go true = omega (arith, sum_by-cons f e [])
       go false = refl
 
   -- the events of a party's first call sum to what the call wrote
@@ -75,6 +75,5 @@ pub holds_first : (p index : ℕ) (old new : View ℕ)
 holds_first p index old new c first =
     let claimed = sum_own (claims index) p (Indices Acquire) (answers.Index index) (Claimed p index ∷ []) old new c refl refl first in
     let freed = sum_own (frees index) p (Indices Acquire) (answers.Index index) (Claimed p index ∷ []) old new c refl refl first in
-    let one = one_claim index p in
     let none : sum_by (frees {T = ℕ} index) (Claimed p index ∷ []) ≡ 0 = refl in
-    omega arith
+    omega (arith, one_claim index p)

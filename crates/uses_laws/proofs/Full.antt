@@ -26,11 +26,13 @@ module _ (owner : ℕ) (old new : View ℕ) (taken : HasTaken owner (Err OutOfIn
       → ((p : ℕ) → f (Finished p (Robust (Acquire owner)) (NoIndex OutOfIndices)) ≡ 0)
       → sum_by f new.made ≡ sum_by f old.made
   same_of f begins ends =
-      let all = sum_made f taken.by (Robust (Acquire owner)) (NoIndex OutOfIndices) taken.wrote old new taken.called in
-      let none = ap (sum_by f) taken.tells in
-      let a = begins taken.by in
-      let b = ends taken.by in
-      omega arith
+      omega (
+        arith,
+        sum_made f taken.by (Robust (Acquire owner)) (NoIndex OutOfIndices) taken.wrote old new taken.called,
+        ap (sum_by f) taken.tells,
+        begins taken.by,
+        ends taken.by,
+      )
 
   -- what a young pass has made is young still after the refusal
   still_young : IsYoung old.made → IsYoung new.made
@@ -61,9 +63,7 @@ was_full apart owner old new taken refused whole young =
     let last = refused.answered in
     ⊎_elim
     (λ worn. (
-    let many = worn (apart new.seen now.unlocked) in
-    let few = now.few in
-    absurd (omega arith)))
+    absurd (omega (arith, worn (apart new.seen now.unlocked), now.few))))
     (λ full. record {
       by = last.by;
       full = λ index below. subst (HeldSometime last.by (IsFilled index)) (sym last.is)
@@ -77,8 +77,10 @@ module _ (owner index : ℕ) (old new : View ℕ) (taken : HasTaken owner (Ok in
   -- an index that nobody has given back is not given back by the acquire
   pub never_freed : (i : ℕ) → times_freed i old.made ≡ 0 → times_freed i new.seen ≡ 0
   never_freed i never =
-      let all = sum_made (freeing i) taken.by (Robust (Acquire owner)) (Index index) taken.wrote old new taken.called in
-      let wrote = ap (times_freed i) taken.tells.1 in
       let none : times_freed {T = ℕ} i (Filled taken.by index owner ∷ Granted taken.by index owner ∷ []) ≡ 0 = refl in
-      let is = whole (freeing i) in
-      omega arith
+      omega (
+        arith,
+        sum_made (freeing i) taken.by (Robust (Acquire owner)) (Index index) taken.wrote old new taken.called,
+        ap (times_freed i) taken.tells.1,
+        whole (freeing i),
+      )

@@ -30,7 +30,7 @@ module _ {T : Type 0} where
   not_before p (Finished q start answer ∷ es) n r e =
       go (λ x. not_before p es (n + 1) r x) (cases_eq q p)
     where
-      -- so it is where the first of them is the party's response
+      -- the first of these events is the party's response, and stands at that place or later
       mine : q ≡ p → n ≤ r.place
       mine same =
           let is : Some (response_at n answer) ≡ Some r = sym (responded p q start answer es n same) ∙ e in
@@ -39,11 +39,11 @@ module _ {T : Type 0} where
           omega arith
 
       theirs : (response_in p es (n + 1) ≡ Some r → n + 1 ≤ r.place) → q ≢ p → n ≤ r.place
-      theirs later ne = let more = later (sym (passed p q start answer es n ne) ∙ e) in omega arith
+      theirs later ne = omega (arith, later (sym (passed p q start answer es n ne) ∙ e))
 
       go : (response_in p es (n + 1) ≡ Some r → n + 1 ≤ r.place) → (q ≡ p) ⊎ (q ≢ p) → n ≤ r.place
       go later either = ⊎_elim mine (theirs later) either
-  not_before p (x ∷ es) n r e = let more = not_before p es (n + 1) r e in omega arith
+  not_before p (x ∷ es) n r e = omega (arith, not_before p es (n + 1) r e)
 
   -- a call responds after its invocation
   responds : (es : List (Event T)) (n : ℕ) (call : Call T) (r : Response T) → Contains (calls_from es n) call → call.response ≡ Some r → call.place < r.place
@@ -52,13 +52,12 @@ module _ {T : Type 0} where
       ⊎_elim here (λ more. responds es (n + 1) call r more e)
       (split (call_at n p start (response_in p es (n + 1))) call (calls_from es (n + 1)) there)
     where
-      -- so does the call that the first event begins
+      -- the call that the first event begins responds after its invocation
       here : call_at n p start (response_in p es (n + 1)) ≡ call → call.place < r.place
       here same =
           let is : response_in p es (n + 1) ≡ Some r = ap (λ (z : Call T). z.response) same ∙ e in
-          let low = not_before p es (n + 1) r is in
           let place : n ≡ call.place = ap (λ (z : Call T). z.place) same in
-          omega arith
+          omega (arith, not_before p es (n + 1) r is)
   responds (x ∷ es) n call r there e = responds es (n + 1) call r there e
 
   -- x and y are calls, r is the response to x, which comes before y
@@ -69,10 +68,8 @@ module _ {T : Type 0} where
     -- a call that precedes another is another
     apart : (history : List (Event T)) → Contains (calls_of history) x → x ≡ y → ⊥
     apart history there same =
-        let late = responds history 0 x r there done in
-        let early = ends_before in
         let place : x.place ≡ y.place = ap (λ (z : Call T). z.place) same in
-        omega arith
+        omega (arith, responds history 0 x r there done, ends_before)
 
   -- ---- a linearization
 
@@ -109,7 +106,7 @@ module _ {T : Type 0} where
             let is : (y, b) ≡ (x, a) = cc in
             absurd (apart x y r done before history there (sym (ap (λ (z : Call T × Answer T). z.0) is)))
 
-        -- nor does the second stand before the first
+        -- the second call does not stand before the first
         other : two.0 ≤ one.0 → two.0 ≢ one.0 → one.0 < two.0
         other most ne =
             let less : two.0 < one.0 = omega arith in

@@ -83,5 +83,5 @@ one_of_two chosen one none = one_at_least (chosen 0) (chosen 1) one none
 -- ---- an index that was filled and freed has no owner, and no other has one
 
 pub none_stays : (b : Bool) → is_some {T = ℕ} (if b then None else (if b then Some 7 else None)) ≡ true → ⊥
-none_stays true e = cc
-none_stays false e = cc
+none_stays true some = cc
+none_stays false some = cc

@@ -23,7 +23,7 @@ pub record Laws (T : Type 0) (kind : Kind) (bound : Bound) : Type 0 where
   pub asks : KnownAsksLoad T kind bound
   pub rest : PassesRest T kind bound
 
--- and those of passes that have seen no call begin but such ones
+-- the laws of passes that have seen no call begin but such ones
 pub record LawsOf (T : Type 0) (kind : Kind) (Such : Start T → Type 0) (bound : Bound) : Type 0 where
   pub ends : PassesEndOf T kind Such bound
   pub keep : PassesKeepEndingOf T kind Such bound

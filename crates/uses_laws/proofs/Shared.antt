@@ -19,10 +19,7 @@ module _ (f : ℕ → ℕ) where
   -- numbers of at most 1 sum to no more than how many they are
   sum_few : (n : ℕ) → ((i : ℕ) → f i ≤ 1) → sum_below f n ≤ n
   sum_few zero few = omega arith
-  sum_few (suc n) few =
-      let here = few n in
-      let rest = sum_few n few in
-      omega arith
+  sum_few (suc n) few = omega (arith, few n, sum_few n few)
 
   -- where so many are summed to so much, each is 1
   all_one : (n : ℕ) → ((i : ℕ) → f i ≤ 1) → n ≤ sum_below f n → (i : ℕ) → i < n → 1 ≤ f i
@@ -50,33 +47,25 @@ module _ (c : ℕ) (seen made mine other : List (Event ℕ)) (held : ℕ → Boo
 
   -- two passes that know all hold no more indices than there are
   pub few_held : (is js : List ℕ) → HeldBy is mine → HeldBy js other → length is + length js ≤ c
-  few_held is js one two =
-      let long = length_is c (is ++ js) none in
-      let few = sum_few (λ i. times i (is ++ js)) c once in
-      let both = length-append is js in
-      omega arith
+  few_held is js one two = omega (arith, length_is c (is ++ js) none, sum_few (λ i. times i (is ++ js)) c once, length-append is js)
     where
       -- no index is held twice by both
       once : (i : ℕ) → times i (is ++ js) ≤ 1
       once i =
           let both = times_both i is js in
-          let a = one i in
-          let b = two i in
           let claimed = sum_both (claims i) in
           let freed = sum_both (frees i) in
           let sum_is = conserved i in
           let most = at_most_one (held i) in
-          omega arith
+          omega (arith, one i, two i)
 
       -- no index past the capacity is held
       none : (i : ℕ) → c ≤ i → times i (is ++ js) ≡ 0
       none i past =
           let both = times_both i is js in
-          let a = one i in
-          let b = two i in
           let claimed = sum_both (claims i) in
           let zero_is = behind i past in
-          omega arith
+          omega (arith, one i, two i)
 
   -- where one pass holds all indices the other holds nothing
   pub none_else : ((i : ℕ) → sum_by (frees i) other ≤ sum_by (claims i) other) → (is : List ℕ) → HeldBy is mine → length is ≡ c → HoldsNothing other
@@ -85,39 +74,29 @@ module _ (c : ℕ) (seen made mine other : List (Event ℕ)) (held : ℕ → Boo
       -- no index is held twice by the one
       once : (j : ℕ) → times j is ≤ 1
       once j =
-          let a = one j in
           let claimed = sum_both (claims j) in
           let freed = sum_both (frees j) in
           let sum_is = conserved j in
           let most = at_most_one (held j) in
           let low = least j in
-          omega arith
+          omega (arith, one j)
 
       -- no index past the capacity is held by the one
       none : (j : ℕ) → c ≤ j → times j is ≡ 0
-      none j far =
-          let a = one j in
-          let claimed = sum_both (claims j) in
-          let zero_is = behind j far in
-          omega arith
+      none j far = omega (arith, one j, sum_both (claims j), behind j far)
 
       -- of an index below the capacity the other has freed what it claimed
       below : i < c → times i [] + sum_by (frees i) other ≡ sum_by (claims i) other
       below less =
           let sum = length_is c is none in
           let here : 1 ≤ times i is = all_one (λ j. times j is) c once (omega arith) i less in
-          let a = one i in
           let claimed = sum_both (claims i) in
           let freed = sum_both (frees i) in
           let sum_is = conserved i in
           let most = at_most_one (held i) in
           let low = least i in
-          omega arith
+          omega (arith, one i)
 
-      -- so it has of an index past the capacity
+      -- the other has freed what it claimed of an index past the capacity
       past : c ≤ i → times i [] + sum_by (frees i) other ≡ sum_by (claims i) other
-      past far =
-          let claimed = sum_both (claims i) in
-          let zero_is = behind i far in
-          let low = least i in
-          omega arith
+      past far = omega (arith, sum_both (claims i), behind i far, least i)

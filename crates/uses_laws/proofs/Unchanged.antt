@@ -13,8 +13,8 @@ use Rattle.lock_free.specs.Value.Reading.{IsLast}
 use Rattle.lock_free.specs.Value.Stored.{stored, stores}
 
 none_left : {A : Type 0} (xs : List A) → length xs ≡ 0 → xs ≡ []
-none_left [] e = refl
-none_left (x ∷ xs) e = absurd (omega arith)
+none_left [] length_is_zero = refl
+none_left (x ∷ xs) length_is_zero = absurd (omega arith)
 
 module _ {T : Type 0} where
   more : (before rest after : List (Event T)) → after ≡ before ++ rest → stored after ≡ stored before ++ stored rest
@@ -26,18 +26,18 @@ module _ {T : Type 0} where
 
   -- where nothing was stored from the begin of a load on, it loaded the last value
   pub still_last : (x : T) (a b d : View T) → HasLoaded x a b → IsBeginning b.seen d.seen → stored d.seen ≡ stored a.seen → IsLast x (stored d.seen)
-  still_last x a b d h on same =
-      let act : Event T = Acted h.by (Atomic Load) (Loaded x) in
-      let rest : List (Event T) = act ∷ (h.after ++ on.rest) in
-      let whole : d.seen ≡ h.before ++ rest =
-      on.is ∙ (ap (λ es. es ++ on.rest) h.is ∙ append_assoc h.before (act ∷ h.after) on.rest) in
-      let since : stored h.before ≡ stored a.seen ++ stored h.since.rest = more a.seen h.since.rest h.before h.since.is in
-      let later : stored d.seen ≡ stored h.before ++ stored rest = more h.before rest d.seen whole in
+  still_last x a b d loaded on same =
+      let act : Event T = Acted loaded.by (Atomic Load) (Loaded x) in
+      let rest : List (Event T) = act ∷ (loaded.after ++ on.rest) in
+      let whole : d.seen ≡ loaded.before ++ rest =
+      on.is ∙ (ap (λ es. es ++ on.rest) loaded.is ∙ append_assoc loaded.before (act ∷ loaded.after) on.rest) in
+      let since : stored loaded.before ≡ stored a.seen ++ stored loaded.since.rest = more a.seen loaded.since.rest loaded.before loaded.since.is in
+      let later : stored d.seen ≡ stored loaded.before ++ stored rest = more loaded.before rest d.seen whole in
       let l1 = ap length since in
       let l2 = ap length later in
       let l3 = ap length same in
-      let l4 = length-append (stored a.seen) (stored h.since.rest) in
-      let l5 = length-append (stored h.before) (stored rest) in
+      let l4 = length-append (stored a.seen) (stored loaded.since.rest) in
+      let l5 = length-append (stored loaded.before) (stored rest) in
       let none : stored rest ≡ [] = none_left (stored rest) (omega arith) in
-      let is : stored d.seen ≡ stored h.before = later ∙ (ap (λ zs. stored h.before ++ zs) none ∙ append-nil (stored h.before)) in
-      subst (IsLast x) (sym is) h.last
+      let is : stored d.seen ≡ stored loaded.before = later ∙ (ap (λ zs. stored loaded.before ++ zs) none ∙ append-nil (stored loaded.before)) in
+      subst (IsLast x) (sym is) loaded.last

@@ -80,7 +80,7 @@ module _ (given : Owned ℕ) where
   settled_is old new idle settled = ⊎_elim (λ same. same.0) (λ (s : Settles old new). absurd (rests s)) settled
     where
       rests : Settles old new → ⊥
-      rests s = let going = s.resting.going in cc
+      rests settles = let going = settles.resting.going in cc
 
   -- what it leaves of the sums over what the pass made
   record Leaves (old new : View ℕ) : Type 0 where
@@ -98,10 +98,10 @@ module _ (given : Owned ℕ) where
       λ f. sum_made f h.by start (added r) es h.from new h.called in
       subst (λ (v : View ℕ). Leaves v new) (sym is)
       (record {
-        recovered = (let all = made recovery in let none = so.recovered in omega arith);
-        removed = (let all = made removal in let none = so.removed in omega arith);
-        unlocked = (let all = made lock_call in let none = so.unlocked in omega arith);
-        few = (let one = made change in let two = made rise in let few = so.few in omega arith);
+        recovered = omega (arith, made recovery, so.recovered);
+        removed = omega (arith, made removal, so.removed);
+        unlocked = omega (arith, made lock_call, so.unlocked);
+        few = omega (arith, made change, made rise, so.few);
       })
 
   leaves : (r : Added) (old new : View ℕ) → old.going ≡ None → HasAdded given r old new → Leaves old new
@@ -118,11 +118,11 @@ module _ (laws : Laws) (code : Coding ℕ) (capacity : ℕ) (old between new : V
       let a = leaves one r old between idle first in
       let b = leaves two s between new rested second in
       let recovered : recoveries new.seen ≡ 0 =
-      (let same = all recovery in let x = a.recovered in let y = b.recovered in let was = calm.recovered in omega arith) in
+      omega (arith, all recovery, a.recovered, b.recovered, calm.recovered) in
       let removed : removals new.seen ≡ 0 =
-      (let same = all removal in let x = a.removed in let y = b.removed in let was = calm.removed in omega arith) in
+      omega (arith, all removal, a.removed, b.removed, calm.removed) in
       let unlocked : lock_calls new.seen ≡ 0 =
-      (let same = all lock_call in let x = a.unlocked in let y = b.unlocked in let was = calm.unlocked in omega arith) in
+      omega (arith, all lock_call, a.unlocked, b.unlocked, calm.unlocked) in
       laws.whole code capacity new.seen history
       (record {
         well_formed = laws.well_formed new.seen removed;
@@ -131,8 +131,6 @@ module _ (laws : Laws) (code : Coding ℕ) (capacity : ℕ) (old between new : V
         young =
             (let changed = all change in
             let rose = all rise in
-            let x = a.few in
-            let y = b.few in
             let was = calm.few in
-            omega arith);
+            omega (arith, a.few, b.few));
       })

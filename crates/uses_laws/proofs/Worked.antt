@@ -155,17 +155,17 @@ parted_in_three =
 
 -- one operation too many is asked for, or more is aside
 asks_for_four : HasParted first (record producer { asked = 3 }) consumer → ⊥
-asks_for_four k = let most : 3 + 1 ≤ 0 + 3 = k.asked in absurd (omega (most, arith))
+asks_for_four parted = let most : 3 + 1 ≤ 0 + 3 = parted.asked in absurd (omega (most, arith))
 
 four_aside : HasParted first (record producer { aside = 3 }) (record consumer { aside = 1 }) → ⊥
-four_aside k = let most : 3 + 1 ≤ 0 + 3 = k.aside in absurd (omega (most, arith))
+four_aside parted = let most : 3 + 1 ≤ 0 + 3 = parted.aside in absurd (omega (most, arith))
 
 -- an end has the whole share, has forgotten what the pass made, or has the other role
 keeps_all : HasParted first (record producer { share = first.share }) consumer → ⊥
-keeps_all k = let e = k.producing.share in cc
+keeps_all parted = let e = parted.producing.share in cc
 
 forgets_made : HasParted (record first { made = role_taken 2 roles.Producer }) producer consumer → ⊥
-forgets_made k = let e = k.produces in cc
+forgets_made parted = let e = parted.produces in cc
 
 two_producers : HasParted first producer (record consumer { made = role_taken 1 roles.Producer }) → ⊥
-two_producers k = let e = k.consumes in cc
+two_producers parted = let e = parted.consumes in cc

@@ -37,11 +37,11 @@ said : (start : RobustStart) (answer : Answer ℕ) (Right : ℕ → List (Event 
     → Saw before by start answer w
     → Answered start answer Right v w
     → Right by before
-said start answer Right before by v w is k =
-    let e = same_from_push before k.before (Finished by (Robust start) answer) (Finished k.by (Robust start) answer) (sym is ∙ k.is) in
-    let ends : Finished by (Robust start) answer ≡ Finished k.by (Robust start) answer = e.1 in
-    let who : k.by ≡ by = cc in
-    subst (λ (p : ℕ). Right p before) who (subst (λ (es : List (Event ℕ)). Right k.by es) (sym e.0) k.right)
+said start answer Right before by v w is answered =
+    let e = same_from_push before answered.before (Finished by (Robust start) answer) (Finished answered.by (Robust start) answer) (sym is ∙ answered.is) in
+    let ends : Finished by (Robust start) answer ≡ Finished answered.by (Robust start) answer = e.1 in
+    let who : answered.by ≡ by = cc in
+    subst (λ (p : ℕ). Right p before) who (subst (λ (es : List (Event ℕ)). Right answered.by es) (sym e.0) answered.right)
 
 -- ---- a release
 
@@ -52,8 +52,8 @@ pub release_fails_of_its_owner : (index owner by : ℕ) (mode : ReleaseMode) (fa
     → filled_of index before ≡ Some owner
     → IsRightRelease index owner mode (Err failure) v w
     → ⊥
-release_fails_of_its_owner index owner by mode failure before v w is has k =
-    said (Release index owner mode) (NotOwned failure) _ before by v w is k has
+release_fails_of_its_owner index owner by mode failure before v w is has right_release =
+    said (Release index owner mode) (NotOwned failure) _ before by v w is right_release has
 
 -- it answers Locked where nothing is locked, or Unlocked in the mode that locks, where all is
 pub release_says_locked : (index owner by : ℕ) (mode : ReleaseMode) (before : List (Event ℕ)) (v w : View ℕ)
@@ -61,8 +61,8 @@ pub release_says_locked : (index owner by : ℕ) (mode : ReleaseMode) (before : 
     → is_locked before ≡ false
     → IsRightRelease index owner mode (Ok Locked) v w
     → ⊥
-release_says_locked index owner by mode before v w is unlocked k =
-    let locked : is_locked before ≡ true = said (Release index owner mode) (State Locked) _ before by v w is k in
+release_says_locked index owner by mode before v w is unlocked right_release =
+    let locked : is_locked before ≡ true = said (Release index owner mode) (State Locked) _ before by v w is right_release in
     cc
 
 -- a release that may lock, and answers Unlocked where all is locked, is refused
@@ -71,8 +71,8 @@ pub release_says_unlocked : (index owner by : ℕ) (before : List (Event ℕ)) (
     → is_locked before ≡ true
     → IsRightRelease index owner LockIfLastIndex (Ok Unlocked) v w
     → ⊥
-release_says_unlocked index owner by before v w is locked k =
-    let unlocked : is_locked before ≡ false = (said (Release index owner LockIfLastIndex) (State Unlocked) _ before by v w is k).0 in
+release_says_unlocked index owner by before v w is locked right_release =
+    let unlocked : is_locked before ≡ false = (said (Release index owner LockIfLastIndex) (State Unlocked) _ before by v w is right_release).0 in
     cc
 
 -- it has freed the last index, and did not lock
@@ -93,13 +93,13 @@ apart =
 
 -- a release that has freed the last index, might lock and answers Unlocked is refused
 pub release_leaves_the_last : IsRightRelease 0 7 LockIfLastIndex (Ok Unlocked) first (saw emptied 1 releases (State Unlocked)) → ⊥
-release_leaves_the_last k =
+release_leaves_the_last right_release =
     ⊎_elim (λ worn. let late : 2 ^ 64 - 2 ≤ 6 = worn apart in absurd (omega arith))
     (λ since. at_none_since 1 (Robust releases) (λ part. IsOneOf (Frees 0 7) (set_acts_of 1 part) × IsFilled since.other part)
     (Filled 0 0 7 ∷ []) (FreedOf 1 0 7 ∷ [])
     ((λ h. no_more h.0.before (Frees 0 7) h.0.after h.0.is), (λ h. none_stays (0 == since.other) h.1))
     since.once)
-    (said releases (State Unlocked) _ emptied 1 first (saw emptied 1 releases (State Unlocked)) refl k).1
+    (said releases (State Unlocked) _ emptied 1 first (saw emptied 1 releases (State Unlocked)) refl right_release).1
 
 -- ---- a recovery
 
@@ -109,8 +109,8 @@ pub recovery_says_locked : (by : ℕ) (mode : ReleaseMode) (before : List (Event
     → is_locked before ≡ false
     → IsRightRecovery mode Locked v w
     → ⊥
-recovery_says_locked by mode before v w is unlocked k =
-    let locked : is_locked before ≡ true = said (Recover mode) (State Locked) _ before by v w is k in
+recovery_says_locked by mode before v w is unlocked right_recovery =
+    let locked : is_locked before ≡ true = said (Recover mode) (State Locked) _ before by v w is right_recovery in
     cc
 
 -- a recovery that answers Unlocked where all is locked is refused
@@ -119,8 +119,8 @@ pub recovery_says_unlocked : (by : ℕ) (mode : ReleaseMode) (before : List (Eve
     → is_locked before ≡ true
     → IsRightRecovery mode Unlocked v w
     → ⊥
-recovery_says_unlocked by mode before v w is locked k =
-    let unlocked : is_locked before ≡ false = (said (Recover mode) (State Unlocked) _ before by v w is k).0 in
+recovery_says_unlocked by mode before v w is locked right_recovery =
+    let unlocked : is_locked before ≡ false = (said (Recover mode) (State Unlocked) _ before by v w is right_recovery).0 in
     cc
 
 -- it has asked about nothing, where an index had an owner through all of it
@@ -128,8 +128,8 @@ abbrev unasked : List (Event ℕ)
 unasked = Filled 0 0 7 ∷ Begun 1 (Robust (Recover Default)) ∷ []
 
 pub recovery_asks_nothing : IsRightRecovery Default Unlocked first (saw unasked 1 (Recover Default) (State Unlocked)) → ⊥
-recovery_asks_nothing k =
-    let right = said (Recover Default) (State Unlocked) _ unasked 1 first (saw unasked 1 (Recover Default) (State Unlocked)) refl k in
+recovery_asks_nothing right_recovery =
+    let right = said (Recover Default) (State Unlocked) _ unasked 1 first (saw unasked 1 (Recover Default) (State Unlocked)) refl right_recovery in
     let one = right.1.asked 0 7 (throughout 1 (Robust (Recover Default)) (StillToFree 1 7 0) (Filled 0 0 7 ∷ []) [] (inl refl)) in
     no_more one.before (Asks 0 7) one.after one.is
 
@@ -141,8 +141,8 @@ pub count_of_a_locked_set : (number by : ℕ) (before : List (Event ℕ)) (v w :
     → is_locked before ≡ true
     → IsRightCount (suc number) v w
     → ⊥
-count_of_a_locked_set number by before v w is locked k =
-    let none : suc number ≡ 0 = (said BorrowedIndices (Number (suc number)) _ before by v w is k).0 locked in
+count_of_a_locked_set number by before v w is locked right_count =
+    let none : suc number ≡ 0 = (said BorrowedIndices (Number (suc number)) _ before by v w is right_count).0 locked in
     cc
 
 -- it counts two, or none, where one index had an owner at each moment of it
@@ -150,15 +150,15 @@ abbrev one : List (Event ℕ)
 one = Filled 0 0 7 ∷ Begun 1 (Robust BorrowedIndices) ∷ []
 
 pub counts_two_of_one : IsRightCount 2 first (saw one 1 BorrowedIndices (Number 2)) → ⊥
-counts_two_of_one k =
-    let right = (said BorrowedIndices (Number 2) _ one 1 first (saw one 1 BorrowedIndices (Number 2)) refl k).1 refl in
+counts_two_of_one right_count =
+    let right = (said BorrowedIndices (Number 2) _ one 1 first (saw one 1 BorrowedIndices (Number 2)) refl right_count).1 refl in
     at_none_since 1 (Robust BorrowedIndices) (IsFilled 1) (Filled 0 0 7 ∷ []) [] (λ e. cc)
     (right.once 1 (omega arith) (both_of_two right.chosen right.is))
 
 -- a count of none, where one index had an owner throughout, is refused
 pub counts_none_of_one : IsRightCount 0 first (saw one 1 BorrowedIndices (Number 0)) → ⊥
-counts_none_of_one k =
-    let right = (said BorrowedIndices (Number 0) _ one 1 first (saw one 1 BorrowedIndices (Number 0)) refl k).1 refl in
+counts_none_of_one right_count =
+    let right = (said BorrowedIndices (Number 0) _ one 1 first (saw one 1 BorrowedIndices (Number 0)) refl right_count).1 refl in
     one_of_two right.chosen
     (right.through 0 (omega arith) (throughout 1 (Robust BorrowedIndices) (IsFilled 0) (Filled 0 0 7 ∷ []) [] refl))
     right.is
@@ -170,6 +170,6 @@ pub look_says_otherwise : (by : ℕ) (before : List (Event ℕ)) (v w : View ℕ
     → is_locked before ≡ false
     → IsRightLook true v w
     → ⊥
-look_says_otherwise by before v w is unlocked k =
-    let locked : true ≡ is_locked before = said IsLocked (Truth true) _ before by v w is k in
+look_says_otherwise by before v w is unlocked right_look =
+    let locked : true ≡ is_locked before = said IsLocked (Truth true) _ before by v w is right_look in
     cc

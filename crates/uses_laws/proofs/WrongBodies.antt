@@ -78,28 +78,25 @@ other_share : (part parts other others : ℕ) → 0 < parts → 0 < other → pa
     → ⊥
 other_share part parts other others whole some all is =
     let four = eq_of_mul-eq-mul_left parts whole _ _ (all ∙ (add-mul parts parts (parts + parts) ∙ sym (mul-add parts (parts + parts) (parts + parts)))) in
-    let same = ap (λ (n : ℕ). part * n) four ∙ mul-add part (parts + parts) (parts + parts) in
-    let more = mul-pos some whole in
-    absurd (omega arith)
+    absurd (omega (arith, ap (λ (n : ℕ). part * n) four ∙ mul-add part (parts + parts) (parts + parts), mul-pos some whole))
 
 module _ {T : Type 0} where
   -- what a call makes: its begin, what it wrote, and its end
   pub makes : (p : ℕ) (start : Start T) (answer : Answer T) (wrote : List (Event T)) (v w : View T) → Called p start answer wrote v w
       → length w.made ≡ length v.made + (2 + length wrote)
   makes p start answer wrote v w c =
-      let all = length-append v.made (Begun p start ∷ (wrote ++ Finished p start answer ∷ [])) in
-      let last = length-append wrote (Finished p start answer ∷ []) in
-      let same = ap length c.made in
-      omega arith
+      omega (
+        arith,
+        length-append v.made (Begun p start ∷ (wrote ++ Finished p start answer ∷ [])),
+        length-append wrote (Finished p start answer ∷ []),
+        ap length c.made,
+      )
 
   -- a pass that has made nothing has made no call
   pub no_call : (p : ℕ) (start : Start T) (answer : Answer T) (wrote : List (Event T)) (v w : View T) → w.made ≡ v.made
       → Called p start answer wrote v w
       → ⊥
-  no_call p start answer wrote v w none c =
-      let long = makes p start answer wrote v w c in
-      let same = ap length none in
-      absurd (omega arith)
+  no_call p start answer wrote v w none c = absurd (omega (arith, makes p start answer wrote v w c, ap length none))
 
   -- one call wrote and answered just one thing
   pub made_once : (p q : ℕ) (start : Start T) (one other : Answer T) (wrote written : List (Event T)) (v w : View T)
@@ -107,7 +104,7 @@ module _ {T : Type 0} where
       → Called q start other written v w
       → (wrote ≡ written) × (Finished p start one ≡ Finished q start other)
   made_once p q start one other wrote written v w c d =
-      let is = append_cancel_left v.made _ _ (sym c.made ∙ d.made) in
+      let same_end = append_cancel_left v.made _ _ (sym c.made ∙ d.made) in
       let rest : wrote ++ Finished p start one ∷ [] ≡ written ++ Finished q start other ∷ [] = cc in
       same_from_push _ _ _ _ rest
 
@@ -115,47 +112,45 @@ module _ {T : Type 0} where
 
   -- a push that answers true, and has not called
   pub push_writes_nothing : (item : Item T) (v : View T) → PushDone item v v → ⊥
-  push_writes_nothing item v k = no_call _ _ _ _ v v refl k.0.called
+  push_writes_nothing item v push_done = no_call _ _ _ _ v v refl push_done.0.called
 
   -- one that answers false after a look, where the last position is not reached
   pub push_is_false_after_a_look : (capacity : ℕ) (item : Item T) (v w : View T) → HasLooked v w → length (published w.seen) < 2 ^ 64 - 1
       → PushRefused capacity item v w
       → ⊥
-  push_is_false_after_a_look capacity item v w look few k =
+  push_is_false_after_a_look capacity item v w look few push_refused =
       ⊎_elim (λ full. no_call _ _ _ _ v w look.made full.0.called)
-      (λ end. let e = end.end in absurd (omega arith))
-      k
+      (λ end. absurd (omega (arith, end.end)))
+      push_refused
 
   -- one that answers false since it did not get a lock
   pub mutex_round_the_words : (capacity : ℕ) (item : Item T) (v : View T) → length (published v.seen) < 2 ^ 64 - 1
       → PushRefused capacity item v v
       → ⊥
-  mutex_round_the_words capacity item v few k =
-      push_is_false_after_a_look capacity item v v (record { made = refl; whole = λ all. refl }) few k
+  mutex_round_the_words capacity item v few push_refused =
+      push_is_false_after_a_look capacity item v v (record { made = refl; whole = λ all. refl }) few push_refused
 
   -- a pop that answers none after a look
   pub pop_takes_nothing : (v w : View T) → HasLooked v w → PopEmpty v w → ⊥
-  pop_takes_nothing v w look k = no_call _ _ _ _ v w look.made k.0.called
+  pop_takes_nothing v w look pop_empty = no_call _ _ _ _ v w look.made pop_empty.0.called
 
   -- one that takes two out, and answers the second, or that there is none
   pub pop_skips_a_position : (first second : Item T) (u v w : View T) → PopDone first u v → PopDone second v w → PopDone second u w → ⊥
-  pop_skips_a_position first second u v w one two k =
-      let a = ap length (one.1).list in
-      let b = ap length (two.1).list in
-      let c = ap length (k.1).list in
-      let d = length-append (handed_out u.seen) (first ∷ []) in
-      let e = length-append (handed_out v.seen) (second ∷ []) in
-      let f = length-append (handed_out u.seen) (second ∷ []) in
-      absurd (omega arith)
+  pop_skips_a_position first second u v w one two three =
+      absurd (omega (
+        arith,
+        ap length (one.1).list,
+        ap length (two.1).list,
+        ap length (three.1).list,
+        length-append (handed_out u.seen) (first ∷ []),
+        length-append (handed_out v.seen) (second ∷ []),
+        length-append (handed_out u.seen) (second ∷ []),
+      ))
 
   -- a pop that takes one out, and then finds no other, has not found the queue empty
   pub pop_skips_the_last : (first : Item T) (u v w : View T) → PopDone first u v → PopEmpty v w → PopEmpty u w → ⊥
-  pop_skips_the_last first u v w one none k =
-      let a = ap length (one.1).list in
-      let b = ap length (none.1).list in
-      let c = ap length (k.1).list in
-      let d = length-append (handed_out u.seen) (first ∷ []) in
-      absurd (omega arith)
+  pop_skips_the_last first u v w one none empty =
+      absurd (omega (arith, ap length (one.1).list, ap length (none.1).list, ap length (empty.1).list, length-append (handed_out u.seen) (first ∷ [])))
 
   -- the list of `close` without its oldest value, where nobody else may have taken that
   pub close_forgets_the_oldest : {V : Type 0} (named : V → Item T) (capacity : ℕ) (v : View T) (q : Bounded V) → IsAll v.share
@@ -163,14 +158,11 @@ module _ {T : Type 0} where
       → Closes named capacity v q
       → Closes named capacity v (popped q)
       → ⊥
-  close_forgets_the_oldest named capacity v q all some right k =
-      let a = (right.whole all).0 in
-      let b = (k.whole all).0 in
-      absurd (omega arith)
+  close_forgets_the_oldest named capacity v q all some right k = absurd (omega (arith, (right.whole all).0, (k.whole all).0))
 
   -- a producer that is handed out without a step, or while another is one
   pub role_for_two_producers : (role : Role) (v : View T) → queues.HasAcquired role true v v → ⊥
-  role_for_two_producers role v k = no_call _ _ _ _ v v refl k.called
+  role_for_two_producers role v acquired = no_call _ _ _ _ v v refl acquired.called
 
   -- a join that takes in a half of its own in place of the other pass
   pub join_adds_a_share_of_its_own : (mine theirs left right new : View T) → HasSplit mine left right → HasJoined left right new
@@ -178,79 +170,78 @@ module _ {T : Type 0} where
       → 0 < theirs.share.part
       → HasJoined mine theirs new
       → ⊥
-  join_adds_a_share_of_its_own mine theirs left right new split joined whole some k =
+  join_adds_a_share_of_its_own mine theirs left right new split joined whole some wrong_join =
       let own : new.share ≡ both_of (half_of mine.share) (half_of mine.share) = joined.share ∙ ap₂ both_of split.share split.right_share in
-      let is = sym k.share ∙ own in
+      let is = sym wrong_join.share ∙ own in
       other_share mine.share.part mine.share.parts theirs.share.part theirs.share.parts whole some
       (ap (λ (s : Share). s.parts) is) (ap (λ (s : Share). s.part) is)
 
   -- ---- the value
 
   pub role_without_a_step : (v : View T) → value.HasAcquired true v v → ⊥
-  role_without_a_step v k = no_call _ _ _ _ v v refl k.called
+  role_without_a_step v acquired = no_call _ _ _ _ v v refl acquired.called
 
   -- a store of another value than is given
   pub store_keeps_zeros : (x zeros : T) (v w : View T) → x ≢ zeros → HasStored zeros v w → HasStored x v w → ⊥
-  store_keeps_zeros x zeros v w other wrong k =
-      other (same_from_push _ _ x zeros (sym k.list ∙ wrong.list)).1
+  store_keeps_zeros x zeros v w other wrong stored =
+      other (same_from_push _ _ x zeros (sym stored.list ∙ wrong.list)).1
 
   -- a load that answers another value than it has loaded
   pub load_answers_zeros : (x zeros : T) (v w : View T) → x ≢ zeros → HasLoaded x v w → HasLoaded zeros v w → ⊥
-  load_answers_zeros x zeros v w other right k =
-      let e = (made_once _ _ _ _ _ _ _ v w right.called k.called).1 in
+  load_answers_zeros x zeros v w other right loads_zeros =
+      let e = (made_once _ _ _ _ _ _ _ v w right.called loads_zeros.called).1 in
       let same : x ≡ zeros = cc in
       other same
 
   -- a look that takes two steps
   pub look_looks_twice : (u v w : View T) → v.asked ≡ u.asked + 1 → w.asked ≡ v.asked + 1 → TakesAtMost 1 u w → ⊥
-  look_looks_twice u v w one two k = absurd (omega arith)
+  look_looks_twice u v w one two takes_at_most = absurd (omega arith)
 
   -- ---- what is aside
 
   -- a split that counts itself in what was asked for alone, as if it were a step of a call
   pub split_is_a_step : (v left right : View T) → HasSplit v left right → HasSplit v (record left { aside = v.aside }) right → ⊥
-  split_is_a_step v left right split k = let e : v.aside ≡ v.aside + 1 = k.aside in absurd (omega arith)
+  split_is_a_step v left right split wrong_split = let e : v.aside ≡ v.aside + 1 = wrong_split.aside in absurd (omega arith)
 
   -- the run has no such step
   pub split_steps_in_no_run : (code : Coding T) (kind : Kind) (capacity : ℕ) (v : View T) → IsAll v.share → Knows code kind capacity v
       → Knows code kind capacity (record (left_view v) { aside = v.aside })
       → ⊥
-  split_steps_in_no_run code kind capacity v all knows k =
+  split_steps_in_no_run code kind capacity v all knows wrong_run =
       let was : v.asked ≡ v.aside + steps_of_run code kind capacity v.turns = knows.asked.all all in
-      let most : v.asked + 1 ≤ v.aside + steps_of_run code kind capacity v.turns = k.asked.most in
+      let most : v.asked + 1 ≤ v.aside + steps_of_run code kind capacity v.turns = wrong_run.asked.most in
       absurd (omega arith)
 
   -- a call that asks for one operation more than the run has steps
   pub call_asks_once_more : (code : Coding T) (kind : Kind) (capacity : ℕ) (v : View T) → IsAll v.share → Knows code kind capacity v
       → Knows code kind capacity (record v { asked = v.asked + 1 })
       → ⊥
-  call_asks_once_more code kind capacity v all knows k =
+  call_asks_once_more code kind capacity v all knows wrong_count =
       let was : v.asked ≡ v.aside + steps_of_run code kind capacity v.turns = knows.asked.all all in
-      let most : v.asked + 1 ≤ v.aside + steps_of_run code kind capacity v.turns = k.asked.most in
+      let most : v.asked + 1 ≤ v.aside + steps_of_run code kind capacity v.turns = wrong_count.asked.most in
       absurd (omega arith)
 
   -- a join that counts one operation in what was asked for alone
   pub join_takes_a_step : (mine theirs new : View T) → HasJoined mine theirs new
       → HasJoined mine theirs (record new { asked = new.asked + 1 })
       → ⊥
-  join_takes_a_step mine theirs new joined k =
-      let is = joined.aside in
-      let more : (new.asked + 1) + (mine.aside + theirs.aside) ≡ (mine.asked + theirs.asked) + new.aside = k.aside in
-      absurd (omega arith)
+  join_takes_a_step mine theirs new joined wrong_join =
+      let more : (new.asked + 1) + (mine.aside + theirs.aside) ≡ (mine.asked + theirs.asked) + new.aside = wrong_join.aside in
+      absurd (omega (arith, joined.aside))
 
 -- a pop that looks twice beside its steps
 pub pop_looks_twice_aside : {E T : Type 0} {kind : QueueKind.Ghosts E} {words : Words.Ghosts T} (old new : QueueHeld E T (RingRule E T) kind words)
     → (token_view new).aside ≡ (token_view old).aside + 2
     → IsSameQueue old new
     → ⊥
-pop_looks_twice_aside old new two k = let one = k.aside in absurd (omega arith)
+pop_looks_twice_aside old new two same_queue = absurd (omega (arith, same_queue.aside))
 
 -- a load, or a store, that looks twice beside its steps
 pub load_looks_twice_aside : {T : Type 0} {words : Words.Ghosts T} (old new : ValueHeld T (ValueRule T) words)
     → (seen new).aside ≡ (seen old).aside + 2
     → IsSame old new
     → ⊥
-load_looks_twice_aside old new two k = let one = k.aside in absurd (omega arith)
+load_looks_twice_aside old new two is_same = absurd (omega (arith, is_same.aside))
 
 -- ---- bit sets
 
@@ -259,7 +250,7 @@ pub set_looks_twice_aside : {E : Type 0} {kind : SetKind.Ghosts E} {words : Word
     → (bits.view new).aside ≡ (bits.view old).aside + 2
     → bits.SamePass old new
     → ⊥
-set_looks_twice_aside old new two k = let one = k.aside in absurd (omega arith)
+set_looks_twice_aside old new two same_pass = absurd (omega (arith, same_pass.aside))
 
 -- a closure that notes what it is called with
 abbrev notes : {X : Type 0} → List X → X → List X → Type 0
@@ -274,30 +265,27 @@ none_twice : (before after : List ℕ) (place capacity : ℕ) → Ascends capaci
 none_twice before after place capacity up =
     let all = length-append before (place ∷ place ∷ after) in
     let less = up.0 (length before) (length before + 1) 0 (omega arith) (omega arith) in
-    let one = get_or-append_seam before place (place ∷ after) 0 in
-    let two = get_or-append-add before (place ∷ place ∷ after) 1 0 in
-    absurd (omega arith)
+    absurd (omega (arith, get_or-append_seam before place (place ∷ after) 0, get_or-append-add before (place ∷ place ∷ after) 1 0))
 
 -- what ascends below a number has none from there on
 none_past : (before after : List ℕ) (place capacity : ℕ) → capacity ≤ place → Ascends capacity (before ++ place ∷ after) → ⊥
 none_past before after place capacity past up =
     let all = length-append before (place ∷ after) in
     let less = up.1 (length before) 0 (omega arith) in
-    let one = get_or-append_seam before place after 0 in
-    absurd (omega arith)
+    absurd (omega (arith, get_or-append_seam before place after 0))
 
 -- a reset that visits a place twice, or one that there is not
 pub reset_all_visits_twice : (capacity place : ℕ) (before after : List ℕ) (v w : View ℕ)
     → HasCleanedOut notes capacity [] (before ++ place ∷ place ∷ after) v w
     → ⊥
-reset_all_visits_twice capacity place before after v w k =
-    none_twice before after place capacity (subst (Ascends capacity) (sym (noted [] k.places _ k.calls)) k.ascend)
+reset_all_visits_twice capacity place before after v w cleaned_out =
+    none_twice before after place capacity (subst (Ascends capacity) (sym (noted [] cleaned_out.places _ cleaned_out.calls)) cleaned_out.ascend)
 
 pub reset_all_past_the_capacity : (capacity place : ℕ) (before after : List ℕ) (v w : View ℕ) → capacity ≤ place
     → HasCleanedOut notes capacity [] (before ++ place ∷ after) v w
     → ⊥
-reset_all_past_the_capacity capacity place before after v w past k =
-    none_past before after place capacity past (subst (Ascends capacity) (sym (noted [] k.places _ k.calls)) k.ascend)
+reset_all_past_the_capacity capacity place before after v w past cleaned_out =
+    none_past before after place capacity past (subst (Ascends capacity) (sym (noted [] cleaned_out.places _ cleaned_out.calls)) cleaned_out.ascend)
 
 -- one of counts that hands out others than it took
 same_counts : (p q : ℕ) (xs ys : List BitState) → map (taken_by p) xs ≡ map (taken_by q) ys → xs ≡ ys
@@ -317,48 +305,49 @@ pub reset_all_hands_out_at_most_1000 : (capacity : ℕ) (took told : List BitSta
     → HasTakenOut notes capacity [] took v w
     → HasTakenOut notes capacity [] told v w
     → ⊥
-reset_all_hands_out_at_most_1000 capacity took told v w other right k =
-    let wrote = (made_once _ _ _ _ _ _ _ v w right.made.called k.made.called).0 in
-    other (noted [] right.states took right.calls ∙ (same_counts _ _ right.states k.states wrote ∙ sym (noted [] k.states told k.calls)))
+reset_all_hands_out_at_most_1000 capacity took told v w other right wrong_take =
+    let wrote = (made_once _ _ _ _ _ _ _ v w right.made.called wrong_take.made.called).0 in
+    other (noted [] right.states took right.calls
+    ∙ (same_counts _ _ right.states wrong_take.states wrote ∙ sym (noted [] wrong_take.states told wrong_take.calls)))
 
 -- ---- indices
 
 -- an acquire that hands out another index than it claimed
 pub acquire_hands_out_a_held_index : (index held : ℕ) (v w : View ℕ) → index ≢ held → HasAcquired index v w → HasAcquired held v w → ⊥
-acquire_hands_out_a_held_index index held v w other right k =
-    let e = (made_once _ _ _ _ _ _ _ v w right.taken.called k.taken.called).0 in
+acquire_hands_out_a_held_index index held v w other right wrong_acquire =
+    let e = (made_once _ _ _ _ _ _ _ v w right.taken.called wrong_acquire.taken.called).0 in
     let same : index ≡ held = cc in
     other same
 
 -- one that looks twice beside its steps
 pub acquire_looks_twice_aside : (old new : Pass) → (view new).aside ≡ (view old).aside + 2 → SamePass old new → ⊥
-acquire_looks_twice_aside old new two k = let one = k.aside in absurd (omega arith)
+acquire_looks_twice_aside old new two same_pass = absurd (omega (arith, same_pass.aside))
 
 -- one that claims an index of a set which it has seen locked
 pub acquire_goes_on_after_the_lock : (index : ℕ) (v w : View ℕ) → is_locked v.seen ≡ true → HasAcquired index v w → ⊥
-acquire_goes_on_after_the_lock index v w locked k =
-    let still = ap is_locked k.free.since.is ∙ locked_later v.seen k.free.since.rest locked in
-    let unlocked = k.free.unlocked in
+acquire_goes_on_after_the_lock index v w locked acquired =
+    let still = ap is_locked acquired.free.since.is ∙ locked_later v.seen acquired.free.since.rest locked in
+    let unlocked = acquired.free.unlocked in
     cc
 
 -- ---- the loan channel
 
 -- a loan that is given up, and stays with the pass
 pub loan_give_up_keeps_the_index : (index : ℕ) (v : View ℕ) → HasGiven index Unlocked v v → ⊥
-loan_give_up_keeps_the_index index v k = no_call _ _ _ _ v v refl k.called
+loan_give_up_keeps_the_index index v given = no_call _ _ _ _ v v refl given.called
 
 -- a loan, or a free of an index that came back, that looks twice beside its steps
 pub loan_looks_twice_aside : (old new : LoanSender) → (pass_view new).aside ≡ (pass_view old).aside + 2 → IsAsideOnce old new → ⊥
-loan_looks_twice_aside old new two k = let one = k.pass in absurd (omega arith)
+loan_looks_twice_aside old new two aside_once = absurd (omega (arith, aside_once.pass))
 
 pub loan_settle_looks_twice_aside : (index : ℕ) (v w : View ℕ) → w.aside ≡ v.aside + 2 → HasFreed index v w → ⊥
-loan_settle_looks_twice_aside index v w two k = let one = k.aside in absurd (omega arith)
+loan_settle_looks_twice_aside index v w two freed = absurd (omega (arith, freed.aside))
 
 -- a send that settles what came back before the index is Sent, where its own came back
 loaned_within : (places : List Place) (index : ℕ) → place_at places index ≡ Loaned → index < length places
 loaned_within [] index e = cc
 loaned_within (p ∷ places) zero e = omega arith
-loaned_within (p ∷ places) (suc index) e = let less = loaned_within places index e in omega arith
+loaned_within (p ∷ places) (suc index) e = omega (arith, loaned_within places index e)
 
 -- a send that settles its own index first leaves other places
 pub loan_send_settles_before_its_table : (places : List Place) (index : ℕ) → place_at places index ≡ Loaned
@@ -381,23 +370,22 @@ loan_send_settles_before_its_table places index loaned e =
 
 -- a reclaim that pops once, though something waits
 popped_all : (numbers : List ℕ) (v w : View ℕ) → InTurn HasPoppedOne numbers v w → length w.made ≡ length v.made + 4 * length numbers
-popped_all [] v w k = let e = ap (λ (u : View ℕ). length u.made) k in omega arith
-popped_all (n ∷ numbers) v w k =
-    let one = makes _ _ _ _ v k.0 k.1.called in
-    let rest = popped_all numbers k.0 w k.2 in
-    omega arith
+popped_all [] v w in_turn = omega (arith, ap (λ (u : View ℕ). length u.made) in_turn)
+popped_all (n ∷ numbers) v w in_turn = omega (arith, makes _ _ _ _ v in_turn.0 in_turn.1.called, popped_all numbers in_turn.0 w in_turn.2)
 
 -- a pop of one value is not all that a reclaim pops
 pub loan_reclaim_pops_once : (number : ℕ) (v w : View ℕ) → PopDone (Index number) v w → HasEmptied v w → ⊥
-loan_reclaim_pops_once number v w one k =
-    let once = makes _ _ _ _ v w one.0.called in
-    let all = popped_all k.numbers v k.last k.popped in
-    let none = makes _ _ _ _ k.last w k.none.called in
-    absurd (omega arith)
+loan_reclaim_pops_once number v w one emptied =
+    absurd (omega (
+      arith,
+      makes _ _ _ _ v w one.0.called,
+      popped_all emptied.numbers v emptied.last emptied.popped,
+      makes _ _ _ _ emptied.last w emptied.none.called,
+    ))
 
 -- one that looks twice beside the steps of its last pop, and once beside those of each other one
 pub loan_reclaim_looks_twice_aside : (v w : View ℕ) (k : HasEmptied v w) → w.aside ≡ v.aside + (length k.numbers + 2) → ⊥
-loan_reclaim_looks_twice_aside v w k more = let most = k.aside in absurd (omega arith)
+loan_reclaim_looks_twice_aside v w k more = absurd (omega (arith, k.aside))
 
 -- one that pushes an index, where the queue takes it
 pub loan_reclaim_pushes : (number : ℕ) (back : Option ℕ) (v w : View ℕ) → HasOverflowed number back v w → w ≡ v → ⊥
@@ -407,43 +395,43 @@ loan_reclaim_pushes number back v w pushed k = no_call _ _ _ _ v w (ap (λ (u : 
 
 -- an acquire of a robust set that looks twice beside its steps
 pub robust_looks_twice_aside : (old new : OwnerPass) → (robust.view new).aside ≡ (robust.view old).aside + 2 → robust.SamePass old new → ⊥
-robust_looks_twice_aside old new two k = let one = k.aside in absurd (omega arith)
+robust_looks_twice_aside old new two same_pass = absurd (omega (arith, same_pass.aside))
 
 -- a find that looks once more than at the lock and at each index
 pub find_looks_once_more : (capacity : ℕ) (old new : OwnerPass) → (robust.view new).aside ≡ (robust.view old).aside + (capacity + 2)
     → robust.LeavesPass (capacity + 1) old new
     → ⊥
-find_looks_once_more capacity old new more k = let most = k.aside in absurd (omega arith)
+find_looks_once_more capacity old new more leaves_pass = absurd (omega (arith, leaves_pass.aside))
 
 module _ {T : Type 0} where
   -- one whose looks count as steps of calls
   pub find_looks_in_a_run : (old new : View T) → new.asked ≡ old.asked + 1 → new.aside ≡ old.aside → OnlyLooked old new → ⊥
-  find_looks_in_a_run old new asked aside k = let is = k.aside in absurd (omega arith)
+  find_looks_in_a_run old new asked aside k = absurd (omega (arith, k.aside))
 
   -- a call on a container that looks twice beside its steps, and one that looks once more than that where a find rested
   pub add_looks_twice_aside : (old new : View T) → old.going ≡ None → new.aside ≡ old.aside + 2 → FewAside old new → ⊥
-  add_looks_twice_aside old new idle two k =
+  add_looks_twice_aside old new idle two few_aside =
       let none : to_settle old ≡ 0 = ap one_if_some idle in
-      let most : new.aside ≤ old.aside + (1 + to_settle old) = k in
+      let most : new.aside ≤ old.aside + (1 + to_settle old) = few_aside in
       absurd (omega arith)
 
   pub add_settles_twice : (call : Start T × Flight T) (old new : View T) → old.going ≡ Some call → new.aside ≡ old.aside + 3 → FewAside old new → ⊥
-  add_settles_twice call old new rests three k =
+  add_settles_twice call old new rests three few_aside =
       let one : to_settle old ≡ 1 = ap one_if_some rests in
-      let most : new.aside ≤ old.aside + (1 + to_settle old) = k in
+      let most : new.aside ≤ old.aside + (1 + to_settle old) = few_aside in
       absurd (omega arith)
 
   -- the end of a find that rested, as if the run had that step
   pub settling_is_a_step : (old new : View T) → new.asked ≡ old.asked + 1 → new.aside ≡ old.aside → Settles old new → ⊥
-  settling_is_a_step old new asked aside k = let is = k.aside in absurd (omega arith)
+  settling_is_a_step old new asked aside settles = absurd (omega (arith, settles.aside))
 
   -- an update of a state that the pass has not, as if the run had its steps
   pub update_beside_is_a_step : (old new : View T) → new.asked ≡ old.asked + 1 → new.aside ≡ old.aside → IsCounted old new → ⊥
-  update_beside_is_a_step old new asked aside k = let is = k.aside in absurd (omega arith)
+  update_beside_is_a_step old new asked aside counted = absurd (omega (arith, counted.aside))
 
 -- a look at the lock that answers otherwise than it found
 pub is_locked_is_always_true : (v w : View ℕ) → owners.HasLooked false v w → owners.HasLooked true v w → ⊥
-is_locked_is_always_true v w right k = let e = (made_once _ _ _ _ _ _ _ v w right.called k.called).1 in cc
+is_locked_is_always_true v w right wrong_look = let e = (made_once _ _ _ _ _ _ _ v w right.called wrong_look.called).1 in cc
 
 -- a find that calls its closure twice with an index: each closure that notes them, whatever it says
 abbrev hears : List ℕ → ℕ → CallbackProgression → List ℕ → Type 0
@@ -460,10 +448,10 @@ heard capacity owner number seen old new k =
 pub find_visits_twice : (capacity owner number index : ℕ) (before after : List ℕ) (v w : View ℕ)
     → HasSearched hears capacity owner [] number (before ++ index ∷ index ∷ after) v w
     → ⊥
-find_visits_twice capacity owner number index before after v w k =
-    none_twice before after index capacity (subst (Ascends capacity) (sym (heard _ _ _ _ _ _ k.found)) k.found.ascend)
+find_visits_twice capacity owner number index before after v w searched =
+    none_twice before after index capacity (subst (Ascends capacity) (sym (heard _ _ _ _ _ _ searched.found)) searched.found.ascend)
 
 module _ {T : Type 0} where
   -- both ends, taken by a pass that looked first
   pub both_ends_looks_first : (old p c : View T) → p.asked + c.asked ≡ old.asked + 4 → HasParted old p c → ⊥
-  both_ends_looks_first old p c more k = let most = k.asked in absurd (omega arith)
+  both_ends_looks_first old p c more parted = absurd (omega (arith, parted.asked))

@@ -44,11 +44,13 @@ said : (start : ContainerStart ℕ) (answer : Answer ℕ) (Right : ℕ → List 
     → Saw before by start answer w
     → Answered start answer Right v w
     → Right by before
-said start answer Right before by v w is k =
-    let e = same_from_push before k.before (Finished by (Container start) answer) (Finished k.by (Container start) answer) (sym is ∙ k.is) in
-    let ends : Finished by (Container start) answer ≡ Finished k.by (Container start) answer = e.1 in
-    let who : k.by ≡ by = cc in
-    subst (λ (p : ℕ). Right p before) who (subst (λ (es : List (Event ℕ)). Right k.by es) (sym e.0) k.right)
+said start answer Right before by v w is answered =
+    let e =
+    same_from_push before answered.before (Finished by (Container start) answer)
+    (Finished answered.by (Container start) answer) (sym is ∙ answered.is) in
+    let ends : Finished by (Container start) answer ≡ Finished answered.by (Container start) answer = e.1 in
+    let who : answered.by ≡ by = cc in
+    subst (λ (p : ℕ). Right p before) who (subst (λ (es : List (Event ℕ)). Right answered.by es) (sym e.0) answered.right)
 
 -- ---- an add
 
@@ -58,8 +60,8 @@ pub add_says_locked : (value owner by : ℕ) (before : List (Event ℕ)) (v w : 
     → is_locked before ≡ false
     → WasNotAdded value owner failures.IsLocked v w
     → ⊥
-add_says_locked value owner by before v w is unlocked k =
-    let locked : is_locked before ≡ true = said (Add value owner) (NoPlace failures.IsLocked) _ before by v w is k.answered in
+add_says_locked value owner by before v w is unlocked was_not_added =
+    let locked : is_locked before ≡ true = said (Add value owner) (NoPlace failures.IsLocked) _ before by v w is was_not_added.answered in
     cc
 
 -- an add that answers that there is no space, though the container is locked, is refused
@@ -68,8 +70,8 @@ pub add_says_full : (value owner by : ℕ) (before : List (Event ℕ)) (v w : Vi
     → is_locked before ≡ true
     → WasNotAdded value owner failures.OutOfSpace v w
     → ⊥
-add_says_full value owner by before v w is locked k =
-    let unlocked : is_locked before ≡ false = (said (Add value owner) (NoPlace failures.OutOfSpace) _ before by v w is k.answered).0 in
+add_says_full value owner by before v w is locked was_not_added =
+    let unlocked : is_locked before ≡ false = (said (Add value owner) (NoPlace failures.OutOfSpace) _ before by v w is was_not_added.answered).0 in
     cc
 
 -- there is room, and the counter is not worn
@@ -82,10 +84,10 @@ adds_apart =
     ((λ locks. cc), (tt, tt))
 
 pub add_fails_with_room : WasNotAdded 5 7 failures.OutOfSpace first (saw begun 0 (Add 5 7) (NoPlace failures.OutOfSpace)) → ⊥
-add_fails_with_room k =
+add_fails_with_room was_not_added =
     ⊎_elim (λ worn. let late : 2 ^ 64 - 2 ≤ 0 = worn adds_apart in absurd (omega arith))
     (λ full. at_none_since 0 (Container (Add 5 7)) (IsFilled 0) [] [] (λ e. cc) (full 0 (omega arith)))
-    (said (Add 5 7) (NoPlace failures.OutOfSpace) _ begun 0 first (saw begun 0 (Add 5 7) (NoPlace failures.OutOfSpace)) refl k.answered).1
+    (said (Add 5 7) (NoPlace failures.OutOfSpace) _ begun 0 first (saw begun 0 (Add 5 7) (NoPlace failures.OutOfSpace)) refl was_not_added.answered).1
 
 -- ---- a remove
 
@@ -100,9 +102,9 @@ pub remove_fails_of_its_owner : (index owner by : ℕ) (mode : ReleaseMode) (fai
     → filled_of index before ≡ Some owner
     → IsRightRemove (giving index owner mode) (Err failure) v w
     → ⊥
-remove_fails_of_its_owner index owner by mode failure before v w is within has k =
+remove_fails_of_its_owner index owner by mode failure before v w is within has right_remove =
     ⊎_elim (λ (past : v.capacity ≤ index). absurd (omega arith)) (λ other. other has)
-    (said (Remove index owner mode) (NotRemoved failure) _ before by v w is k)
+    (said (Remove index owner mode) (NotRemoved failure) _ before by v w is right_remove)
 
 -- it answers Locked where nothing is locked
 pub remove_says_locked : (index owner by : ℕ) (mode : ReleaseMode) (before : List (Event ℕ)) (v w : View ℕ)
@@ -110,8 +112,8 @@ pub remove_says_locked : (index owner by : ℕ) (mode : ReleaseMode) (before : L
     → is_locked before ≡ false
     → IsRightRemove (giving index owner mode) (Ok Locked) v w
     → ⊥
-remove_says_locked index owner by mode before v w is unlocked k =
-    let locked : is_locked before ≡ true = said (Remove index owner mode) (State Locked) _ before by v w is k in
+remove_says_locked index owner by mode before v w is unlocked right_remove =
+    let locked : is_locked before ≡ true = said (Remove index owner mode) (State Locked) _ before by v w is right_remove in
     cc
 
 -- it answers Unlocked in the mode that locks, where all was locked when it began
@@ -122,9 +124,9 @@ abbrev locked_first : ContainerStart ℕ → List (Event ℕ)
 locked_first start = events.Locked 0 ∷ Begun 1 (Container start) ∷ []
 
 pub remove_says_unlocked : IsRightRemove (giving 0 7 LockIfLastIndex) (Ok Unlocked) first (saw (locked_first removes) 1 removes (State Unlocked)) → ⊥
-remove_says_unlocked k =
+remove_says_unlocked right_remove =
     at_none_since 1 (Container removes) IsUnlocked (events.Locked 0 ∷ []) [] (λ e. cc)
-    (said removes (State Unlocked) _ (locked_first removes) 1 first (saw (locked_first removes) 1 removes (State Unlocked)) refl k).0
+    (said removes (State Unlocked) _ (locked_first removes) 1 first (saw (locked_first removes) 1 removes (State Unlocked)) refl right_remove).0
 
 -- it has freed the last index, and did not lock
 abbrev emptied : ContainerStart ℕ → List (Event ℕ)
@@ -141,13 +143,13 @@ apart start answer =
 
 -- a remove that has freed the last index, might lock and answers Unlocked is refused
 pub remove_leaves_the_last : IsRightRemove (giving 0 7 LockIfLastIndex) (Ok Unlocked) first (saw (emptied removes) 1 removes (State Unlocked)) → ⊥
-remove_leaves_the_last k =
+remove_leaves_the_last right_remove =
     ⊎_elim (λ worn. let late : 2 ^ 64 - 2 ≤ 6 = worn (apart removes (State Unlocked)) in absurd (omega arith))
     (λ since. at_none_since 1 (Container removes) (λ part. IsOneOf (Frees 0 7) (set_acts_of 1 part) × IsFilled since.other part)
     (Filled 0 0 7 ∷ []) (FreedOf 1 0 7 ∷ [])
     ((λ h. no_more h.0.before (Frees 0 7) h.0.after h.0.is), (λ h. none_stays (0 == since.other) h.1))
     since.once)
-    (said removes (State Unlocked) _ (emptied removes) 1 first (saw (emptied removes) 1 removes (State Unlocked)) refl k).1
+    (said removes (State Unlocked) _ (emptied removes) 1 first (saw (emptied removes) 1 removes (State Unlocked)) refl right_remove).1
 
 -- ---- a replace
 
@@ -161,9 +163,9 @@ pub replace_fails_of_its_owner : (index value owner by : ℕ) (failure : Contain
     → filled_of index before ≡ Some owner
     → IsRightReplace (replacing index value owner) (Err failure) v w
     → ⊥
-replace_fails_of_its_owner index value owner by failure before v w is within has k =
+replace_fails_of_its_owner index value owner by failure before v w is within has right_replace =
     ⊎_elim (λ (past : v.capacity ≤ index). absurd (omega arith)) (λ other. other has)
-    (said (Replace index value owner) (NotRemoved failure) _ before by v w is k)
+    (said (Replace index value owner) (NotRemoved failure) _ before by v w is right_replace)
 
 -- it succeeds at an index that there is not, or that another owner has
 pub replace_past_the_capacity : (index value owner by : ℕ) (before : List (Event ℕ)) (v w : View ℕ)
@@ -171,17 +173,17 @@ pub replace_past_the_capacity : (index value owner by : ℕ) (before : List (Eve
     → v.capacity ≤ index
     → IsRightReplace (replacing index value owner) (Ok tt) v w
     → ⊥
-replace_past_the_capacity index value owner by before v w is past k =
-    let within : index < v.capacity = (said (Replace index value owner) Done _ before by v w is k).0 in
+replace_past_the_capacity index value owner by before v w is past right_replace =
+    let within : index < v.capacity = (said (Replace index value owner) Done _ before by v w is right_replace).0 in
     absurd (omega arith)
 
 abbrev of_another : List (Event ℕ)
 of_another = Filled 0 0 9 ∷ Begun 1 (Container (Replace 0 5 7)) ∷ []
 
 pub replace_of_another : IsRightReplace (replacing 0 5 7) (Ok tt) first (saw of_another 1 (Replace 0 5 7) Done) → ⊥
-replace_of_another k =
+replace_of_another right_replace =
     at_none_since 1 (Container (Replace 0 5 7)) (IsFilledWith 7 0) (Filled 0 0 9 ∷ []) [] (λ e. cc)
-    (said (Replace 0 5 7) Done _ of_another 1 first (saw of_another 1 (Replace 0 5 7) Done) refl k).1
+    (said (Replace 0 5 7) Done _ of_another 1 first (saw of_another 1 (Replace 0 5 7) Done) refl right_replace).1
 
 -- ---- a recovery
 
@@ -194,8 +196,8 @@ pub recovery_says_locked : (owner by : ℕ) (mode : ReleaseMode) (before : List 
     → is_locked before ≡ false
     → IsRightRecovery (dead owner mode) Locked v w
     → ⊥
-recovery_says_locked owner by mode before v w is unlocked k =
-    let locked : is_locked before ≡ true = said (Recover owner mode) (State Locked) _ before by v w is k in
+recovery_says_locked owner by mode before v w is unlocked right_recovery =
+    let locked : is_locked before ≡ true = said (Recover owner mode) (State Locked) _ before by v w is right_recovery in
     cc
 
 -- it answers Unlocked where all was locked when it began
@@ -206,9 +208,9 @@ recovers mode = Recover 7 mode
 pub recovery_says_unlocked : (mode : ReleaseMode)
     → IsRightRecovery (dead 7 mode) Unlocked first (saw (locked_first (recovers mode)) 1 (recovers mode) (State Unlocked))
     → ⊥
-recovery_says_unlocked mode k =
+recovery_says_unlocked mode right_recovery =
     let right = said (recovers mode) (State Unlocked) _ (locked_first (recovers mode)) 1 first
-    (saw (locked_first (recovers mode)) 1 (recovers mode) (State Unlocked)) refl k in
+    (saw (locked_first (recovers mode)) 1 (recovers mode) (State Unlocked)) refl right_recovery in
     at_none_since 1 (Container (recovers mode)) (λ part. IsUnlocked part × (set_acts_of 1 part ≡ set_acts_of 1 (locked_first (recovers mode))))
     (events.Locked 0 ∷ []) [] (λ h. let e = h.0 in cc)
     right.0
@@ -218,8 +220,8 @@ abbrev unasked : List (Event ℕ)
 unasked = Filled 0 0 7 ∷ Begun 1 (Container (recovers Default)) ∷ []
 
 pub recovery_asks_nothing : IsRightRecovery (dead 7 Default) Unlocked first (saw unasked 1 (recovers Default) (State Unlocked)) → ⊥
-recovery_asks_nothing k =
-    let right = said (recovers Default) (State Unlocked) _ unasked 1 first (saw unasked 1 (recovers Default) (State Unlocked)) refl k in
+recovery_asks_nothing right_recovery =
+    let right = said (recovers Default) (State Unlocked) _ unasked 1 first (saw unasked 1 (recovers Default) (State Unlocked)) refl right_recovery in
     ⊎_elim (λ one. no_more one.before (Asks 0 7) one.after one.is) (λ one. no_more one.before (Sees 0) one.after one.is)
     (right.1.asked 0 (throughout 1 (Container (recovers Default)) (StillToFree 1 7 0) (Filled 0 0 7 ∷ []) [] (inl refl)))
 
@@ -227,9 +229,9 @@ recovery_asks_nothing k =
 pub recovery_leaves_the_last : IsRightRecovery (dead 7 LockIfLastIndex) Unlocked first
     (saw (emptied (recovers LockIfLastIndex)) 1 (recovers LockIfLastIndex) (State Unlocked))
     → ⊥
-recovery_leaves_the_last k =
+recovery_leaves_the_last right_recovery =
     let right = said (recovers LockIfLastIndex) (State Unlocked) _ (emptied (recovers LockIfLastIndex)) 1 first
-    (saw (emptied (recovers LockIfLastIndex)) 1 (recovers LockIfLastIndex) (State Unlocked)) refl k in
+    (saw (emptied (recovers LockIfLastIndex)) 1 (recovers LockIfLastIndex) (State Unlocked)) refl right_recovery in
     ⊎_elim (λ worn. let late : 2 ^ 64 - 2 ≤ 6 = worn (apart (recovers LockIfLastIndex) (State Unlocked)) in absurd (omega arith))
     (λ since. at_none_since 1 (Container (recovers LockIfLastIndex))
     (λ part. IsOneOf (Frees 0 7) (set_acts_of 1 part) × IsFilled since.other part)
@@ -246,8 +248,8 @@ pub length_of_a_locked_container : (number by : ℕ) (before : List (Event ℕ))
     → is_locked before ≡ true
     → IsRightLength (suc number) v w
     → ⊥
-length_of_a_locked_container number by before v w is locked k =
-    let none : suc number ≡ 0 = (said Len (Number (suc number)) _ before by v w is k).none locked in
+length_of_a_locked_container number by before v w is locked right_length =
+    let none : suc number ≡ 0 = (said Len (Number (suc number)) _ before by v w is right_length).none locked in
     cc
 
 -- it counts two, or none, where one index had an owner at each moment of it
@@ -255,14 +257,14 @@ abbrev one : ContainerStart ℕ → List (Event ℕ)
 one start = Filled 0 0 7 ∷ Begun 1 (Container start) ∷ []
 
 pub counts_two_of_one : IsRightLength 2 first (saw (one Len) 1 Len (Number 2)) → ⊥
-counts_two_of_one k =
-    let right = (said Len (Number 2) _ (one Len) 1 first (saw (one Len) 1 Len (Number 2)) refl k).some refl in
+counts_two_of_one right_length =
+    let right = (said Len (Number 2) _ (one Len) 1 first (saw (one Len) 1 Len (Number 2)) refl right_length).some refl in
     at_none_since 1 (Container Len) (IsFilled 1) (Filled 0 0 7 ∷ []) [] (λ e. cc)
     (right.once 1 (omega arith) (both_of_two right.chosen right.is))
 
 pub counts_none_of_one : IsRightLength 0 first (saw (one Len) 1 Len (Number 0)) → ⊥
-counts_none_of_one k =
-    let right = (said Len (Number 0) _ (one Len) 1 first (saw (one Len) 1 Len (Number 0)) refl k).some refl in
+counts_none_of_one right_length =
+    let right = (said Len (Number 0) _ (one Len) 1 first (saw (one Len) 1 Len (Number 0)) refl right_length).some refl in
     one_of_two right.chosen (right.through 0 (omega arith) (throughout 1 (Container Len) (IsFilled 0) (Filled 0 0 7 ∷ []) [] refl)) right.is
 
 -- it finds a locked container to hold something
@@ -271,8 +273,8 @@ pub test_of_a_locked_container : (by : ℕ) (before : List (Event ℕ)) (v w : V
     → is_locked before ≡ true
     → IsRightTest false v w
     → ⊥
-test_of_a_locked_container by before v w is locked k =
-    let right = said IsEmpty (Truth false) _ before by v w is k in
+test_of_a_locked_container by before v w is locked right_test =
+    let right = said IsEmpty (Truth false) _ before by v w is right_test in
     let none : false ≡ true = right.is ∙ ap (λ (n : ℕ). n == 0) (right.length.none locked) in
     cc
 
@@ -283,6 +285,6 @@ pub look_says_otherwise : (by : ℕ) (before : List (Event ℕ)) (v w : View ℕ
     → is_locked before ≡ false
     → IsRightLook true v w
     → ⊥
-look_says_otherwise by before v w is unlocked k =
-    let locked : true ≡ is_locked before = said IsLocked (Truth true) _ before by v w is k in
+look_says_otherwise by before v w is unlocked right_look =
+    let locked : true ≡ is_locked before = said IsLocked (Truth true) _ before by v w is right_look in
     cc

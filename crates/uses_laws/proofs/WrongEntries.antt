@@ -42,4 +42,4 @@ module _ {T : Type 0} where
     next_stays r gives = longer (entries_from state index) gives
       where
         longer : {x : ℕ × T} (xs : List (ℕ × T)) → xs ≡ x ∷ xs → ⊥
-        longer xs e = let n = ap length e in omega arith
+        longer xs e = omega (arith, ap length e)

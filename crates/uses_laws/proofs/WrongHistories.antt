@@ -44,7 +44,7 @@ second_out (a ∷ b ∷ c ∷ before) after by rest is oldest =
     let none : [] ≡ before ++ HandedOut by (Index 8) ∷ after = cc in no_more before (HandedOut by (Index 8)) after none
 
 pub takes_the_second : HasTakenFirst (Index 8) first took_the_second → ⊥
-takes_the_second k = second_out k.before k.after k.by k.rest k.is k.oldest
+takes_the_second taken_first = second_out taken_first.before taken_first.after taken_first.by taken_first.rest taken_first.is taken_first.oldest
 
 -- it has taken out what was out before
 seen_before : (before after rest : List (Event ℕ)) (by : ℕ) → took_the_second.seen ≡ before ++ HandedOut by (Index 8) ∷ after
@@ -58,7 +58,7 @@ seen_before before after rest by is since =
     no_more rest (HandedOut by (Index 8)) after none
 
 takes_again : HasTakenFirst (Index 8) took_the_second took_the_second → ⊥
-takes_again k = seen_before k.before k.after k.since.rest k.by k.is k.since.is
+takes_again taken_first = seen_before taken_first.before taken_first.after taken_first.since.rest taken_first.by taken_first.is taken_first.since.is
 
 -- ---- a close
 
@@ -81,7 +81,7 @@ invents k = let e = (k.whole refl).1 in cc
 -- ---- a split
 
 pub takes_the_party : HasSplit first stays same_party → ⊥
-takes_the_party k = let e = k.right_party in cc
+takes_the_party split = let e = split.right_party in cc
 
 -- the new pass has seen more or has made something, or keeps the whole share
 abbrev new : View ℕ
@@ -110,46 +110,46 @@ splits_right =
     }
 
 sees_more : HasSplit first stays (record new { seen = Locked 0 ∷ [] }) → ⊥
-sees_more k = let e = k.right_seen in cc
+sees_more split = let e = split.right_seen in cc
 
 has_made : HasSplit first stays (record new { made = Locked 0 ∷ [] }) → ⊥
-has_made k = let e = k.right_made in cc
+has_made split = let e = split.right_made in cc
 
 has_all : HasSplit first stays (record new { share = all_shares }) → ⊥
-has_all k = let e = ap (λ (s : Share). s.parts) k.right_share in cc
+has_all split = let e = ap (λ (s : Share). s.parts) split.right_share in cc
 
 -- the other one has forgotten what it saw, what it made or its party, or keeps the whole share
 forgets_seen : HasSplit (having_seen (Locked 0 ∷ [])) stays (record new { seen = Locked 0 ∷ [] }) → ⊥
-forgets_seen k = let e = k.seen in cc
+forgets_seen split = let e = split.seen in cc
 
 forgets_made : HasSplit (record first { made = Locked 0 ∷ [] }) stays new → ⊥
-forgets_made k = let e = k.made in cc
+forgets_made split = let e = split.made in cc
 
 forgets_party : HasSplit first new new → ⊥
-forgets_party k = let e = k.party in cc
+forgets_party split = let e = split.party in cc
 
 keeps_all : HasSplit first first new → ⊥
-keeps_all k = let e = k.share in cc
+keeps_all split = let e = split.share in cc
 
 -- either counts others' changes that it has not seen, or has forgotten them
 counts_more : HasSplit first stays (record new { others = 1 }) → ⊥
-counts_more k = let e = k.right_others in cc
+counts_more split = let e = split.right_others in cc
 
 forgets_others : HasSplit (record first { others = 1 }) stays new → ⊥
-forgets_others k = let e = k.others in cc
+forgets_others split = let e = split.others in cc
 
 -- the split is not counted, or as a step of a call; the new pass counts it too, or what the other one did
 asks_nothing : HasSplit first (record stays { asked = 0 }) new → ⊥
-asks_nothing k = let e = k.asked in cc
+asks_nothing split = let e = split.asked in cc
 
 is_a_step : HasSplit first (record stays { aside = 0 }) new → ⊥
-is_a_step k = let e = k.aside in cc
+is_a_step split = let e = split.aside in cc
 
 both_ask : HasSplit first stays (record new { asked = 1 }) → ⊥
-both_ask k = let e = k.right_asked in cc
+both_ask split = let e = split.right_asked in cc
 
 both_aside : HasSplit first stays (record new { aside = 1 }) → ⊥
-both_aside k = let e = k.right_aside in cc
+both_aside split = let e = split.right_aside in cc
 
 -- ---- a recovery of a robust set
 
@@ -185,7 +185,7 @@ none_asked by [] is asked = cc
 none_asked by (v ∷ visits) is asked = asked.1
 
 pub asks_nobody : HasRecovered never_asked never_told Default Unlocked [] [] [] [] first asked_of_one → ⊥
-asks_nobody k = none_asked k.by k.visits k.called.made k.visited.asked
+asks_nobody recovered = none_asked recovered.by recovered.visits recovered.called.made recovered.visited.asked
 
 -- it has freed an index, and its other closure was never called
 one_freed : (by index owner : ℕ) (came : Came) (visits : List Visit)
@@ -210,7 +210,7 @@ none_told by (v ∷ visits) is told =
     (wrote ∙ append_assoc (wrote_to by v.index v.owner v.came) (wrote_by by visits) (ends by)) told
 
 pub tells_nobody : HasRecovered may_be_asked never_told Default Unlocked [] [] [] [] first freed_one → ⊥
-tells_nobody k = none_told k.by k.visits k.called.made k.visited.told
+tells_nobody recovered = none_told recovered.by recovered.visits recovered.called.made recovered.visited.told
 
 -- it has freed an index, and its closure had said no
 no_to_one : (by index owner : ℕ) (came : Came) (visits : List Visit)
@@ -233,21 +233,24 @@ none_agreed by (v ∷ visits) is asked =
     (wrote ∙ append_assoc (wrote_to by v.index v.owner v.came) (wrote_by by visits) (ends by)) asked.1
 
 pub recover_tells_after_a_no : HasRecovered says_no may_be_told Default Unlocked [] [] [] [] first freed_one → ⊥
-recover_tells_after_a_no k = none_agreed k.by k.visits k.called.made k.visited.asked
+recover_tells_after_a_no recovered = none_agreed recovered.by recovered.visits recovered.called.made recovered.visited.asked
 
 -- it has asked about an index, though it had seen the lock
 abbrev locked : View ℕ
 locked = having_seen (Locked 1 ∷ [])
 
+-- no recovery has a history in which it asked about an index of a set that it had found locked
 asks_locked : HasRecovered may_be_asked never_told Default Unlocked [] [] [] [] locked (record asked_of_one { seen = Locked 1 ∷ asked_of_one.seen }) → ⊥
-asks_locked k =
-    none_asked k.by [] (subst (λ (visits : List Visit). asked_of_one.made ≡ Begun k.by (Robust (Recover Default)) ∷ (wrote_by k.by visits ++ ends k.by))
-    (k.nothing refl) k.called.made)
+asks_locked recovered =
+    none_asked recovered.by []
+    (subst (λ (visits : List Visit). asked_of_one.made
+    ≡ Begun recovered.by (Robust (Recover Default)) ∷ (wrote_by recovered.by visits ++ ends recovered.by))
+    (recovered.nothing refl) recovered.called.made)
     refl
 
 -- another party than the pass's made the call
 not_mine : HasRecovered may_be_asked never_told Default Unlocked [] [] [] [] first (record asked_of_one { party = Some 1 }) → ⊥
-not_mine k =
-    let by : k.by ≡ 0 = cc in
-    let mine = k.mine in
+not_mine recovered =
+    let by : recovered.by ≡ 0 = cc in
+    let mine = recovered.mine in
     cc

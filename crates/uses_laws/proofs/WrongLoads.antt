@@ -34,7 +34,7 @@ module _ {T : Type 0} (code : Coding T) (kind : Kind) (capacity bound aside : �
 
   -- more than the bound since the pass knew the run before, and no call has ended
   pub none_ends : bound < since → ends new.seen ≡ ends old.seen → ⊥
-  none_ends more none = let one = k.ends_one more in absurd (omega arith)
+  none_ends more none = absurd (omega (arith, k.ends_one more))
 
   -- the first call has ended since, and they are more than twice the bound and its last one
   pub one_ends_late : 2 * bound + 1 < since → ends old.seen ≡ 0 → ends new.seen ≡ 1 → ⊥
@@ -80,8 +80,8 @@ module _ {T : Type 0} (code : Coding T) (kind : Kind) (capacity bound aside : �
 
 -- one has asked for two operations, where no call has begun, and one may be aside
 pub asks_twice : (bound : Bound) → GoesOn one_word kinds.Indices 2 bound 1 first (record first { asked = 2 }) → ⊥
-asks_twice bound k =
-    let most : 2 ≤ 1 + load (bound 0 2 one_word.size) 0 = (k.within 0 tt).asked in
+asks_twice bound goes_on =
+    let most : 2 ≤ 1 + load (bound 0 2 one_word.size) 0 = (goes_on.within 0 tt).asked in
     absurd (omega arith)
 
 -- a lease, and a release that may lock, by the party 0
@@ -119,7 +119,7 @@ module _ (start : Start ℕ) where
   another_run = record first { turns = Begin 0 start ∷ Begin 1 start ∷ Next 1 ∷ Next 1 ∷ [] }
 
   pub knows_another_run : (bound : Bound) (aside : ℕ) → GoesOn one_word kinds.Indices 2 bound aside one_run another_run → ⊥
-  knows_another_run bound aside k = let e = k.later.first.is in cc
+  knows_another_run bound aside goes_on = let e = goes_on.later.first.is in cc
 
   pub owners_know_another_run : (bound smaller : Bound) (aside : ℕ)
       → OwnersGoOn one_word kinds.Robust 2 bound smaller aside one_run another_run

@@ -17,19 +17,19 @@ use Rattle.uses_laws.proofs.WrongBodies.{no_call}
 pub is_set_answers_false : (place by : ℕ) (before : List (Event ℕ)) (v w : View ℕ)
     → w.seen ≡ before ++ Finished by (Bits (IsSet place)) (Truth false) ∷ []
     → standing place before ≡ 1 → IsSetDone place false v w → ⊥
-is_set_answers_false place by before v w is stood k =
-    let same = (same_from_push _ _ _ _ (sym is ∙ k.is)).0 in
-    let clear : standing place before ≡ 0 = subst (λ es. standing place es ≡ 0) (sym same) k.stood in
+is_set_answers_false place by before v w is stood set_done =
+    let same = (same_from_push _ _ _ _ (sym is ∙ set_done.is)).0 in
+    let clear : standing place before ≡ 0 = subst (λ es. standing place es ≡ 0) (sym same) set_done.stood in
     let e = sym stood ∙ clear in
     cc
 
--- or true, though it is clear
+-- no look answers true though its place is clear as it ends
 pub is_set_answers_true : (place by : ℕ) (before : List (Event ℕ)) (v w : View ℕ)
     → w.seen ≡ before ++ Finished by (Bits (IsSet place)) (Truth true) ∷ []
     → standing place before ≡ 0 → IsSetDone place true v w → ⊥
-is_set_answers_true place by before v w is clear k =
-    let same = (same_from_push _ _ _ _ (sym is ∙ k.is)).0 in
-    let stood : standing place before ≡ 1 = subst (λ es. standing place es ≡ 1) (sym same) k.stood in
+is_set_answers_true place by before v w is clear set_done =
+    let same = (same_from_push _ _ _ _ (sym is ∙ set_done.is)).0 in
+    let stood : standing place before ≡ 1 = subst (λ es. standing place es ≡ 1) (sym same) set_done.stood in
     let e = sym clear ∙ stood in
     cc
 
@@ -41,9 +41,9 @@ count_answers_another place number by before v w is other k =
     let same = (same_from_push _ _ _ _ (sym is ∙ k.is)).0 in
     other (subst (λ es. number ≡ count_at place es % 2 ^ 64) (sym same) k.count)
 
--- or it answers, and has not called
+-- no look answers without having called
 pub is_set_without_a_step : (place : ℕ) (answer : Bool) (v : View ℕ) → IsSetDone place answer v v → ⊥
-is_set_without_a_step place answer v k = no_call _ _ _ _ v v refl k.made.called
+is_set_without_a_step place answer v set_done = no_call _ _ _ _ v v refl set_done.made.called
 
 pub count_without_a_step : (place number : ℕ) (v : View ℕ) → CountDone place number v v → ⊥
 count_without_a_step place number v k = no_call _ _ _ _ v v refl k.made.called

@@ -16,56 +16,53 @@ module _ {T : Type 0} where
 
   -- a peek that answers none, though a value waits as it ends
   pub peek_answers_none : (item : Item T) (rest : List (Item T)) (v w : View T) → waiting w.seen ≡ item ∷ rest → HasPeeked None v w → ⊥
-  peek_answers_none item rest v w waits k =
-      let first : None ≡ slice_get (item ∷ rest) 0 = k.oldest ∙ ap (λ xs. slice_get xs 0) waits in
+  peek_answers_none item rest v w waits peeked =
+      let first : None ≡ slice_get (item ∷ rest) 0 = peeked.oldest ∙ ap (λ xs. slice_get xs 0) waits in
       cc
 
   -- one that answers another value than the oldest
   pub peek_answers_another : (item other : Item T) (rest : List (Item T)) (v w : View T) → waiting w.seen ≡ item ∷ rest → other ≢ item
       → HasPeeked (Some other) v w → ⊥
-  peek_answers_another item other rest v w waits ne k =
-      let first : Some other ≡ slice_get (item ∷ rest) 0 = k.oldest ∙ ap (λ xs. slice_get xs 0) waits in
+  peek_answers_another item other rest v w waits ne peeked =
+      let first : Some other ≡ slice_get (item ∷ rest) 0 = peeked.oldest ∙ ap (λ xs. slice_get xs 0) waits in
       let one : other ≡ item = cc in
       ne one
 
   -- one that answers a value, though none waits
   pub peek_answers_what_is_gone : (item : Item T) (v w : View T) → waiting w.seen ≡ [] → HasPeeked (Some item) v w → ⊥
-  peek_answers_what_is_gone item v w none k =
-      let first : Some item ≡ None = k.oldest ∙ ap (λ xs. slice_get xs 0) none in
+  peek_answers_what_is_gone item v w none peeked =
+      let first : Some item ≡ None = peeked.oldest ∙ ap (λ xs. slice_get xs 0) none in
       cc
 
   -- one that takes its value out, as a pop
   pub peek_takes_out : (item : Item T) (answer : Option (Item T)) (v w : View T) → PopDone item v w → HasPeeked answer v w → ⊥
-  peek_takes_out item answer v w popped k =
-      let a = ap length popped.1.list in
-      let b = ap length k.list in
-      let c = length-append (handed_out v.seen) (item ∷ []) in
-      absurd (omega arith)
+  peek_takes_out item answer v w popped peeked =
+      absurd (omega (arith, ap length popped.1.list, ap length peeked.list, length-append (handed_out v.seen) (item ∷ [])))
 
   -- one that answers what it answered before, and takes no step
   pub peek_takes_no_step : (answer : Option (Item T)) (v : View T) → HasPeeked answer v v → ⊥
-  peek_takes_no_step answer v k = no_call _ _ _ _ v v refl k.called
+  peek_takes_no_step answer v peeked = no_call _ _ _ _ v v refl peeked.called
 
   -- ---- looks at a role
 
   -- a look that answers false, though somebody holds the role as it ends
   pub has_producer_answers_false : (holder : ℕ) (v w : View T) → producer_of w.seen ≡ Some holder → HasSeenRole Producer false v w → ⊥
-  has_producer_answers_false holder v w held k =
-      let e : false ≡ true = k.holder ∙ ap (λ o. not (is_none o)) held in
+  has_producer_answers_false holder v w held seen_role =
+      let e : false ≡ true = seen_role.holder ∙ ap (λ o. not (is_none o)) held in
       cc
 
-  -- or true, though nobody does
+  -- no look answers true though nobody holds the role as it ends
   pub has_producer_answers_true : (v w : View T) → producer_of w.seen ≡ None → HasSeenRole Producer true v w → ⊥
-  has_producer_answers_true v w none k =
-      let e : true ≡ false = k.holder ∙ ap (λ o. not (is_none o)) none in
+  has_producer_answers_true v w none seen_role =
+      let clash : true ≡ false = seen_role.holder ∙ ap (λ o. not (is_none o)) none in
       cc
 
   -- one that looks at the other role
   pub has_producer_looks_at_consumer : (taken : Bool) (v w : View T) → HasSeenRole Consumer taken v w → HasSeenRole Producer taken v w → ⊥
-  has_producer_looks_at_consumer taken v w wrong k =
-      let is = append_cancel_left v.made _ _ (sym wrong.called.made ∙ k.called.made) in
+  has_producer_looks_at_consumer taken v w wrong seen_role =
+      let same_end = append_cancel_left v.made _ _ (sym wrong.called.made ∙ seen_role.called.made) in
       absurd (cc)
 
   -- one that answers without a step
   pub look_at_role_takes_no_step : (role : Role) (taken : Bool) (v : View T) → HasSeenRole role taken v v → ⊥
-  look_at_role_takes_no_step role taken v k = no_call _ _ _ _ v v refl k.called
+  look_at_role_takes_no_step role taken v seen_role = no_call _ _ _ _ v v refl seen_role.called

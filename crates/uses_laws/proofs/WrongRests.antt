@@ -84,7 +84,7 @@ pub one_locks : LocksApart (Begun 0 release ∷ [])
 one_locks = Each-append BeginsAlone [] (Begun 0 release ∷ []) (Each-nil BeginsAlone) ((λ locks q. refl), tt)
 
 pub two_lock_at_once : LocksApart (Begun 0 release ∷ Begun 1 release ∷ []) → ⊥
-two_lock_at_once k = let e : true ≡ false = k (Begun 0 release ∷ []) [] (Begun 1 release) refl refl 0 in cc
+two_lock_at_once locks_apart = let clash : true ≡ false = locks_apart (Begun 0 release ∷ []) [] (Begun 1 release) refl refl 0 in cc
 
 ended_call : (b : Bool)
     → is_locking {T = ℕ} (if b then ended (if b then Open release [] else Never) (State Unlocked) else (if b then Open release [] else Never)) ≡ false

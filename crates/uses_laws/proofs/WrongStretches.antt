@@ -26,15 +26,15 @@ pub begins_default : BeginSuch KeepsUnlocked (default ∷ [])
 begins_default = (refl, tt)
 
 pub begins_locking : BeginSuch KeepsUnlocked (default ∷ locking ∷ []) → ⊥
-begins_locking k = let e : true ≡ false = k.1.0 in cc
+begins_locking begin_such = let clash : true ≡ false = begin_such.1.0 in cc
 
 -- ---- a silent party
 
 pub invokes : IsSilent {Call = ℕ} {Answer = ℕ} 0 (Invoked 0 5 ∷ []) → ⊥
-invokes k = k.0 refl
+invokes silent = silent.0 refl
 
 pub responds : IsSilent {Call = ℕ} {Answer = ℕ} 0 (Responded 0 5 ∷ []) → ⊥
-responds k = k.0 refl
+responds silent = silent.0 refl
 
 -- while it is, another may do either
 pub is_silent : IsSilent {Call = ℕ} {Answer = ℕ} 0 (Invoked 1 5 ∷ Responded 1 5 ∷ [])

@@ -11,30 +11,26 @@ use Rattle.uses_laws.proofs.WrongBodies.{no_call}
 module _ {T : Type 0} where
   -- a look at the version that answers the word of the role, which is 0 or 1
   pub version_answers_the_role : (word : ℕ) (v w : View T) → word ≤ 1 → 0 < length (stored w.seen) → HasSeenVersion word v w → ⊥
-  version_answers_the_role word v w few some k = let e = k.count in absurd (omega arith)
+  version_answers_the_role word v w few some seen_version = absurd (omega (arith, seen_version.count))
 
   -- one that answers the version that it found before a store, of which its pass knows
   pub version_keeps_the_old_one : (x : T) (version : ℕ) (u v w : View T) → HasSeenVersion version u v → HasStored x v w
       → HasSeenVersion version v w
       → ⊥
-  version_keeps_the_old_one x version u v w old store k =
-      let a = old.count in
-      let b = k.count in
-      let c = ap length store.list in
-      let d = length-append (stored v.seen) (x ∷ []) in
-      absurd (omega arith)
+  version_keeps_the_old_one x version u v w old store seen_version =
+      absurd (omega (arith, old.count, seen_version.count, ap length store.list, length-append (stored v.seen) (x ∷ [])))
 
   -- one that answers and has not called
   pub version_without_a_step : (version : ℕ) (v : View T) → HasSeenVersion version v v → ⊥
-  version_without_a_step version v k = no_call _ _ _ _ v v refl k.called
+  version_without_a_step version v seen_version = no_call _ _ _ _ v v refl seen_version.called
 
   -- a look at the role that answers false, though a party has the role as it ends
   pub has_producer_answers_false : (p : ℕ) (v w : View T) → holder_of w.seen ≡ Some p → HasSeenProducer false v w → ⊥
-  has_producer_answers_false p v w has k = let e = k.holder ∙ ap (λ o. not (is_none o)) has in cc
+  has_producer_answers_false p v w has seen_producer = let e = seen_producer.holder ∙ ap (λ o. not (is_none o)) has in cc
 
-  -- or true, though nobody has it
+  -- no look answers true though nobody has the role as it ends
   pub has_producer_answers_true : (v w : View T) → holder_of w.seen ≡ None → HasSeenProducer true v w → ⊥
-  has_producer_answers_true v w none k = let e = k.holder ∙ ap (λ o. not (is_none o)) none in cc
+  has_producer_answers_true v w none seen_producer = let e = seen_producer.holder ∙ ap (λ o. not (is_none o)) none in cc
 
   pub has_producer_without_a_step : (taken : Bool) (v : View T) → HasSeenProducer taken v v → ⊥
-  has_producer_without_a_step taken v k = no_call _ _ _ _ v v refl k.called
+  has_producer_without_a_step taken v seen_producer = no_call _ _ _ _ v v refl seen_producer.called

@@ -75,7 +75,7 @@ module _ {T V : Type 0} (named : V → Item T) where
       record {
         last = now;
         popped = so_far;
-        stopped = emptied (drop n values) now new (let long = length-drop n values in omega arith) empty;
+        stopped = emptied (drop n values) now new (omega (arith, length-drop n values)) empty;
       }
 
   -- where as many were popped as the list has places, all of them were

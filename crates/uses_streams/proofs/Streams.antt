@@ -80,91 +80,91 @@ module _ {T : Type 0} where
   -- behind the end no value counts, and the end stays
   pub end_stays : (xs ys : List (Item (Element T))) → has_end xs ≡ true
       → (values_in (xs ++ ys) ≡ values_in xs) × (has_end (xs ++ ys) ≡ true)
-  end_stays [] ys e = absurd (true≢false (sym e))
-  end_stays (Value (elements.Value x) ∷ xs) ys e = (let rest = end_stays xs ys e in (ap (λ ws. x ∷ ws) rest.0, rest.1))
-  end_stays (Value elements.End ∷ xs) ys e = (refl, refl)
-  end_stays (Index i ∷ xs) ys e = absurd (true≢false (sym e))
+  end_stays [] ys ended = absurd (true≢false (sym ended))
+  end_stays (Value (elements.Value x) ∷ xs) ys ended = (let rest = end_stays xs ys ended in (ap (λ ws. x ∷ ws) rest.0, rest.1))
+  end_stays (Value elements.End ∷ xs) ys ended = (refl, refl)
+  end_stays (Index i ∷ xs) ys ended = absurd (true≢false (sym ended))
 
   -- a value behind values alone is the last of them
   pub one_value : (xs : List (Item (Element T))) (x : T) → has_values xs ≡ true
       → (values_in (xs ++ Value (elements.Value x) ∷ []) ≡ values_in xs ++ x ∷ [])
       × (has_values (xs ++ Value (elements.Value x) ∷ []) ≡ true) × (has_end (xs ++ Value (elements.Value x) ∷ []) ≡ false)
-  one_value [] x e = (refl, refl, refl)
-  one_value (Value (elements.Value y) ∷ xs) x e = (let rest = one_value xs x e in (ap (λ ws. y ∷ ws) rest.0, rest.1, rest.2))
-  one_value (Value elements.End ∷ xs) x e = absurd (true≢false (sym e))
-  one_value (Index i ∷ xs) x e = absurd (true≢false (sym e))
+  one_value [] x only_values = (refl, refl, refl)
+  one_value (Value (elements.Value y) ∷ xs) x only_values = (let rest = one_value xs x only_values in (ap (λ ws. y ∷ ws) rest.0, rest.1, rest.2))
+  one_value (Value elements.End ∷ xs) x only_values = absurd (true≢false (sym only_values))
+  one_value (Index i ∷ xs) x only_values = absurd (true≢false (sym only_values))
 
   -- the end behind values alone adds no value, and comes once
   pub one_end : (xs : List (Item (Element T))) → has_values xs ≡ true
       → (values_in (xs ++ Value elements.End ∷ []) ≡ values_in xs)
       × (has_values (xs ++ Value elements.End ∷ []) ≡ false) × (has_end (xs ++ Value elements.End ∷ []) ≡ true)
       × (ends_once (xs ++ Value elements.End ∷ []) ≡ true)
-  one_end [] e = (refl, refl, refl, refl)
-  one_end (Value (elements.Value y) ∷ xs) e = (let rest = one_end xs e in (ap (λ ws. y ∷ ws) rest.0, rest.1, rest.2, rest.3))
-  one_end (Value elements.End ∷ xs) e = absurd (true≢false (sym e))
-  one_end (Index i ∷ xs) e = absurd (true≢false (sym e))
+  one_end [] only_values = (refl, refl, refl, refl)
+  one_end (Value (elements.Value y) ∷ xs) only_values = (let rest = one_end xs only_values in (ap (λ ws. y ∷ ws) rest.0, rest.1, rest.2, rest.3))
+  one_end (Value elements.End ∷ xs) only_values = absurd (true≢false (sym only_values))
+  one_end (Index i ∷ xs) only_values = absurd (true≢false (sym only_values))
 
   pub none_ended : (xs : List (Item (Element T))) → has_values xs ≡ true → has_end xs ≡ false
-  none_ended [] e = refl
-  none_ended (Value (elements.Value y) ∷ xs) e = none_ended xs e
-  none_ended (Value elements.End ∷ xs) e = absurd (true≢false (sym e))
-  none_ended (Index i ∷ xs) e = refl
+  none_ended [] only_values = refl
+  none_ended (Value (elements.Value y) ∷ xs) only_values = none_ended xs only_values
+  none_ended (Value elements.End ∷ xs) only_values = absurd (true≢false (sym only_values))
+  none_ended (Index i ∷ xs) only_values = refl
 
   -- ---- each call, by what it adds
 
   still_half : (v w : View (Element T)) → Goes v w → HasHalf v → HasHalf w
-  still_half v w goes h = (ap (λ (s : Share). s.part) goes.share ∙ h.0, ap (λ (s : Share). s.parts) goes.share ∙ h.1)
+  still_half v w goes half = (ap (λ (s : Share). s.part) goes.share ∙ half.0, ap (λ (s : Share). s.parts) goes.share ∙ half.1)
 
   module _ (v w : View (Element T)) (goes : Goes v w) where
     -- a push of one item, by who only pushes, adds it to what this pass pushed
     pushed_more : (item : Item (Element T)) → OnlyPushes v → HasDone 1 0 v w → published w.seen ≡ published v.seen ++ item ∷ []
         → OnlyPushes w × (pushed_by w ≡ pushed_by v ++ item ∷ [])
-    pushed_more item h done list =
+    pushed_more item only_pushes done list =
         let p = done.puts_more in
         let g = done.gets_more in
-        let few = h.1 in
-        let none = h.2 in
+        let few = only_pushes.1 in
+        let none = only_pushes.2 in
         let long = ap length list in
         let both = length-append (published v.seen) (item ∷ []) in (
-          (still_half v w goes h.0, omega arith, omega arith),
+          (still_half v w goes only_pushes.0, omega arith, omega arith),
           last_push (sum_by puts v.made) (sum_by puts w.made) (published v.seen) (published w.seen) item few p list,
         )
 
     -- a call that moves nothing leaves what this pass pushed
     pushed_same : OnlyPushes v → HasDone 0 0 v w → published w.seen ≡ published v.seen → OnlyPushes w × (pushed_by w ≡ pushed_by v)
-    pushed_same h done list =
+    pushed_same only_pushes done list =
         let p = done.puts_more in
         let g = done.gets_more in
-        let few = h.1 in
-        let none = h.2 in
+        let few = only_pushes.1 in
+        let none = only_pushes.2 in
         let long = ap length list in (
-          (still_half v w goes h.0, omega arith, omega arith),
+          (still_half v w goes only_pushes.0, omega arith, omega arith),
           last_same (sum_by puts v.made) (sum_by puts w.made) (published v.seen) (published w.seen) (omega arith) list,
         )
 
     -- a pop of one item, by who only pops, adds it to what this pass popped
     popped_more : (item : Item (Element T)) → OnlyPops v → HasDone 0 1 v w → handed_out w.seen ≡ handed_out v.seen ++ item ∷ []
         → OnlyPops w × (popped_by w ≡ popped_by v ++ item ∷ [])
-    popped_more item h done list =
+    popped_more item only_pops done list =
         let p = done.puts_more in
         let g = done.gets_more in
-        let few = h.1 in
-        let none = h.2 in
+        let few = only_pops.1 in
+        let none = only_pops.2 in
         let long = ap length list in
         let both = length-append (handed_out v.seen) (item ∷ []) in (
-          (still_half v w goes h.0, omega arith, omega arith),
+          (still_half v w goes only_pops.0, omega arith, omega arith),
           last_push (sum_by gets v.made) (sum_by gets w.made) (handed_out v.seen) (handed_out w.seen) item few g list,
         )
 
     -- a call that moves nothing leaves what this pass popped
     popped_same : OnlyPops v → HasDone 0 0 v w → handed_out w.seen ≡ handed_out v.seen → OnlyPops w × (popped_by w ≡ popped_by v)
-    popped_same h done list =
+    popped_same only_pops done list =
         let p = done.puts_more in
         let g = done.gets_more in
-        let few = h.1 in
-        let none = h.2 in
+        let few = only_pops.1 in
+        let none = only_pops.2 in
         let long = ap length list in (
-          (still_half v w goes h.0, omega arith, omega arith),
+          (still_half v w goes only_pops.0, omega arith, omega arith),
           last_same (sum_by gets v.made) (sum_by gets w.made) (handed_out v.seen) (handed_out w.seen) (omega arith) list,
         )
 
@@ -172,19 +172,19 @@ module _ {T : Type 0} where
 
     -- a fresh half that has acquired the role of the producer only pushes, and has pushed nothing
     pub begins_pushing : (role : Role) → IsFreshHalf v → HasAcquired role true v w → OnlyPushes w × (pushed_by w ≡ [])
-    begins_pushing role h acquired =
+    begins_pushing role fresh_half acquired =
         let done = done_acquired v w role true acquired in
         let p = done.puts_more in
         let g = done.gets_more in
-        let none_put = h.1 in
-        let none_got = h.2 in
-        ((still_half v w goes h.0, omega arith, omega arith), last_none (sum_by puts w.made) (published w.seen) (omega arith))
+        let none_put = fresh_half.1 in
+        let none_got = fresh_half.2 in
+        ((still_half v w goes fresh_half.0, omega arith, omega arith), last_none (sum_by puts w.made) (published w.seen) (omega arith))
 
     -- a push of a value adds it to the values that this pass pushed
     pub pushes_value : (x : T) → OnlyPushes v → has_values (pushed_by v) ≡ true → PushDone (Value (elements.Value x)) v w
         → OnlyPushes w × (has_values (pushed_by w) ≡ true) × (values_in (pushed_by w) ≡ values_in (pushed_by v) ++ x ∷ [])
-    pushes_value x h going pushed =
-        let more = pushed_more (Value (elements.Value x)) h (done_pushed v w (Value (elements.Value x)) pushed.0) pushed.1.list in
+    pushes_value x only_pushes going pushed =
+        let more = pushed_more (Value (elements.Value x)) only_pushes (done_pushed v w (Value (elements.Value x)) pushed.0) pushed.1.list in
         let one = one_value (pushed_by v) x going in
         (more.0, ap has_values more.1 ∙ one.1, ap values_in more.1 ∙ one.0)
 
@@ -192,8 +192,8 @@ module _ {T : Type 0} where
     pub pushes_end : OnlyPushes v → has_values (pushed_by v) ≡ true → PushDone (Value elements.End) v w
         → OnlyPushes w × (values_in (pushed_by w) ≡ values_in (pushed_by v)) × (has_end (pushed_by w) ≡ true)
         × (ends_once (pushed_by w) ≡ true)
-    pushes_end h going pushed =
-        let more = pushed_more (Value elements.End) h (done_pushed v w (Value elements.End) pushed.0) pushed.1.list in
+    pushes_end only_pushes going pushed =
+        let more = pushed_more (Value elements.End) only_pushes (done_pushed v w (Value elements.End) pushed.0) pushed.1.list in
         let one = one_end (pushed_by v) going in
         (more.0, ap values_in more.1 ∙ one.0, ap has_end more.1 ∙ one.2, ap ends_once more.1 ∙ one.3)
 
@@ -203,49 +203,49 @@ module _ {T : Type 0} where
 
     pub pushes_none : (capacity : ℕ) (item : Item (Element T)) → OnlyPushes v → PushRefused capacity item v w
         → OnlyPushes w × (pushed_by w ≡ pushed_by v)
-    pushes_none capacity item h full = pushed_same h (done_refused v w item capacity full) (none_published capacity item full)
+    pushes_none capacity item only_pushes full = pushed_same only_pushes (done_refused v w item capacity full) (none_published capacity item full)
 
-    -- by what the push answered
+    -- whatever the push answered, the pass only pushes, and pushed values alone
     pub pushes_either : (x : T) (capacity : ℕ) (taken : Bool) → OnlyPushes v → has_values (pushed_by v) ≡ true
         → (taken ≡ true → PushDone (Value (elements.Value x)) v w) → (taken ≡ false → PushRefused capacity (Value (elements.Value x)) v w)
         → OnlyPushes w × (has_values (pushed_by w) ≡ true)
-    pushes_either x capacity true h going pushed full = (let one = pushes_value x h going (pushed refl) in (one.0, one.1))
-    pushes_either x capacity false h going pushed full =
-        (let none = pushes_none capacity (Value (elements.Value x)) h (full refl) in (none.0, ap has_values none.1 ∙ going))
+    pushes_either x capacity true only_pushes going pushed full = (let one = pushes_value x only_pushes going (pushed refl) in (one.0, one.1))
+    pushes_either x capacity false only_pushes going pushed full =
+        (let none = pushes_none capacity (Value (elements.Value x)) only_pushes (full refl) in (none.0, ap has_values none.1 ∙ going))
 
     pub stops_pushing : (role : Role) → OnlyPushes v → HasReleased role v w → published w.seen ≡ published v.seen
         → OnlyPushes w × (pushed_by w ≡ pushed_by v)
-    stops_pushing role h released list = pushed_same h (done_released v w role released) list
+    stops_pushing role only_pushes released list = pushed_same only_pushes (done_released v w role released) list
 
     -- ---- who pops
 
     -- a fresh half that has acquired the role of the consumer only pops, and has popped nothing
     pub begins_popping : (role : Role) → IsFreshHalf v → HasAcquired role true v w → OnlyPops w × (popped_by w ≡ [])
-    begins_popping role h acquired =
+    begins_popping role fresh_half acquired =
         let done = done_acquired v w role true acquired in
         let p = done.puts_more in
         let g = done.gets_more in
-        let none_put = h.1 in
-        let none_got = h.2 in
-        ((still_half v w goes h.0, omega arith, omega arith), last_none (sum_by gets w.made) (handed_out w.seen) (omega arith))
+        let none_put = fresh_half.1 in
+        let none_got = fresh_half.2 in
+        ((still_half v w goes fresh_half.0, omega arith, omega arith), last_none (sum_by gets w.made) (handed_out w.seen) (omega arith))
 
     pub pops_one : (item : Item (Element T)) → OnlyPops v → PopDone item v w → OnlyPops w × (popped_by w ≡ popped_by v ++ item ∷ [])
-    pops_one item h popped = popped_more item h (done_popped v w item popped.0) popped.1.list
+    pops_one item only_pops popped = popped_more item only_pops (done_popped v w item popped.0) popped.1.list
 
     pub pops_none : OnlyPops v → PopEmpty v w → OnlyPops w × (popped_by w ≡ popped_by v)
-    pops_none h empty = popped_same h (done_none v w empty.0) empty.1.list
+    pops_none only_pops empty = popped_same only_pops (done_none v w empty.0) empty.1.list
 
     pub stops_popping : (role : Role) → OnlyPops v → HasReleased role v w → handed_out w.seen ≡ handed_out v.seen
         → OnlyPops w × (popped_by w ≡ popped_by v)
-    stops_popping role h released list = popped_same h (done_released v w role released) list
+    stops_popping role only_pops released list = popped_same only_pops (done_released v w role released) list
 
-    -- by what the pop answered, of a receiver to which no end came
+    -- a value that a pop answered comes behind those that came, where no end has come
     pub receives_value : (x : T) (ended : Bool) → ended ≡ false → OnlyPops v → CameUpTo ended (popped_by v)
         → PopDone (Value (elements.Value x)) v w
         → OnlyPops w × CameUpTo ended (popped_by w) × (values_in (popped_by w) ≡ values_in (popped_by v) ++ x ∷ [])
         × (has_end (popped_by w) ≡ false)
-    receives_value x ended off h came popped =
-        let more = pops_one (Value (elements.Value x)) h popped in
+    receives_value x ended off only_pops came popped =
+        let more = pops_one (Value (elements.Value x)) only_pops popped in
         let one = one_value (popped_by v) x (came.0 ∙ ap not off) in (
           more.0,
           (ap has_values more.1 ∙ (one.1 ∙ ap not (sym off)), ap has_end more.1 ∙ (one.2 ∙ sym off)),
@@ -257,8 +257,8 @@ module _ {T : Type 0} where
     pub receives_end : (ended : Bool) → ended ≡ false → OnlyPops v → CameUpTo ended (popped_by v) → PopDone (Value elements.End) v w
         → OnlyPops w × CameUpTo true (popped_by w) × (values_in (popped_by w) ≡ values_in (popped_by v) ++ [])
         × (has_end (popped_by w) ≡ true)
-    receives_end ended off h came popped =
-        let more = pops_one (Value elements.End) h popped in
+    receives_end ended off only_pops came popped =
+        let more = pops_one (Value elements.End) only_pops popped in
         let one = one_end (popped_by v) (came.0 ∙ ap not off) in (
           more.0,
           (ap has_values more.1 ∙ one.1, ap has_end more.1 ∙ one.2),
@@ -270,8 +270,8 @@ module _ {T : Type 0} where
     pub receives_nothing : (ended : Bool) → ended ≡ false → OnlyPops v → CameUpTo ended (popped_by v) → PopEmpty v w
         → OnlyPops w × CameUpTo ended (popped_by w) × (values_in (popped_by w) ≡ values_in (popped_by v) ++ [])
         × (has_end (popped_by w) ≡ false)
-    receives_nothing ended off h came empty =
-        let none = pops_none h empty in (
+    receives_nothing ended off only_pops came empty =
+        let none = pops_none only_pops empty in (
           none.0,
           (ap has_values none.1 ∙ came.0, ap has_end none.1 ∙ came.1),
           ap values_in none.1 ∙ sym (append-nil (values_in (popped_by v))),
@@ -286,13 +286,13 @@ module _ {T : Type 0} where
       → OnlyPops w × CameUpTo (is_end (arrival_of found)) (popped_by w)
       × (values_in (popped_by w) ≡ values_in (popped_by v) ++ arrived (arrival_of found))
       × (has_end (popped_by w) ≡ is_end (arrival_of found))
-  receives v w goes None ended off h came popped empty =
-      let none = receives_nothing v w goes ended off h came empty in
+  receives v w goes None ended off only_pops came popped empty =
+      let none = receives_nothing v w goes ended off only_pops came empty in
       (none.0, (none.1.0 ∙ ap not off, none.1.1 ∙ off), none.2, none.3)
-  receives v w goes (Some (elements.Value x)) ended off h came popped empty =
-      let one = receives_value v w goes x ended off h came popped in
+  receives v w goes (Some (elements.Value x)) ended off only_pops came popped empty =
+      let one = receives_value v w goes x ended off only_pops came popped in
       (one.0, (one.1.0 ∙ ap not off, one.1.1 ∙ off), one.2, one.3)
-  receives v w goes (Some elements.End) ended off h came popped empty = receives_end v w goes ended off h came popped
+  receives v w goes (Some elements.End) ended off only_pops came popped empty = receives_end v w goes ended off only_pops came popped
 
   pub found_nothing : (v w : View (Element T)) (found : Option (Element T)) → IfNone found (PopEmpty v w)
       → IfNothing (arrival_of found) (PopEmpty v w)
@@ -313,8 +313,8 @@ module _ {T : Type 0} where
       → PushDone (Value elements.End) v w → Goes w u → HasReleased role w u → published u.seen ≡ published w.seen
       → OnlyPushes u × (values_in (pushed_by u) ≡ values_in (pushed_by v)) × (has_end (pushed_by u) ≡ true)
       × (ends_once (pushed_by u) ≡ true)
-  finishes v w u role h going goes pushed on released list =
-      let ended = pushes_end v w goes h going pushed in
+  finishes v w u role only_pushes going goes pushed on released list =
+      let ended = pushes_end v w goes only_pushes going pushed in
       let left = stops_pushing w u on role ended.0 released list in
       (left.0, ap values_in left.1 ∙ ended.1, ap has_end left.1 ∙ ended.2, ap ends_once left.1 ∙ ended.3)
 
@@ -338,36 +338,42 @@ module _ {T : Type 0} where
   -- ---- both ends together
 
   halves_are_all : (v w : View (Element T)) → HasHalf v → HasHalf w → IsAll (both_of v.share w.share)
-  halves_are_all v w h g =
-      subst IsAll (λ i. both_of (record { part = sym h.0 i; parts = sym h.1 i }) (record { part = sym g.0 i; parts = sym g.1 i })) refl
+  halves_are_all v w first_half second_half =
+      subst IsAll (λ i. both_of (record { part = sym first_half.0 i; parts = sym first_half.1 i })
+      (record { part = sym second_half.0 i; parts = sym second_half.1 i }))
+      refl
 
   -- what the sender pushed is what the receiver popped, and what waits
   together : (code : Coding (Element T)) (capacity : ℕ) (mine theirs new : View (Element T)) → OnlyPushes mine → OnlyPops theirs
       → HasJoined mine theirs new → MissesNothing new → IsHistory code kinds.Queue capacity new.seen
       → pushed_by mine ≡ popped_by theirs ++ waiting new.seen
-  together code capacity mine theirs new pushes pops h missing history =
-      let whole : IsAll new.share = subst IsAll (sym h.share) (halves_are_all mine theirs pushes.0 pops.0) in
+  together code capacity mine theirs new pushes pops has_joined missing history =
+      let whole : IsAll new.share = subst IsAll (sym has_joined.share) (halves_are_all mine theirs pushes.0 pops.0) in
       let counted = whole_counted new whole missing in
-      let put : sum_by puts new.made ≡ sum_by puts mine.made + sum_by puts theirs.made = ap (sum_by puts) h.made ∙ sum_by-append puts mine.made theirs.made in
-      let got : sum_by gets new.made ≡ sum_by gets mine.made + sum_by gets theirs.made = ap (sum_by gets) h.made ∙ sum_by-append gets mine.made theirs.made in
+      let put : sum_by puts new.made ≡ sum_by puts mine.made + sum_by puts theirs.made =
+      ap (sum_by puts) has_joined.made ∙ sum_by-append puts mine.made theirs.made in
+      let got : sum_by gets new.made ≡ sum_by gets mine.made + sum_by gets theirs.made =
+      ap (sum_by gets) has_joined.made ∙ sum_by-append gets mine.made theirs.made in
       let p = counted.0 in
       let q = counted.1 in
       let few_put = pushes.1 in
       let none_got = pushes.2 in
       let few_got = pops.1 in
       let none_put = pops.2 in
-      let list : published new.seen ≡ published mine.seen ++ published h.ours.rest = ap published h.ours.is ∙ flat_map-append publishes mine.seen h.ours.rest in
-      let taken : handed_out new.seen ≡ handed_out theirs.seen ++ handed_out h.others.rest =
-      ap handed_out h.others.is ∙ flat_map-append hands_out theirs.seen h.others.rest in
+      let list : published new.seen ≡ published mine.seen ++ published has_joined.ours.rest =
+      ap published has_joined.ours.is ∙ flat_map-append publishes mine.seen has_joined.ours.rest in
+      let taken : handed_out new.seen ≡ handed_out theirs.seen ++ handed_out has_joined.others.rest =
+      ap handed_out has_joined.others.is ∙ flat_map-append hands_out theirs.seen has_joined.others.rest in
       let a = ap length list in
-      let b = length-append (published mine.seen) (published h.ours.rest) in
+      let b = length-append (published mine.seen) (published has_joined.ours.rest) in
       let c = ap length taken in
-      let d = length-append (handed_out theirs.seen) (handed_out h.others.rest) in
+      let d = length-append (handed_out theirs.seen) (handed_out has_joined.others.rest) in
       let all_put : sum_by puts mine.made ≡ length (published mine.seen) = omega arith in
       let all_got : sum_by gets theirs.made ≡ length (handed_out theirs.seen) = omega arith in
-      let same : published new.seen ≡ published mine.seen = none_more (published mine.seen) (published h.ours.rest) (published new.seen) list (omega arith) in
+      let same : published new.seen ≡ published mine.seen =
+      none_more (published mine.seen) (published has_joined.ours.rest) (published new.seen) list (omega arith) in
       let took : handed_out new.seen ≡ handed_out theirs.seen =
-      none_more (handed_out theirs.seen) (handed_out h.others.rest) (handed_out new.seen) taken (omega arith) in
+      none_more (handed_out theirs.seen) (handed_out has_joined.others.rest) (handed_out new.seen) taken (omega arith) in
       let book = (listed_always code capacity new.seen queues.Queue history new.seen [] (sym (append-nil new.seen))).book in
       last_all (sum_by puts mine.made) (published mine.seen) all_put
       ∙ (sym same

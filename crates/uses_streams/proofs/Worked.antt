@@ -167,7 +167,7 @@ two_steps : Times 2 next 4 6
 two_steps = (5, (4, refl, refl), refl)
 
 two_steps_are_not_three : Times 2 next 4 7 → ⊥
-two_steps_are_not_three h = (let one = h.1.1 in let two = h.1.2 in let three = h.2 in absurd (omega arith))
+two_steps_are_not_three times = (absurd (omega (arith, times.1.1, times.1.2, times.2)))
 
 -- ---- a step for each of a list
 
@@ -181,7 +181,7 @@ two_in_turn : InTurn adds (3 ∷ 5 ∷ []) 4 12
 two_in_turn = (7, refl, (12, refl, refl))
 
 another_sum_is_not_reached : InTurn adds (3 ∷ []) 4 8 → ⊥
-another_sum_is_not_reached h = (let one = h.1 in let last = h.2 in absurd (omega arith))
+another_sum_is_not_reached in_turn = (absurd (omega (arith, in_turn.1, in_turn.2)))
 
 nothing_is_left_to_push : WasStopped {V = Element ℕ} Value 4 [] knows knows
 nothing_is_left_to_push = refl

@@ -30,7 +30,7 @@ use Rattle.uses_streams.proofs.Streams.{pushes_value, pushes_none, stops_pushing
 
 -- a list is not itself with one more
 one_more : {A : Type 0} (xs : List A) (x : A) → xs ≡ xs ++ x ∷ [] → ⊥
-one_more xs x is = (let long = ap length is in let both = length-append xs (x ∷ []) in absurd (omega arith))
+one_more xs x is = (absurd (omega (arith, ap length is, length-append xs (x ∷ []))))
 
 -- the first of a list, or else this
 abbrev head : {A : Type 0} → A → List A → A
@@ -43,62 +43,62 @@ module _ {T : Type 0} (v w : View (Element T)) (goes : Goes v w) where
   -- it answers true where the push was refused
   pub send_says_true_of_a_refusal : (x : T) (capacity : ℕ) → OnlyPushes v → PushRefused capacity (Value (elements.Value x)) v w
       → values_in (pushed_by w) ≡ values_in (pushed_by v) ++ x ∷ [] → ⊥
-  send_says_true_of_a_refusal x capacity h full says =
+  send_says_true_of_a_refusal x capacity only_pushes full says =
       one_more (values_in (pushed_by v)) x
-      (sym (ap values_in (pushes_none v w goes capacity (Value (elements.Value x)) h full).1) ∙ says)
+      (sym (ap values_in (pushes_none v w goes capacity (Value (elements.Value x)) only_pushes full).1) ∙ says)
 
   -- it answers false where it pushed
   pub send_says_false_of_a_push : (x : T) → OnlyPushes v → has_values (pushed_by v) ≡ true → PushDone (Value (elements.Value x)) v w
       → values_in (pushed_by w) ≡ values_in (pushed_by v) → ⊥
-  send_says_false_of_a_push x h going pushed says =
-      one_more (values_in (pushed_by v)) x (sym says ∙ (pushes_value v w goes x h going pushed).2)
+  send_says_false_of_a_push x only_pushes going pushed says =
+      one_more (values_in (pushed_by v)) x (sym says ∙ (pushes_value v w goes x only_pushes going pushed).2)
 
   -- it pushes another value
   pub send_sends_another : (x y : T) → y ≢ x → OnlyPushes v → has_values (pushed_by v) ≡ true → PushDone (Value (elements.Value y)) v w
       → values_in (pushed_by w) ≡ values_in (pushed_by v) ++ x ∷ [] → ⊥
-  send_sends_another x y other h going pushed says =
-      other (ap (head y) (append_cancel_left (values_in (pushed_by v)) (y ∷ []) (x ∷ []) (sym (pushes_value v w goes y h going pushed).2 ∙ says)))
+  send_sends_another x y other only_pushes going pushed says =
+      other (ap (head y) (append_cancel_left (values_in (pushed_by v)) (y ∷ []) (x ∷ []) (sym (pushes_value v w goes y only_pushes going pushed).2 ∙ says)))
 
   -- ---- `finish`
 
   -- it gives the role back, and writes no end
   pub finish_writes_no_end : (role : Role) → OnlyPushes v → has_values (pushed_by v) ≡ true → HasReleased role v w
       → published w.seen ≡ published v.seen → has_end (pushed_by w) ≡ true → ⊥
-  finish_writes_no_end role h going released list says =
-      let left = (stops_pushing v w goes role h released list).1 in
+  finish_writes_no_end role only_pushes going released list says =
+      let left = (stops_pushing v w goes role only_pushes released list).1 in
       true≢false (sym says ∙ (ap has_end left ∙ none_ended (pushed_by v) going))
 
   -- it says that it finished where the end was refused
   pub finish_says_so_of_a_refusal : (capacity : ℕ) → OnlyPushes v → has_values (pushed_by v) ≡ true
       → PushRefused capacity (Value elements.End) v w → has_end (pushed_by w) ≡ true → ⊥
-  finish_says_so_of_a_refusal capacity h going full says =
-      let same = (pushes_none v w goes capacity (Value elements.End) h full).1 in
+  finish_says_so_of_a_refusal capacity only_pushes going full says =
+      let same = (pushes_none v w goes capacity (Value elements.End) only_pushes full).1 in
       true≢false (sym says ∙ (ap has_end same ∙ none_ended (pushed_by v) going))
 
   -- ---- `receive`
 
   -- it answers the end where the queue is empty
   pub receive_ends_an_empty_queue : OnlyPops v → CameUpTo false (popped_by v) → PopEmpty v w → has_end (popped_by w) ≡ true → ⊥
-  receive_ends_an_empty_queue h came empty says =
-      true≢false (sym says ∙ (receives_nothing v w goes false refl h came empty).3)
+  receive_ends_an_empty_queue only_pops came empty says =
+      true≢false (sym says ∙ (receives_nothing v w goes false refl only_pops came empty).3)
 
   -- it answers the end where it popped a value
   pub receive_ends_at_a_value : (x : T) → OnlyPops v → CameUpTo false (popped_by v) → PopDone (Value (elements.Value x)) v w
       → has_end (popped_by w) ≡ true → ⊥
-  receive_ends_at_a_value x h came popped says =
-      true≢false (sym says ∙ (receives_value v w goes x false refl h came popped).3)
+  receive_ends_at_a_value x only_pops came popped says =
+      true≢false (sym says ∙ (receives_value v w goes x false refl only_pops came popped).3)
 
   -- it pops a value, and answers nothing
   pub receive_drops_a_value : (x : T) → OnlyPops v → CameUpTo false (popped_by v) → PopDone (Value (elements.Value x)) v w
       → values_in (popped_by w) ≡ values_in (popped_by v) ++ [] → ⊥
-  receive_drops_a_value x h came popped says =
+  receive_drops_a_value x only_pops came popped says =
       one_more (values_in (popped_by v)) x
-      (sym (append-nil (values_in (popped_by v))) ∙ (sym says ∙ (receives_value v w goes x false refl h came popped).2))
+      (sym (append-nil (values_in (popped_by v))) ∙ (sym says ∙ (receives_value v w goes x false refl only_pops came popped).2))
 
   -- it pops the end, and answers nothing
   pub receive_drops_the_end : OnlyPops v → CameUpTo false (popped_by v) → PopDone (Value elements.End) v w
       → has_end (popped_by w) ≡ false → ⊥
-  receive_drops_the_end h came popped says = true≢false (sym (receives_end v w goes false refl h came popped).3 ∙ says)
+  receive_drops_the_end only_pops came popped says = true≢false (sym (receives_end v w goes false refl only_pops came popped).3 ∙ says)
 
 -- ---- `next` of `Values`
 
@@ -115,10 +115,7 @@ module _ {T R : Type 0} {words : Ghosts (Element T)} (s t : Values T R words) wh
   -- it drops a value, and gives the one after it
   pub next_drops_a_value : (x y : T) → GivesNext s (Some x) t → given_so_far t ≡ given_so_far s ++ y ∷ x ∷ [] → ⊥
   next_drops_a_value x y next came =
-      let long = ap length (sym came ∙ next.1) in
-      let two = length-append (given_so_far s) (y ∷ x ∷ []) in
-      let one = length-append (given_so_far s) (x ∷ []) in
-      absurd (omega arith)
+      absurd (omega (arith, ap length (sym came ∙ next.1), length-append (given_so_far s) (y ∷ x ∷ []), length-append (given_so_far s) (x ∷ [])))
 
   -- it ends before the end came
   pub next_ends_early : GivesNext s None t → has_given_all t ≡ false → ⊥
@@ -130,18 +127,20 @@ module _ {T : Type 0} (v w : View T) where
   module _ (capacity : ℕ) (item : Item T) where
     -- `send_within`, or `push_within`, pushes where no try is allowed
     pub send_within_pushes_without_a_try : WasPushedWithin 0 capacity item v w → ⊥
-    send_within_pushes_without_a_try h = (let few = h.few in absurd (omega arith))
+    send_within_pushes_without_a_try was_pushed_within = (absurd (omega (arith, was_pushed_within.few)))
 
     -- it was refused before, though one try is allowed: that push is the first
     pub one_try_is_the_first : WasPushedWithin 1 capacity item v w → PushDone item v w
-    one_try_is_the_first h =
-        let few = h.few in
-        let none : h.refused ≡ 0 = omega arith in
-        subst (λ u. PushDone item u w) (subst (λ n. WereRefused n capacity item v h.last) none h.before) h.pushed
+    one_try_is_the_first was_pushed_within =
+        let few = was_pushed_within.few in
+        let none : was_pushed_within.refused ≡ 0 = omega arith in
+        subst (λ u. PushDone item u w)
+        (subst (λ n. WereRefused n capacity item v was_pushed_within.last) none was_pushed_within.before)
+        was_pushed_within.pushed
 
     -- it goes on after a refusal, though one try is allowed
     pub one_try_is_refused_once : WereRefused 1 capacity item v w → PushRefused capacity item v w
-    one_try_is_refused_once h = subst (λ u. PushRefused capacity item u w) h.1 h.2
+    one_try_is_refused_once were_refused = subst (λ u. PushRefused capacity item u w) were_refused.1 were_refused.2
 
   -- a pop that finds nothing makes three events
   pub finds_nothing : PopEmpty v w → length w.made ≡ length v.made + 3
@@ -149,30 +148,30 @@ module _ {T : Type 0} (v w : View T) where
 
   -- `receive_within`, or `pop_within`, takes out a value where no try is allowed
   pub receive_within_pops_without_a_try : (item : Item T) → WasPoppedWithin 0 item v w → ⊥
-  receive_within_pops_without_a_try item h = (let few = h.few in absurd (omega arith))
+  receive_within_pops_without_a_try item was_popped_within = (absurd (omega (arith, was_popped_within.few)))
 
   -- it found the queue empty before, though one try is allowed: that pop is the first
   pub one_try_pops_first : (item : Item T) → WasPoppedWithin 1 item v w → PopDone item v w
-  one_try_pops_first item h =
-      let few = h.few in
-      let none : h.empty ≡ 0 = omega arith in
-      subst (λ u. PopDone item u w) (subst (λ n. WereEmpty n v h.last) none h.before) h.popped
+  one_try_pops_first item was_popped_within =
+      let few = was_popped_within.few in
+      let none : was_popped_within.empty ≡ 0 = omega arith in
+      subst (λ u. PopDone item u w) (subst (λ n. WereEmpty n v was_popped_within.last) none was_popped_within.before) was_popped_within.popped
 
 module _ {T : Type 0} (v w : View T) where
   -- it pops once where two tries are allowed
   pub receive_within_gives_up_early : WereEmpty 2 v w → length w.made ≡ length v.made + 3 → ⊥
-  receive_within_gives_up_early h once =
-      let first = finds_nothing h.1.0 h.0 h.1.2 in
-      let second = finds_nothing h.0 w h.2 in
-      let same = ap (λ (u : View T). length u.made) h.1.1 in
-      absurd (omega arith)
+  receive_within_gives_up_early were_empty once =
+      absurd (omega (
+        arith,
+        finds_nothing were_empty.1.0 were_empty.0 were_empty.1.2,
+        finds_nothing were_empty.0 w were_empty.2,
+        ap (λ (u : View T). length u.made) were_empty.1.1,
+      ))
 
   -- it pops twice where one is
   pub receive_within_pops_on : WereEmpty 1 v w → length w.made ≡ length v.made + 6 → ⊥
-  receive_within_pops_on h twice =
-      let first = finds_nothing h.0 w h.2 in
-      let same = ap (λ (u : View T). length u.made) h.1 in
-      absurd (omega arith)
+  receive_within_pops_on were_empty twice =
+      absurd (omega (arith, finds_nothing were_empty.0 w were_empty.2, ap (λ (u : View T). length u.made) were_empty.1))
 
 -- ---- calls of a queue's ends
 
@@ -181,7 +180,7 @@ refusal_is_made : {T : Type 0} (capacity : ℕ) (item : Item T) (u v : View T) �
     → length u.made ≡ length v.made → PushRefused capacity item u v → ⊥
 refusal_is_made capacity item u v more same (inl full) =
     (let made : length v.made ≡ length u.made + 3 = ap length full.0.called.made ∙ length-append u.made _ in absurd (omega arith))
-refusal_is_made capacity item u v more same (inr end) = (let last = end.end in absurd (omega arith))
+refusal_is_made capacity item u v more same (inr end) = (absurd (omega (arith, end.end)))
 
 module _ {T : Type 0} (named : T → Item T) (x : T) (xs : List T) (v : View T) where
   -- `push_all` gives up without a try, though the write position is not at its end
@@ -191,10 +190,7 @@ module _ {T : Type 0} (named : T → Item T) (x : T) (xs : List T) (v : View T) 
 
   -- `pop_all` gives up without a try
   pub pop_all_gives_up : WerePoppedUpTo named [] (x ∷ xs) v v → ⊥
-  pop_all_gives_up h =
-      let made = finds_nothing h.last v h.stopped in
-      let same = ap (λ (u : View T). length u.made) h.popped in
-      absurd (omega arith)
+  pop_all_gives_up h = absurd (omega (arith, finds_nothing h.last v h.stopped, ap (λ (u : View T). length u.made) h.popped))
 
 module _ {E T : Type 0} {kind : kinds.Ghosts E} {words : Ghosts T} (named : T → Item T) where
   module _ (first now : Producer E T kind words) (x : T) where
@@ -213,10 +209,12 @@ module _ {E T : Type 0} {kind : kinds.Ghosts E} {words : Ghosts T} (named : T �
     pub push_waiting_pushes_twice : Sending named first (x ∷ []) now
         → published (producer_view now).seen ≡ published (producer_view first).seen ++ named x ∷ named x ∷ [] → ⊥
     push_waiting_pushes_twice s came =
-        let long = ap length (sym came ∙ s.list) in
-        let two = length-append (published (producer_view first).seen) (named x ∷ named x ∷ []) in
-        let one = length-append (published (producer_view first).seen) (named x ∷ []) in
-        absurd (omega arith)
+        absurd (omega (
+          arith,
+          ap length (sym came ∙ s.list),
+          length-append (published (producer_view first).seen) (named x ∷ named x ∷ []),
+          length-append (published (producer_view first).seen) (named x ∷ []),
+        ))
 
     -- `push_all` passes over a value that was refused, and pushes the next one
     pub push_all_passes_over_a_value : Sending {V = T} named first [] now
@@ -242,32 +240,30 @@ module _ {E T : Type 0} {kind : kinds.Ghosts E} {words : Ghosts T} (named : T �
 module _ {T : Type 0} where
   -- pops that find none make more events, if any
   finding_none_makes_more : (n : ℕ) (v w : View T) → Times n PopFoundNone v w → length v.made ≤ length w.made
-  finding_none_makes_more zero v w h = (let same = ap (λ (u : View T). length u.made) h in omega arith)
-  finding_none_makes_more (suc n) v w h =
-      let so_far = finding_none_makes_more n v h.0 h.1 in
-      let made = ap length h.2.0.called.made ∙ length-append h.0.made _ in
-      omega arith
+  finding_none_makes_more zero v w times = omega (arith, ap (λ (u : View T). length u.made) times)
+  finding_none_makes_more (suc n) v w times =
+      omega (arith, finding_none_makes_more n v times.0 times.1, ap length times.2.0.called.made ∙ length-append times.0.made _)
 
 module _ {T : Type 0} (item : Item T) (v w : View T) where
   -- `pop_overflowing_within` takes a number out where no try is allowed
   pub pop_overflowing_within_takes_without_a_try : WasTakenWithin 0 item v w → ⊥
-  pop_overflowing_within_takes_without_a_try h = (let few = h.few in absurd (omega arith))
+  pop_overflowing_within_takes_without_a_try was_taken_within = (absurd (omega (arith, was_taken_within.few)))
 
   -- it gives a number where the queue has no capacity, or looks there
   pub pop_overflowing_within_gives_one_without_capacity : (capacity x : ℕ) → capacity ≡ 0 → (capacity ≡ 0 → Some x ≡ None) → ⊥
   pop_overflowing_within_gives_one_without_capacity capacity x none says = true≢false (ap is_some (says none))
 
   pub pop_overflowing_within_looks_without_capacity : (capacity : ℕ) → capacity ≡ 0 → w.asked ≡ v.asked + 1 → (capacity ≡ 0 → w ≡ v) → ⊥
-  pop_overflowing_within_looks_without_capacity capacity none looks says =
-      let same = ap (λ (u : View T). u.asked) (says none) in
-      absurd (omega arith)
+  pop_overflowing_within_looks_without_capacity capacity none looks says = absurd (omega (arith, ap (λ (u : View T). u.asked) (says none)))
 
   -- `pop_overflowing_waiting` answers a number, and has taken none out
   pub pop_overflowing_waiting_takes_none : (tries : ℕ) → WasTakenWithin tries item v w → length w.made ≡ length v.made → ⊥
-  pop_overflowing_waiting_takes_none tries h none =
-      let so_far = finding_none_makes_more h.empty v h.last h.before in
-      let made = ap length h.taken.0.called.made ∙ length-append h.last.made _ in
-      absurd (omega arith)
+  pop_overflowing_waiting_takes_none tries was_taken_within none =
+      absurd (omega (
+        arith,
+        finding_none_makes_more was_taken_within.empty v was_taken_within.last was_taken_within.before,
+        ap length was_taken_within.taken.0.called.made ∙ length-append was_taken_within.last.made _,
+      ))
 
 -- ---- `both_ends`
 
@@ -284,19 +280,21 @@ module _ {T : Type 0} (old taken new : View T) where
 
 -- it drops a value that came
 pub receive_all_drops_a_value : {A : Type 0} (xs ys : List A) (x : A) → GainAlike xs (xs ++ x ∷ []) ys ys → ⊥
-receive_all_drops_a_value xs ys x h =
-    let a = ap length h.1 in
-    let b = ap length h.2 in
-    let c = length-append xs (x ∷ []) in
-    let d = length-append xs h.0 in
-    let e = length-append ys h.0 in
-    absurd (omega arith)
+receive_all_drops_a_value xs ys x gain_alike =
+    absurd (omega (
+      arith,
+      ap length gain_alike.1,
+      ap length gain_alike.2,
+      length-append xs (x ∷ []),
+      length-append xs gain_alike.0,
+      length-append ys gain_alike.0,
+    ))
 
 -- it puts another value into the vector
 pub receive_all_puts_another : {A : Type 0} (xs ys : List A) (x y : A) → y ≢ x → GainAlike xs (xs ++ x ∷ []) ys (ys ++ y ∷ []) → ⊥
-receive_all_puts_another xs ys x y other h =
-    let came = append_cancel_left xs (x ∷ []) h.0 h.1 in
-    let put = append_cancel_left ys (y ∷ []) h.0 h.2 in
+receive_all_puts_another xs ys x y other gain_alike =
+    let came = append_cancel_left xs (x ∷ []) gain_alike.0 gain_alike.1 in
+    let put = append_cancel_left ys (y ∷ []) gain_alike.0 gain_alike.2 in
     other (ap (head y) (put ∙ sym came))
 
 -- ---- `receive_each`, with a worker that notes what it takes
@@ -326,7 +324,7 @@ abbrev seven : Item (Element ℕ)
 seven = Value (elements.Value 7)
 
 differ : (xs : List ℕ) → [] ≡ xs → 7 ∷ [] ≡ xs → ⊥
-differ xs none one = (let long = ap length (none ∙ sym one) in absurd (omega arith))
+differ xs none one = (absurd (omega (arith, ap length (none ∙ sym one))))
 
 -- one list for whatever was pushed
 pub join_knows_what_was_sent : (xs : List ℕ) → ((v : View (Element ℕ)) → OnlyPushes v → values_in (pushed_by v) ≡ xs) → ⊥

@@ -18,31 +18,31 @@ bits words events = machine kinds.Bits words registries.Nothing events
 
 -- a bit stands that nobody has set
 stands_unset : IsBitSet (bits (0 ∷ 1 ∷ []) []) → ⊥
-stands_unset k = let e = k.conserved 0 in cc
+stands_unset bit_set = cc (bit_set.conserved 0)
 
 -- a bit past the capacity is set
 past_the_capacity : IsBitSet (bits (0 ∷ 4 ∷ []) (events.Set 0 2 ∷ [])) → ⊥
-past_the_capacity k = let e = k.within 2 (omega arith) in cc
+past_the_capacity bit_set = cc (bit_set.within 2 (omega arith))
 
 -- a set answers false, though its bit stood at no moment of it
 abbrev refused : List (Event ℕ)
 refused = Begun 0 (Bits (Set 1)) ∷ Finished 0 (Bits (Set 1)) (Truth false) ∷ []
 
 refused_set : IsBitSet (bits (0 ∷ 0 ∷ []) refused) → ⊥
-refused_set k =
+refused_set bit_set =
     at_no_moment 0 _ (Begun 0 (Bits (Set 1)) ∷ []) ((λ e. cc), (λ e. cc))
-    (k.answers (Begun 0 (Bits (Set 1)) ∷ []) [] (Finished 0 (Bits (Set 1)) (Truth false)) refl)
+    (bit_set.answers (Begun 0 (Bits (Set 1)) ∷ []) [] (Finished 0 (Bits (Set 1)) (Truth false)) refl)
 
 -- a look answers that its bit stands, which does not, and one is of a place past the capacity
 abbrev pub seen : ℕ → Bool → List (Event ℕ)
 seen bit answer = Begun 0 (Bits (IsSet bit)) ∷ Finished 0 (Bits (IsSet bit)) (Truth answer) ∷ []
 
 seen_standing : IsBitSet (bits (0 ∷ 0 ∷ []) (seen 1 true)) → ⊥
-seen_standing k = let e = (k.answers (Begun 0 (Bits (IsSet 1)) ∷ []) [] (Finished 0 (Bits (IsSet 1)) (Truth true)) refl).1 in cc
+seen_standing bit_set = cc ((bit_set.answers (Begun 0 (Bits (IsSet 1)) ∷ []) [] (Finished 0 (Bits (IsSet 1)) (Truth true)) refl).1)
 
 seen_past_the_capacity : IsBitSet (bits (0 ∷ 0 ∷ []) (seen 9 false)) → ⊥
-seen_past_the_capacity k =
-    let low = (k.answers (Begun 0 (Bits (IsSet 9)) ∷ []) [] (Finished 0 (Bits (IsSet 9)) (Truth false)) refl).0 in absurd (omega arith)
+seen_past_the_capacity bit_set =
+    let low = (bit_set.answers (Begun 0 (Bits (IsSet 9)) ∷ []) [] (Finished 0 (Bits (IsSet 9)) (Truth false)) refl).0 in absurd (omega arith)
 
 -- words: the count of each place
 abbrev pub counts : List ℕ → List (Event ℕ) → Trace ℕ
@@ -50,11 +50,11 @@ counts words events = machine kinds.Counts words registries.Nothing events
 
 -- a place counts that nobody has counted
 counts_uncounted : IsCountingSet (counts (1 ∷ 0 ∷ []) []) → ⊥
-counts_uncounted k = let e = k.conserved 0 in cc
+counts_uncounted counting_set = cc (counting_set.conserved 0)
 
 -- a place past the capacity is counted
 counts_past_the_capacity : IsCountingSet (counts (0 ∷ 0 ∷ []) (Counted 0 2 ∷ [])) → ⊥
-counts_past_the_capacity k = let e = k.within 2 (omega arith) in cc
+counts_past_the_capacity counting_set = cc (counting_set.within 2 (omega arith))
 
 -- a set answers a count, and has counted nothing
 abbrev uncounted : List (Event ℕ)
@@ -66,8 +66,8 @@ no_count (a ∷ []) e = cc
 no_count (a ∷ b ∷ bs) e = cc
 
 counts_nothing : IsCountingSet (counts (0 ∷ 0 ∷ []) uncounted) → ⊥
-counts_nothing k =
-    let right = k.answers (Begun 0 (Bits (Set 1)) ∷ []) [] (Finished 0 (Bits (Set 1)) (Number 0)) refl in
+counts_nothing counting_set =
+    let right = counting_set.answers (Begun 0 (Bits (Set 1)) ∷ []) [] (Finished 0 (Bits (Set 1)) (Number 0)) refl in
     no_count right.before right.is
 
 -- a look answers another count than its place has
@@ -76,13 +76,13 @@ miscounted =
     Counted 1 1 ∷ Begun 0 (Bits (Count 1)) ∷ Finished 0 (Bits (Count 1)) (Number 2) ∷ []
 
 seen_miscounted : IsCountingSet (counts (0 ∷ 1 ∷ []) miscounted) → ⊥
-seen_miscounted k =
-    let e = (k.answers (Counted 1 1 ∷ Begun 0 (Bits (Count 1)) ∷ []) [] (Finished 0 (Bits (Count 1)) (Number 2)) refl).1 in cc
+seen_miscounted counting_set =
+    cc ((counting_set.answers (Counted 1 1 ∷ Begun 0 (Bits (Count 1)) ∷ []) [] (Finished 0 (Bits (Count 1)) (Number 2)) refl).1)
 
 -- a look at a count beyond the capacity
 abbrev past : List (Event ℕ)
 past = Begun 0 (Bits (Count 9)) ∷ Finished 0 (Bits (Count 9)) (Number 0) ∷ []
 
 seen_count_past_the_capacity : IsCountingSet (counts (0 ∷ 0 ∷ []) past) → ⊥
-seen_count_past_the_capacity k =
-    let low = (k.answers (Begun 0 (Bits (Count 9)) ∷ []) [] (Finished 0 (Bits (Count 9)) (Number 0)) refl).0 in absurd (omega arith)
+seen_count_past_the_capacity counting_set =
+    let low = (counting_set.answers (Begun 0 (Bits (Count 9)) ∷ []) [] (Finished 0 (Bits (Count 9)) (Number 0)) refl).0 in absurd (omega arith)

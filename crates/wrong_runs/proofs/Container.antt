@@ -37,32 +37,32 @@ recover owner = Container (Recover owner Default)
 
 -- an index is filled for two owners
 filled_twice : IsContainer (container still (Filled 0 0 7 ∷ Filled 1 0 9 ∷ [])) → ⊥
-filled_twice k = let e = (k.does (Filled 0 0 7 ∷ []) [] (Filled 1 0 9) refl).1 in cc
+filled_twice container = cc ((container.does (Filled 0 0 7 ∷ []) [] (Filled 1 0 9) refl).1)
 
 -- a recovery is told to free an index of an owner who lives
 told_of_the_living : IsContainer (container still (Told 1 0 7 ∷ [])) → ⊥
-told_of_the_living k = let e = k.asks [] [] (Told 1 0 7) refl in cc
+told_of_the_living container = cc (container.asks [] [] (Told 1 0 7) refl)
 
--- and frees it
+-- a recovery frees an index of an owner who lives
 frees_the_living : IsContainer (container still (Filled 0 0 7 ∷ Begun 1 (recover 7) ∷ FreedOf 1 0 7 ∷ [])) → ⊥
-frees_the_living k =
-    let e = (k.recovers (Filled 0 0 7 ∷ Begun 1 (recover 7) ∷ []) [] (FreedOf 1 0 7) refl).1 in cc
+frees_the_living container =
+    cc ((container.recovers (Filled 0 0 7 ∷ Begun 1 (recover 7) ∷ []) [] (FreedOf 1 0 7) refl).1)
 
 -- it says that it is locked, and is not
 says_so : IsContainer (container still (Finished 0 (Container IsLocked) (Truth true) ∷ [])) → ⊥
-says_so k = let e = k.answers [] [] (Finished 0 (Container IsLocked) (Truth true)) refl in cc
+says_so container = cc (container.answers [] [] (Finished 0 (Container IsLocked) (Truth true)) refl)
 
 -- a cell holds an owner, and nobody has filled it
 holds_unfilled : IsContainer (container (0 ∷ 7 ∷ empty ∷ 0 ∷ 0 ∷ 0 ∷ 0 ∷ 0 ∷ []) []) → ⊥
-holds_unfilled k = let e = k.cells 0 (omega arith) in absurd (omega arith)
+holds_unfilled container = absurd (omega (arith, container.cells 0 (omega arith)))
 
 -- the counter says that it is locked, and nobody has locked it
 counter_says_so : IsContainer (container ((2 ^ 64 - 1) ∷ empty ∷ empty ∷ 0 ∷ 0 ∷ 0 ∷ 0 ∷ 0 ∷ []) []) → ⊥
-counter_says_so k = let e = k.lock in cc
+counter_says_so container = cc (container.lock)
 
 -- the machine takes an owner for dead who has not died
 unnamed_dead : IsContainer (machine kinds.Container still (registries.Container (7 ∷ []) []) []) → ⊥
-unnamed_dead k = let e = k.dead 7 in cc
+unnamed_dead container = cc (container.dead 7)
 
 -- ---- a run of which the events are forgotten: an add, and a find that asks about its value, or a look at it
 
@@ -75,11 +75,12 @@ no_copy (a ∷ bs) one e = cc
 
 -- a find asks about a value that it has not copied
 asks_uncopied : IsContainer (forgotten (begins 1 (Container (Find 1)) 4)) → ⊥
-asks_uncopied k = let e = k.questions 1 0 5 refl in no_copy e.before (Copies 0 5) e.is
+asks_uncopied container = let asked_there = container.questions 1 0 5 refl in no_copy asked_there.before (Copies 0 5) asked_there.is
 
 -- a state shows a value that was not copied
 shows_uncopied : IsContainer (forgotten (begins 1 (Container GetState) 4)) → ⊥
-shows_uncopied k = let e = k.states 1 0 _ 5 refl refl refl in no_more e.before (Copied 1 0 5) e.after e.is
+shows_uncopied container = let shown_there = container.states 1 0 _ 5 refl refl refl in
+    no_more shown_there.before (Copied 1 0 5) shown_there.after shown_there.is
 
 -- ---- a well-formed run
 
@@ -92,7 +93,7 @@ abbrev pub copied : List (Event ℕ)
 copied = Copied 0 0 5 ∷ []
 
 pub copies_nothing : IsContained (container still copied) → ⊥
-copies_nothing k = let e = k.contents [] [] (Copied 0 0 5) refl in cc
+copies_nothing contained = cc (contained.contents [] [] (Copied 0 0 5) refl)
 
 pub copied_well_formed : IsWellFormedRun (container still copied)
 copied_well_formed =
@@ -100,19 +101,19 @@ copied_well_formed =
     (Each-append ReplacesRight [] copied (Each-nil ReplacesRight) (tt, tt))
 
 not_contained : IsContainer (container still copied) → ⊥
-not_contained k = copies_nothing (k.well_formed copied_well_formed)
+not_contained container = copies_nothing (container.well_formed copied_well_formed)
 
 -- an index is granted to two owners
 granted_twice : IsContained (container still (Filled 0 0 7 ∷ Granted 0 0 7 ∷ Granted 1 0 9 ∷ [])) → ⊥
-granted_twice k = let e = k.holders (Filled 0 0 7 ∷ Granted 0 0 7 ∷ []) [] (Granted 1 0 9) refl in cc
+granted_twice contained = cc (contained.holders (Filled 0 0 7 ∷ Granted 0 0 7 ∷ []) [] (Granted 1 0 9) refl)
 
 -- an add ends, and has placed nothing
 abbrev pub unplaced : List (Event ℕ)
 unplaced = Begun 0 (Container (Add 5 7)) ∷ Finished 0 (Container (Add 5 7)) (Index 0) ∷ []
 
 places_nothing : IsContained (container still unplaced) → ⊥
-places_nothing k =
-    let e = k.placed (Begun 0 (Container (Add 5 7)) ∷ []) [] (Finished 0 (Container (Add 5 7)) (Index 0)) refl in cc
+places_nothing contained =
+    cc (contained.placed (Begun 0 (Container (Add 5 7)) ∷ []) [] (Finished 0 (Container (Add 5 7)) (Index 0)) refl)
 
 -- a remove ends, and what stood at its index still stands
 abbrev before_end : List (Event ℕ)
@@ -124,16 +125,16 @@ no_act (a ∷ bs) after one e = cc
 
 -- a remove that ends while its value still stands is refused
 hides_nothing : IsContained (container still (before_end ++ Finished 0 (Container (Remove 0 7 Default)) (State states.Unlocked) ∷ [])) → ⊥
-hides_nothing k =
+hides_nothing contained =
     at_no_moment 0 _ before_end (
       (λ h. no_act h.0.before h.0.after (Frees 0 7) h.0.is),
       (
         (λ h. no_act h.0.before h.0.after (Frees 0 7) h.0.is),
-        ((λ h. no_act h.0.before h.0.after (Frees 0 7) h.0.is), (λ h. let e = h.1 in cc)),
+        ((λ h. no_act h.0.before h.0.after (Frees 0 7) h.0.is), (λ h. cc (h.1))),
       ),
     )
-    (k.hidden before_end [] (Finished 0 (Container (Remove 0 7 Default)) (State states.Unlocked)) refl)
+    (contained.hidden before_end [] (Finished 0 (Container (Remove 0 7 Default)) (State states.Unlocked)) refl)
 
 -- the number of an element is odd, and nothing stands there
 stands_unplaced : IsContained (container (0 ∷ empty ∷ empty ∷ 0 ∷ 1 ∷ 0 ∷ 0 ∷ 0 ∷ []) []) → ⊥
-stands_unplaced k = let e = k.elements 0 (omega arith) in cc
+stands_unplaced contained = cc (contained.elements 0 (omega arith))

@@ -16,7 +16,7 @@ none_step : (chosen : ℕ → Bool) (bound number : ℕ) (b : Bool) → chosen b
 none_step chosen bound number true e is none fewer = none e
 none_step chosen bound number false e is none fewer = fewer (sum_is (count_below chosen bound) (suc number) is)
 
--- if some are, one of them is
+-- where the count of the chosen indices below a bound is not zero, not every index below it is left out
 pub none_counted : (chosen : ℕ → Bool) (bound number : ℕ) → count_below chosen bound ≡ suc number
     → ((index : ℕ) → index < bound → chosen index ≡ true → ⊥)
     → ⊥

@@ -74,7 +74,7 @@ none_more (suc (suc (suc (suc zero)))) past h = ⊎_elim (λ e. cc) (λ e. cc) h
 none_more (suc (suc (suc (suc (suc n))))) past h = ⊎_elim (waits n) (λ e. cc) h
 
 starves : IsFair started turns 1 → ⊥
-starves h = none_more (h.at 1) (h.later 1) (h.goes 1)
+starves is_fair = none_more (is_fair.at 1) (is_fair.later 1) (is_fair.goes 1)
 
 -- ---- it is one of those of which `EndsIfFair` speaks: no turn is refused, all are of two parties, and no call begins
 

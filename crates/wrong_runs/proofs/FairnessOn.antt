@@ -26,7 +26,7 @@ abbrev turns : ℕ → Turn ℕ
 turns zero = Next 1
 turns (suc k) = Next 0
 
--- so every later turn is refused, and changes nothing
+-- every later turn is refused, and changes nothing
 refused_then : call_refusal (moment_on started turns 5).world (turns 5) ≡ Some Idle
 refused_then = refl
 
@@ -71,14 +71,14 @@ waits n none = waits_there (sym (same_call 1 n) ∙ none)
 -- from the second moment on party 1 has a call under way and takes no step
 none_more : (k : ℕ) → 1 ≤ k → (flight_in (moment_on started turns k).world 1 ≡ None) ⊎ IsStepOf 1 (moment_on started turns k).world (turns k) → ⊥
 none_more zero past h = absurd (omega arith)
-none_more (suc zero) past h = ⊎_elim (λ e. cc) (λ s. let e = s.1 in cc) h
-none_more (suc (suc zero)) past h = ⊎_elim (λ e. cc) (λ s. let e = s.1 in cc) h
-none_more (suc (suc (suc zero))) past h = ⊎_elim (λ e. cc) (λ s. let e = s.1 in cc) h
-none_more (suc (suc (suc (suc zero)))) past h = ⊎_elim (λ e. cc) (λ s. let e = s.1 in cc) h
-none_more (suc (suc (suc (suc (suc n))))) past h = ⊎_elim (waits n) (λ s. let e = s.1 in cc) h
+none_more (suc zero) past h = ⊎_elim (λ e. cc) (λ s. cc (s.1)) h
+none_more (suc (suc zero)) past h = ⊎_elim (λ e. cc) (λ s. cc (s.1)) h
+none_more (suc (suc (suc zero))) past h = ⊎_elim (λ e. cc) (λ s. cc (s.1)) h
+none_more (suc (suc (suc (suc zero)))) past h = ⊎_elim (λ e. cc) (λ s. cc (s.1)) h
+none_more (suc (suc (suc (suc (suc n))))) past h = ⊎_elim (waits n) (λ s. cc (s.1)) h
 
 starves : IsFairOn started turns 1 → ⊥
-starves h = none_more (h.at 1) (h.later 1) (h.goes 1)
+starves fair_on = none_more (fair_on.at 1) (fair_on.later 1) (fair_on.goes 1)
 
 -- ---- it is one of those of which `EndsIfFairOn` speaks: all turns are of two parties, and no call begins
 

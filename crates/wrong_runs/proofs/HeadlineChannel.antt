@@ -19,7 +19,7 @@ runs events = ChannelRuns 2 (channel still events)
 
 -- the submission queue has another capacity
 other_length : ChannelRuns 3 (channel still []) → ⊥
-other_length k = let e = k.length in cc
+other_length k = cc (k.length)
 
 -- ---- indices
 
@@ -29,34 +29,34 @@ claimed_twice k = two (1 ∷ 0 ∷ []) (k.no_two_hold (Claimed 0 0 ∷ Claimed 1
 
 -- a loan is answered an index that it has not claimed, or one that the channel does not have
 loaned_unclaimed : runs (Begun 0 loan ∷ Finished 0 loan (Index 0) ∷ []) → ⊥
-loaned_unclaimed k = let e = (k.acquired 0 0 (Begun 0 loan ∷ []) ([], refl)).0 in cc
+loaned_unclaimed k = cc ((k.acquired 0 0 (Begun 0 loan ∷ []) ([], refl)).0)
 
 loaned_past : runs (Begun 0 loan ∷ Claimed 0 5 ∷ Finished 0 loan (Index 5) ∷ []) → ⊥
-loaned_past k = let e = (k.acquired 0 5 (Begun 0 loan ∷ Claimed 0 5 ∷ []) ([], refl)).1 in absurd (omega arith)
+loaned_past k = absurd (omega (arith, (k.acquired 0 5 (Begun 0 loan ∷ Claimed 0 5 ∷ []) ([], refl)).1))
 
 -- a receive is answered an index that it has not taken out, or one that the channel does not have
 received_unsent : runs (Begun 1 receive ∷ Finished 1 receive (PoppedIndex 0) ∷ []) → ⊥
-received_unsent k = let e = (k.received 1 0 (Begun 1 receive ∷ []) ([], refl)).0 in cc
+received_unsent k = cc ((k.received 1 0 (Begun 1 receive ∷ []) ([], refl)).0)
 
 abbrev past : List (Event ℕ)
 past = Begun 1 receive ∷ HandedOut 1 (items.Index 5) ∷ []
 
 received_past : runs (past ++ Finished 1 receive (PoppedIndex 5) ∷ []) → ⊥
-received_past k = let e = (k.received 1 5 past ([], refl)).1 in absurd (omega arith)
+received_past k = absurd (omega (arith, (k.received 1 5 past ([], refl)).1))
 
 -- an index is freed that nobody has, and in no reclaim
 not_reclaimed : IsLeftOver {T = ℕ} 0 0 [] → ⊥
-not_reclaimed left = let e = left.reclaims in cc
+not_reclaimed left = cc (left.reclaims)
 
 -- or in a reclaim, while the receiver lives, or where he did not have it
 abbrev reclaim : Start ℕ
 reclaim = Loan Reclaim
 
 left_by_the_living : IsLeftOver {T = ℕ} 0 0 (Claimed 1 0 ∷ Begun 0 reclaim ∷ []) → ⊥
-left_by_the_living left = let e = left.dead in cc
+left_by_the_living left = cc (left.dead)
 
 left_by_another : IsLeftOver {T = ℕ} 0 0 (Claimed 0 0 ∷ Died 1 ∷ Begun 0 reclaim ∷ []) → ⊥
-left_by_another left = let e = left.held in cc
+left_by_another left = cc (left.held)
 
 freed_unheld : runs (Freed 0 0 ∷ []) → ⊥
 freed_unheld k = ⊎_elim (λ held. cc) not_reclaimed (k.freed 0 0 [] ([], refl))
@@ -68,7 +68,7 @@ acts_nowhere : (before since : List (Event ℕ)) → Begun 1 receive ∷ [] ≡ 
     → flat_map (act_of 1) since ≡ (receive, PoppedNone) ∷ [] → ⊥
 acts_nowhere [] since is once =
     let none : since ≡ [] = cc in
-    let e = subst (λ (xs : List (Event ℕ)). flat_map (act_of 1) xs ≡ (receive, PoppedNone) ∷ []) none once in cc
+    cc (subst (λ (xs : List (Event ℕ)). flat_map (act_of 1) xs ≡ (receive, PoppedNone) ∷ []) none once)
 acts_nowhere (e ∷ before) since is once = let more : [] ≡ before ++ Begun 1 receive ∷ since = cc in no_more before (Begun 1 receive) since more
 
 ends_unacted : runs (Begun 1 receive ∷ Finished 1 receive PoppedNone ∷ []) → ⊥
@@ -80,18 +80,18 @@ abbrev twice : List (Event ℕ)
 twice = Acted 1 receive PoppedNone ∷ Acted 1 receive PoppedNone ∷ []
 
 acts_twice : runs (Begun 1 receive ∷ twice) → ⊥
-acts_twice k = ⊎_elim (λ none. cc) (λ one. let e = one.1 in cc) (k.once 1 receive [] twice [] refl tt)
+acts_twice k = ⊎_elim (λ none. cc) (λ one. cc (one.1)) (k.once 1 receive [] twice [] refl tt)
 
 -- ---- the queues
 
 -- a receive answers an index that nobody has sent
 invents : runs (Acted 1 receive (PoppedIndex 0) ∷ []) → ⊥
-invents k = let e = k.list in cc
+invents k = cc (k.list)
 
 -- an index is sent, and waits in no cell
 sent_nowhere : runs (Published 0 (items.Index 0) ∷ []) → ⊥
-sent_nowhere k = let e = k.sent in cc
+sent_nowhere k = cc (k.sent)
 
 -- an index is given back, and waits in no cell
 returned_nowhere : runs (Returned 1 0 ∷ []) → ⊥
-returned_nowhere k = let e = k.returned in cc
+returned_nowhere k = cc (k.returned)

@@ -61,23 +61,23 @@ locked_over k = let none = k.none_once_locked over_well_formed over [] refl refl
 
 -- an add is answered an index that it was not granted, or one that the container does not have
 answered_ungranted : runs unplaced → ⊥
-answered_ungranted k = let e = (k.acquired 0 0 7 5 (Begun 0 add ∷ []) ([], refl)).0 in cc
+answered_ungranted k = cc ((k.acquired 0 0 7 5 (Begun 0 add ∷ []) ([], refl)).0)
 
 abbrev past : List (Event ℕ)
 past = Begun 0 add ∷ Filled 0 5 7 ∷ Granted 0 5 7 ∷ []
 
 answered_past : runs (past ++ Finished 0 add (Index 5) ∷ []) → ⊥
-answered_past k = let e = (k.acquired 0 5 7 5 past ([], refl)).1 in absurd (omega arith)
+answered_past k = absurd (omega (arith, (k.acquired 0 5 7 5 past ([], refl)).1))
 
 -- an index is freed that is not filled, or that is filled with another owner
 freed_unfilled : runs (FreedOf 0 0 7 ∷ []) → ⊥
-freed_unfilled k = let e = (k.freed 0 0 7 [] ([], refl)).0 in cc
+freed_unfilled k = cc ((k.freed 0 0 7 [] ([], refl)).0)
 
 abbrev of_another : List (Event ℕ)
 of_another = Filled 1 0 9 ∷ Begun 0 (remove 0 7) ∷ []
 
 freed_of_another : runs (of_another ++ FreedOf 0 0 7 ∷ []) → ⊥
-freed_of_another k = let e = (k.freed 0 0 7 of_another ([], refl)).0 in cc
+freed_of_another k = cc ((k.freed 0 0 7 of_another ([], refl)).0)
 
 -- it is freed by an add, by a remove of another index or for another owner, by a recovery of another owner,
 freed_by_add : runs (Begun 0 add ∷ Filled 0 0 7 ∷ FreedOf 0 0 7 ∷ []) → ⊥
@@ -87,19 +87,19 @@ abbrev wrong_index : List (Event ℕ)
 wrong_index = Filled 0 0 7 ∷ Filled 0 1 7 ∷ Begun 0 (remove 1 7) ∷ []
 
 freed_by_wrong_index : runs (wrong_index ++ FreedOf 0 0 7 ∷ []) → ⊥
-freed_by_wrong_index k = let e = (k.freed 0 0 7 wrong_index ([], refl)).1.0 in cc
+freed_by_wrong_index k = cc ((k.freed 0 0 7 wrong_index ([], refl)).1.0)
 
 abbrev wrong_owner : List (Event ℕ)
 wrong_owner = Filled 0 0 7 ∷ Begun 0 (remove 0 9) ∷ []
 
 freed_by_wrong_owner : runs (wrong_owner ++ FreedOf 0 0 7 ∷ []) → ⊥
-freed_by_wrong_owner k = let e = (k.freed 0 0 7 wrong_owner ([], refl)).1.1 in cc
+freed_by_wrong_owner k = cc ((k.freed 0 0 7 wrong_owner ([], refl)).1.1)
 
 abbrev wrong_recovery : List (Event ℕ)
 wrong_recovery = Filled 0 0 9 ∷ Begun 1 (recover Default) ∷ []
 
 freed_by_wrong_recovery : runs (wrong_recovery ++ FreedOf 1 0 9 ∷ []) → ⊥
-freed_by_wrong_recovery k = let e = (k.freed 1 0 9 wrong_recovery ([], refl)).1.0 in cc
+freed_by_wrong_recovery k = cc ((k.freed 1 0 9 wrong_recovery ([], refl)).1.0)
 
 -- or by a recovery of its owner that was neither told to free it nor shown it empty
 abbrev untold : List (Event ℕ)
@@ -114,7 +114,7 @@ freed_untold k =
 
 -- a value is copied that does not stand there
 copies_nothing : runs copied → ⊥
-copies_nothing k = let e = k.copied copied_well_formed 0 0 5 [] ([], refl) in cc
+copies_nothing k = cc (k.copied copied_well_formed 0 0 5 [] ([], refl))
 
 -- an add ends, and has placed nothing
 unplaced_well_formed : IsWellFormedRun (container still unplaced)
@@ -123,7 +123,7 @@ unplaced_well_formed =
     (Each-append ReplacesRight [] unplaced (Each-nil ReplacesRight) (tt, (tt, tt)))
 
 adds_nothing : runs unplaced → ⊥
-adds_nothing k = let e = k.added unplaced_well_formed 0 0 7 5 (Begun 0 add ∷ []) ([], refl) in cc
+adds_nothing k = cc (k.added unplaced_well_formed 0 0 7 5 (Begun 0 add ∷ []) ([], refl))
 
 -- a replace ends, and has placed nothing
 abbrev replacing : List (Event ℕ)
@@ -150,17 +150,17 @@ unreplaced_well_formed =
     (Each-append ReplacesRight [] unreplaced (Each-nil ReplacesRight) (tt, (tt, (may_replace, tt))))
 
 replaces_nothing : runs unreplaced → ⊥
-replaces_nothing k = let e = k.replaced unreplaced_well_formed 0 0 7 5 replacing ([], refl) in cc
+replaces_nothing k = cc (k.replaced unreplaced_well_formed 0 0 7 5 replacing ([], refl))
 
 -- ---- what is copied
 
 -- a find asks about a value that it has not copied
 asks_uncopied : ContainerRuns (forgotten (begins 1 (Container (Find 1)) 4)) → ⊥
-asks_uncopied k = let e = k.asked 1 0 5 refl in no_copy e.before (Copies 0 5) e.is
+asks_uncopied k = let asked_there = k.asked 1 0 5 refl in no_copy asked_there.before (Copies 0 5) asked_there.is
 
 -- a state shows a value that was not copied
 shows_uncopied : ContainerRuns (forgotten (begins 1 (Container GetState) 4)) → ⊥
-shows_uncopied k = let e = k.shown 1 0 _ 5 refl refl refl in no_more e.before (Copied 1 0 5) e.after e.is
+shows_uncopied k = let shown_there = k.shown 1 0 _ 5 refl refl refl in no_more shown_there.before (Copied 1 0 5) shown_there.after shown_there.is
 
 -- ---- recovery
 
@@ -254,19 +254,19 @@ abbrev waiting : List (Turn ℕ)
 waiting = begins 0 (Robust (robust.Acquire 1)) 8 ++ begins 1 (Robust (robust.Find 1)) 1
 
 waits_for_nothing : ContainerRuns (ran one_word kinds.Robust 1 2 waiting) → ⊥
-waits_for_nothing k = let e = k.waits 1 in cc
+waits_for_nothing k = cc (k.waits 1)
 
 -- the number of changes has gone on, and nothing has changed
 changed_by_nobody : ContainerRuns (container (0 ∷ 7 ∷ 7 ∷ 1 ∷ 0 ∷ 0 ∷ 0 ∷ 0 ∷ []) []) → ⊥
-changed_by_nobody k = let e = k.changes in cc
+changed_by_nobody k = cc (k.changes)
 
 -- an update says that something has changed, and nothing has
 update_of_nothing : runs (Finished 0 (Container UpdateState) (Truth true) ∷ []) → ⊥
-update_of_nothing k = let e = k.met 0 [] ([], refl) in absurd (omega arith)
+update_of_nothing k = absurd (omega (arith, k.met 0 [] ([], refl)))
 
 -- an update says that nothing has changed, and an add has ended
 abbrev added : List (Event ℕ)
 added = Finished 1 add (Index 0) ∷ []
 
 misses_an_add : runs (added ++ Finished 0 (Container UpdateState) (Truth false) ∷ []) → ⊥
-misses_an_add k = let e = k.met_none 0 added ([], refl) in cc
+misses_an_add k = cc (k.met_none 0 added ([], refl))

@@ -49,8 +49,8 @@ abbrev filled : List (Event ℕ)
 filled = Filled 0 0 7 ∷ Begun 1 find ∷ []
 
 passes_one : Takes (set filled) (Next 1) (set (filled ++ Finished 1 find (Number 0) ∷ [])) → ⊥
-passes_one k =
-    let count = (k.found refl).all 1 7 0 refl (no_decision 1) in
+passes_one takes =
+    let count = (takes.found refl).all 1 7 0 refl (no_decision 1) in
     one_of_two count.chosen (count.through 0 (omega arith) (throughout 1 find (IsFilledWith 7 0) (Filled 0 0 7 ∷ []) [] refl)) count.is
 
 -- a robust set of one index, which owner 1 has, and of which a find asks
@@ -59,8 +59,8 @@ asking = ran one_word kinds.Robust 1 2 (begins 0 (Robust (Acquire 1)) 8 ++ begin
 
 -- the find goes on after a decision to stop
 goes_on : Takes asking (Decide 1 false) asking → ⊥
-goes_on k =
-    let stopped = (k.found refl).up_to 1 1 0 refl (refl, tt) refl in not_ended (Robust (Find 1)) asking.events stopped.0 stopped.1
+goes_on takes =
+    let stopped = (takes.found refl).up_to 1 1 0 refl (refl, tt) refl in not_ended (Robust (Find 1)) asking.events stopped.0 stopped.1
 
 -- it ends, and has not counted the index that it asked about
 abbrev ended_by_no : Trace ℕ
@@ -78,8 +78,8 @@ forgets start before since number none filled count =
     one_of_one count.chosen (count.through 0 (omega arith) (throughout 1 start (IsFilledWith 1 0) before since filled)) (count.is ∙ sym none)
 
 forgets_one : Takes asking (Decide 1 false) ended_by_no → ⊥
-forgets_one k =
-    let stopped = (k.found refl).up_to 1 1 0 refl (refl, tt) refl in
+forgets_one takes =
+    let stopped = (takes.found refl).up_to 1 1 0 refl (refl, tt) refl in
     forgets (Robust (Find 1)) acquired [] stopped.0 (same_number (Robust (Find 1)) asking.events 0 stopped.0 stopped.1) refl stopped.2
 
 -- ---- of a container
@@ -92,8 +92,8 @@ abbrev filled_there : List (Event ℕ)
 filled_there = Filled 0 0 7 ∷ Begun 1 find_there ∷ []
 
 passes_one_there : Takes (container still filled_there) (Next 1) (container still (filled_there ++ Finished 1 find_there (Number 0) ∷ [])) → ⊥
-passes_one_there k =
-    let count = (k.found_there refl).all 1 7 0 [] refl (no_decision 1) in
+passes_one_there takes =
+    let count = (takes.found_there refl).all 1 7 0 [] refl (no_decision 1) in
     one_of_two count.chosen (count.through 0 (omega arith) (throughout 1 find_there (IsFilledWith 7 0) (Filled 0 0 7 ∷ []) [] refl)) count.is
 
 -- it has counted one, and has not copied the value that stood there throughout
@@ -110,8 +110,8 @@ uncopied_well =
 
 -- a find that has counted an index, and not copied the value that stood there, is refused
 copies_none : Takes (container still placed) (Next 1) (container still uncopied) → ⊥
-copies_none k =
-    let found = (k.found_there refl).all_copied uncopied_well 1 7 1 [] refl (no_decision 1) in
+copies_none takes =
+    let found = (takes.found_there refl).all_copied uncopied_well 1 7 1 [] refl (no_decision 1) in
     let chosen = found.count.through 0 (omega arith) (throughout 1 find_there (IsFilledWith 7 0) (Filled 0 0 7 ∷ Placed 0 0 5 ∷ []) [] refl) in
     let stood = throughout 1 find_there (λ part. is_some (contents_of 0 part) ≡ true) (Filled 0 0 7 ∷ Placed 0 0 5 ∷ []) [] refl in
     let copied = found.copied 0 (omega arith) chosen stood in
@@ -123,14 +123,15 @@ asking_there = ran one_word kinds.Container 1 2 (begins 0 (Container (containers
 
 -- the find goes on after a decision to stop
 goes_on_there : Takes asking_there (Decide 1 false) asking_there → ⊥
-goes_on_there k =
-    let stopped = (k.found_there refl).up_to 1 1 0 5 refl (refl, tt) refl in
+goes_on_there takes =
+    let stopped = (takes.found_there refl).up_to 1 1 0 5 refl (refl, tt) refl in
     not_ended (Container (containers.Find 1)) asking_there.events stopped.0 stopped.1
 
 -- it ends, and has not counted the index that it asked about
 abbrev ended_by_no_there : Trace ℕ
 ended_by_no_there = record asking_there { events = asking_there.events ++ Finished 1 (Container (containers.Find 1)) (Number 0) ∷ [] }
 
+-- what an add of the value 5 for owner 1 at index 0 writes down
 abbrev added : List (Event ℕ)
 added =
     Begun 0 (Container (containers.Add 5 1))
@@ -141,7 +142,7 @@ added =
     ∷ []
 
 forgets_one_there : Takes asking_there (Decide 1 false) ended_by_no_there → ⊥
-forgets_one_there k =
-    let stopped = (k.found_there refl).up_to 1 1 0 5 refl (refl, tt) refl in
+forgets_one_there takes =
+    let stopped = (takes.found_there refl).up_to 1 1 0 5 refl (refl, tt) refl in
     forgets (Container (containers.Find 1)) added (Copied 1 0 5 ∷ []) stopped.0
     (same_number (Container (containers.Find 1)) asking_there.events 0 stopped.0 stopped.1) (refl, refl) stopped.2

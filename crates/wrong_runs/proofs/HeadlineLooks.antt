@@ -61,7 +61,7 @@ showing count events = of_party ((1, state count) ∷ []) [] events
 
 -- a look leaves no state
 leaves_none : Takes (of_party [] [] (Begun 1 look ∷ [])) (Next 1) (of_party [] [] (Begun 1 look ∷ Finished 1 look (Number 0) ∷ [])) → ⊥
-leaves_none k = let e = (k.looked refl).leaves 1 GetState (Number 0) tt ([], refl) in cc
+leaves_none takes = cc ((takes.looked refl).leaves 1 GetState (Number 0) tt ([], refl))
 
 -- ---- in a well-formed run
 
@@ -87,7 +87,7 @@ stands : StoodThrough 1 0 5 missed
 stands = throughout 1 look (λ part. contents_of 0 part ≡ Some 5) added (Finished 1 look (Number 0) ∷ []) (refl, refl)
 
 misses : Takes (of_party [] [] (added ++ Begun 1 look ∷ [])) (Next 1) (showing 0 missed) → ⊥
-misses k = let e = (k.looked refl).stood missed_well 1 0 5 GetState (Number 0) (state 0) tt ([], refl) refl announced stands in cc
+misses takes = cc ((takes.looked refl).stood missed_well 1 0 5 GetState (Number 0) (state 0) tt ([], refl) refl announced stands)
 
 -- no other call is under way, and a value that stands is not shown
 abbrev standing : List (Event ℕ)
@@ -118,7 +118,7 @@ was_alone =
     }
 
 overlooks : Takes (of_party [] [] (standing ++ Begun 1 look ∷ [])) (Next 1) (showing 0 overlooked) → ⊥
-overlooks k = let e = (k.looked refl).alone overlooked_well 1 0 GetState (Number 0) (state 0) tt ([], refl) refl was_alone (omega arith) in cc
+overlooks takes = cc ((takes.looked refl).alone overlooked_well 1 0 GetState (Number 0) (state 0) tt ([], refl) refl was_alone (omega arith))
 
 -- an update answers true, and its state shows what stood at no moment of it
 abbrev beside : List (Event ℕ)
@@ -133,20 +133,20 @@ imagined_well =
     (Each-append ReplacesRight [] imagined (Each-nil ReplacesRight) (tt, (tt, (tt, tt))))
 
 imagines : Takes (showing 0 beside) (Next 1) (showing 1 imagined) → ⊥
-imagines k =
+imagines takes =
     at_no_moment 1 (λ past. Some 5 ≡ contents_of 0 past) imagined ((λ e. cc), ((λ e. cc), ((λ e. cc), (λ e. cc))))
-    ((k.looked refl).moments imagined_well 1 0 (state 1) ([], refl) refl (omega arith))
+    ((takes.looked refl).moments imagined_well 1 0 (state 1) ([], refl) refl (omega arith))
 
 -- ---- in every run
 
 -- a new state shows a value that its call has not copied
 keeps_old : Takes (showing 1 (standing ++ Begun 1 look ∷ [])) (Next 1) (showing 1 (standing ++ Begun 1 look ∷ Finished 1 look (Number 1) ∷ [])) → ⊥
-keeps_old k =
-    let one = (k.looked refl).own 1 0 5 (Number 1) (state 1) ([], refl) refl refl in no_more one.before (Copies 0 5) one.after one.is
+keeps_old takes =
+    let one = (takes.looked refl).own 1 0 5 (Number 1) (state 1) ([], refl) refl refl in no_more one.before (Copies 0 5) one.after one.is
 
 -- a look answers another number than that of the values that its state shows
 counts_wrong : Takes (of_party [] [] (Begun 1 look ∷ [])) (Next 1) (showing 0 (Begun 1 look ∷ Finished 1 look (Number 1) ∷ [])) → ⊥
-counts_wrong k = let e = (k.looked refl).number 1 1 (state 0) ([], refl) refl in cc
+counts_wrong takes = cc ((takes.looked refl).number 1 1 (state 0) ([], refl) refl)
 
 -- an update answers false, and has taken two steps, or has changed its state
 abbrev steps_in : ℕ → List (ℕ × Party ℕ)
@@ -159,7 +159,7 @@ abbrev ended : List (Event ℕ)
 ended = begun ++ Finished 1 update (Truth false) ∷ []
 
 false_late : Takes (showing 0 begun) (Next 1) (of_party ((1, state 0) ∷ []) (steps_in 2) ended) → ⊥
-false_late k = let e = ((k.looked refl).at_once 1 ([], refl)).0 in absurd (omega arith)
+false_late takes = absurd (omega (arith, ((takes.looked refl).at_once 1 ([], refl)).0))
 
 false_changes : Takes (of_party [] [] begun) (Next 1) (of_party ((1, state 0) ∷ []) (steps_in 1) ended) → ⊥
-false_changes k = let e = ((k.looked refl).at_once 1 ([], refl)).1 in cc
+false_changes takes = cc (((takes.looked refl).at_once 1 ([], refl)).1)

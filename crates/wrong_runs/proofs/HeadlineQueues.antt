@@ -30,13 +30,13 @@ acts_nowhere : (before since : List (Event ℕ)) → Begun 0 (push 7) ∷ [] ≡
     → flat_map (act_of 0) since ≡ (push 7, Truth true) ∷ [] → ⊥
 acts_nowhere [] since is once =
     let none : since ≡ [] = cc in
-    let e = subst (λ (xs : List (Event ℕ)). flat_map (act_of 0) xs ≡ (push 7, Truth true) ∷ []) none once in cc
+    cc (subst (λ (xs : List (Event ℕ)). flat_map (act_of 0) xs ≡ (push 7, Truth true) ∷ []) none once)
 acts_nowhere (e ∷ before) since is once = let more : [] ≡ before ++ Begun 0 (push 7) ∷ since = cc in no_more before (Begun 0 (push 7)) since more
 
 -- a push ends, and has not acted
 ends_unacted : IsList unacted → ⊥
-ends_unacted k =
-    let act = k.inside 0 (push 7) (Truth true) (Begun 0 (push 7) ∷ []) refl ([], refl) in acts_nowhere act.before act.since act.is act.once
+ends_unacted list =
+    let act = list.inside 0 (push 7) (Truth true) (Begun 0 (push 7) ∷ []) refl ([], refl) in acts_nowhere act.before act.since act.is act.once
 
 -- a push acts after its party has begun another one
 abbrev begun_again : List (Event ℕ)
@@ -59,11 +59,11 @@ abbrev twice : List (Event ℕ)
 twice = Acted 0 (push 7) (Truth true) ∷ Acted 0 (push 7) (Truth true) ∷ []
 
 acts_twice : IsList (Begun 0 (push 7) ∷ twice) → ⊥
-acts_twice k = ⊎_elim (λ none. cc) (λ one. let e = one.1 in cc) (k.once 0 (push 7) [] twice [] refl tt)
+acts_twice list = ⊎_elim (λ none. cc) (λ one. cc (one.1)) (list.once 0 (push 7) [] twice [] refl tt)
 
 -- a push says that an empty list is full
 pub full_at_once : IsList (Acted 0 (push 7) (Truth false) ∷ []) → ⊥
-full_at_once k = let e = k.answers in cc
+full_at_once list = cc (list.answers)
 
 -- a pop that begins after the end of a push does not find its value
 abbrev too_late : List (Event ℕ)
@@ -80,10 +80,10 @@ queue_full_at_once k = full_at_once k.list
 
 -- another value stands in the cell than was published
 other_cell : QueueRuns queues.IndexQueue (queue (1 ∷ 0 ∷ 1 ∷ 1 ∷ 8 ∷ 0 ∷ []) (Published 0 (Index 7) ∷ [])) → ⊥
-other_cell k = let e = k.conserved in cc
+other_cell k = cc (k.conserved)
 
 -- ---- the single value
 
 -- a load answers what nobody has stored
 invents : ValueRuns (value (1 ∷ 1 ∷ 0 ∷ 0 ∷ []) (Acted 0 (Atomic Load) (Loaded 5) ∷ [])) → ⊥
-invents k = let e = k.value.answers in cc
+invents k = cc (k.value.answers)

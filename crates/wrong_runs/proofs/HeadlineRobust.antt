@@ -52,23 +52,23 @@ locked_over k = let none = k.none_once_locked over_well_formed over [] refl refl
 
 -- an acquire is answered an index that it was not granted, or one that the set does not have
 answered_ungranted : robust (Begun 0 acquire ∷ Finished 0 acquire (Index 0) ∷ []) → ⊥
-answered_ungranted k = let e = (k.acquired 0 0 7 (Begun 0 acquire ∷ []) ([], refl)).0 in cc
+answered_ungranted k = cc ((k.acquired 0 0 7 (Begun 0 acquire ∷ []) ([], refl)).0)
 
 abbrev past : List (Event ℕ)
 past = Begun 0 acquire ∷ Filled 0 5 7 ∷ Granted 0 5 7 ∷ []
 
 answered_past : robust (past ++ Finished 0 acquire (Index 5) ∷ []) → ⊥
-answered_past k = let e = (k.acquired 0 5 7 past ([], refl)).1 in absurd (omega arith)
+answered_past k = absurd (omega (arith, (k.acquired 0 5 7 past ([], refl)).1))
 
 -- an index is freed that is not filled, or that is filled with another owner
 freed_unfilled : robust (FreedOf 0 0 7 ∷ []) → ⊥
-freed_unfilled k = let e = (k.freed 0 0 7 [] ([], refl)).0 in cc
+freed_unfilled k = cc ((k.freed 0 0 7 [] ([], refl)).0)
 
 abbrev of_another : List (Event ℕ)
 of_another = Filled 1 0 9 ∷ Begun 0 (release 0 7) ∷ []
 
 freed_of_another : robust (of_another ++ FreedOf 0 0 7 ∷ []) → ⊥
-freed_of_another k = let e = (k.freed 0 0 7 of_another ([], refl)).0 in cc
+freed_of_another k = cc ((k.freed 0 0 7 of_another ([], refl)).0)
 
 -- it is freed by an acquire, by a release of another index or for another owner, or by a recovery that was told nothing
 freed_by_acquire : robust (Begun 0 acquire ∷ Filled 0 0 7 ∷ FreedOf 0 0 7 ∷ []) → ⊥
@@ -78,13 +78,13 @@ abbrev wrong_index : List (Event ℕ)
 wrong_index = Filled 0 0 7 ∷ Filled 0 1 7 ∷ Begun 0 (release 1 7) ∷ []
 
 freed_by_wrong_index : robust (wrong_index ++ FreedOf 0 0 7 ∷ []) → ⊥
-freed_by_wrong_index k = let e = (k.freed 0 0 7 wrong_index ([], refl)).1.0 in cc
+freed_by_wrong_index k = cc ((k.freed 0 0 7 wrong_index ([], refl)).1.0)
 
 abbrev wrong_owner : List (Event ℕ)
 wrong_owner = Filled 0 0 7 ∷ Begun 0 (release 0 9) ∷ []
 
 freed_by_wrong_owner : robust (wrong_owner ++ FreedOf 0 0 7 ∷ []) → ⊥
-freed_by_wrong_owner k = let e = (k.freed 0 0 7 wrong_owner ([], refl)).1.1 in cc
+freed_by_wrong_owner k = cc ((k.freed 0 0 7 wrong_owner ([], refl)).1.1)
 
 abbrev untold : List (Event ℕ)
 untold = Filled 0 0 7 ∷ Begun 1 (recover Default) ∷ Asked 1 0 7 ∷ []
@@ -128,8 +128,8 @@ asks_nothing k =
 -- ---- a recovery that might lock ends unlocked, and after it has freed an index none is filled
 
 pub none_stays : (b : Bool) → is_some {T = ℕ} (if b then None else (if b then Some 7 else None)) ≡ true → ⊥
-none_stays true e = cc
-none_stays false e = cc
+none_stays true is_there = cc
+none_stays false is_there = cc
 
 abbrev emptied : List (Event ℕ)
 emptied = Filled 0 0 7 ∷ Begun 1 (recover LockIfLastIndex) ∷ FreedOf 1 0 7 ∷ []

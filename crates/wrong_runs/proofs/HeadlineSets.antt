@@ -23,15 +23,15 @@ use Rattle.wrong_runs.proofs.Machines.{at_none_since}
 
 -- a bit stands that nobody has set
 stands_unset : BitsRun (bits (0 ∷ 1 ∷ []) []) → ⊥
-stands_unset k = let e = k.conserved 0 in cc
+stands_unset k = cc (k.conserved 0)
 
 -- a set answers true, and has set nothing
 sets_nothing : BitsRun (bits (0 ∷ 0 ∷ []) (Begun 0 (Bits (Set 1)) ∷ Finished 0 (Bits (Set 1)) (Truth true) ∷ [])) → ⊥
-sets_nothing k = let e = k.set 0 1 (Begun 0 (Bits (Set 1)) ∷ []) ([], refl) in cc
+sets_nothing k = cc (k.set 0 1 (Begun 0 (Bits (Set 1)) ∷ []) ([], refl))
 
 -- a reset answers a bit, and has cleared nothing
 clears_nothing : BitsRun (bits (0 ∷ 0 ∷ []) (Begun 0 (Bits ResetNext) ∷ Finished 0 (Bits ResetNext) (Reset 1) ∷ [])) → ⊥
-clears_nothing k = let e = k.reset 0 1 (Begun 0 (Bits ResetNext) ∷ []) ([], refl) in cc
+clears_nothing k = cc (k.reset 0 1 (Begun 0 (Bits ResetNext) ∷ []) ([], refl))
 
 -- a reset of the next one answers the second of two bits that stand, though the reset position is the first
 abbrev skipping : List (Event ℕ)
@@ -56,11 +56,11 @@ skips_a_bit k = let came = k.reset_came 0 1 skipping ([], refl) in skips came.st
 
 -- a place counts that nobody has counted
 counts_uncounted : CountsRun (counts (1 ∷ 0 ∷ []) []) → ⊥
-counts_uncounted k = let e = k.conserved 0 in cc
+counts_uncounted counts_run = cc (counts_run.conserved 0)
 
 -- a set answers a count, and has counted nothing
 counts_nothing : CountsRun (counts (0 ∷ 0 ∷ []) (Begun 0 (Bits (Set 1)) ∷ Finished 0 (Bits (Set 1)) (Number 0) ∷ [])) → ⊥
-counts_nothing k = let e = k.counted 0 1 0 (Begun 0 (Bits (Set 1)) ∷ []) ([], refl) in cc
+counts_nothing counts_run = cc (counts_run.counted 0 1 0 (Begun 0 (Bits (Set 1)) ∷ []) ([], refl))
 
 -- ---- unique indices
 
@@ -86,20 +86,20 @@ locked_over k = let none = k.none_once_locked (Claimed 0 0 ∷ Locked 1 ∷ []) 
 
 -- an acquire is answered an index that it has not claimed, or one that the set does not have
 answered_unclaimed : indices (Begun 0 acquire ∷ Finished 0 acquire (Index 0) ∷ []) → ⊥
-answered_unclaimed k = let e = ap (λ (d : SetActs). d.claimed) (k.acquired 0 0 (Begun 0 acquire ∷ []) ([], refl)).0 in cc
+answered_unclaimed k = cc (ap (λ (d : SetActs). d.claimed) (k.acquired 0 0 (Begun 0 acquire ∷ []) ([], refl)).0)
 
 answered_past : indices (Begun 0 acquire ∷ Claimed 0 5 ∷ Finished 0 acquire (Index 5) ∷ []) → ⊥
-answered_past k = let e = (k.acquired 0 5 (Begun 0 acquire ∷ Claimed 0 5 ∷ []) ([], refl)).1 in absurd (omega arith)
+answered_past k = absurd (omega (arith, (k.acquired 0 5 (Begun 0 acquire ∷ Claimed 0 5 ∷ []) ([], refl)).1))
 
 -- an index is freed that nobody holds, or that another party holds
 freed_unheld : indices (Freed 0 0 ∷ []) → ⊥
-freed_unheld k = let e = (k.freed 0 0 [] ([], refl)).0 in cc
+freed_unheld k = cc ((k.freed 0 0 [] ([], refl)).0)
 
 abbrev of_another : List (Event ℕ)
 of_another = Claimed 1 0 ∷ Begun 0 (release 0) ∷ []
 
 freed_of_another : indices (of_another ++ Freed 0 0 ∷ []) → ⊥
-freed_of_another k = let e = (k.freed 0 0 of_another ([], refl)).0 in cc
+freed_of_another k = cc ((k.freed 0 0 of_another ([], refl)).0)
 
 -- it is freed by an acquire, or by a release of another index
 freed_by_acquire : indices (Begun 0 acquire ∷ Claimed 0 0 ∷ Freed 0 0 ∷ []) → ⊥
@@ -109,4 +109,4 @@ abbrev wrong_release : List (Event ℕ)
 wrong_release = Claimed 0 0 ∷ Claimed 0 1 ∷ Begun 0 (release 1) ∷ []
 
 freed_by_wrong_release : indices (wrong_release ++ Freed 0 0 ∷ []) → ⊥
-freed_by_wrong_release k = let e = (k.freed 0 0 wrong_release ([], refl)).1 in cc
+freed_by_wrong_release k = cc ((k.freed 0 0 wrong_release ([], refl)).1)

@@ -38,14 +38,14 @@ went steps backs =
 
 -- a call has turned back, and nobody has changed a word
 turns_back : MakesProgress (went 0 1) → ⊥
-turns_back k = let e = k.paid 0 _ refl in absurd (omega arith)
+turns_back k = absurd (omega (arith, k.paid 0 _ refl))
 
 -- a push has taken 9 steps
 steps_on : MakesProgress (went 9 0) → ⊥
-steps_on k = let e = k.bounded 0 (push 7) _ refl refl in absurd (omega arith)
+steps_on k = absurd (omega (arith, k.bounded 0 (push 7) _ refl refl))
 
 waits_on : MakesProgress (went 9 0) → ⊥
-waits_on k = let e = k.guaranteed 0 (push 7) _ refl refl in absurd (omega arith)
+waits_on k = absurd (omega (arith, k.guaranteed 0 (push 7) _ refl refl))
 
 -- ---- any kind
 
@@ -58,7 +58,7 @@ not_progressing k = turns_back k.progress
 
 -- a role is refused that nobody holds
 not_kept : IsKept (queue (0 ∷ 0 ∷ 1 ∷ 1 ∷ 0 ∷ 0 ∷ []) queues.refused) → ⊥
-not_kept k = queues.refused_role k.promised
+not_kept kept = queues.refused_role kept.promised
 
 -- ---- one turn
 
@@ -67,29 +67,29 @@ opened = ran one_word kinds.IndexQueue 2 2 []
 
 -- a party with no call changes a word
 writes_unasked : Takes opened (Next 0) (queue (1 ∷ 0 ∷ 1 ∷ 1 ∷ 0 ∷ 0 ∷ []) []) → ⊥
-writes_unasked k = let e = k.one_word in cc
+writes_unasked takes = cc (takes.one_word)
 
 -- another party's call has begun
 other : ◌≡◌ {A = ℕ} 1 0 → ⊥
 other e = cc
 
 moves_another : Takes opened (Next 0) (ran one_word kinds.IndexQueue 2 2 (Begin 1 (Queues Len) ∷ [])) → ⊥
-moves_another k = let e = k.others_stay 1 other in cc
+moves_another takes = cc (takes.others_stay 1 other)
 
 -- an event is gone
 forgets : Takes (queue (0 ∷ 0 ∷ 1 ∷ 1 ∷ 0 ∷ 0 ∷ []) (Died 0 ∷ [])) (Next 0) opened → ⊥
-forgets k = let e = k.grows.1 in cc
+forgets takes = cc (takes.grows.1)
 
 -- the submission queue has another capacity
 grows_longer : Takes (channel still []) (Next 0) (machine kinds.Loan still (registries.Loan (record fresh { queue = 3 })) []) → ⊥
-grows_longer k = let e = k.keeps_queue in cc
+grows_longer takes = cc (takes.keeps_queue)
 
 -- a remove of an index that the container does not have asks for nothing, and does not end
 abbrev refusing : Trace ℕ
 refusing = ran one_word kinds.Container 1 2 (Begin 0 (Container (Remove 5 7 Default)) ∷ [])
 
 refuses_on : Takes refusing (Next 0) refusing → ⊥
-refuses_on k = let e = k.ends 0 refl refl in cc
+refuses_on takes = cc (takes.ends 0 refl refl)
 
 -- a robust set of one index, which owner 1 has, and for which party 1 has begun a find that has taken so many steps
 abbrev finding : ℕ → Trace ℕ
@@ -100,16 +100,16 @@ set events = machine kinds.Robust (0 ∷ 7 ∷ []) (registries.Owners []) events
 
 -- it writes that a recovery asks which asks nothing
 asks_nothing : Takes (set []) (Next 0) (set (Asked 0 0 7 ∷ [])) → ⊥
-asks_nothing k = let e = k.asks refl 0 0 7 (Asked 0 0 7 ∷ []) refl (record { before = []; after = []; is = refl }) in cc
+asks_nothing takes = let e = takes.asks refl 0 0 7 (Asked 0 0 7 ∷ []) refl (record { before = []; after = []; is = refl }) in cc
 
 -- a find comes to an index of its owner, and asks nothing
 finds_nothing : Takes (finding 0) (Next 1) (set []) → ⊥
-finds_nothing k = let e = k.finds refl 1 0 1 refl (refl, tt) refl in cc
+finds_nothing takes = cc (takes.finds refl 1 0 1 refl (refl, tt) refl)
 
 -- a find still waits after a decision
 waits_still : Takes (finding 1) (Decide 1 true) (finding 1) → ⊥
-waits_still k = let e = k.answered (inl refl) 1 true refl in cc
+waits_still takes = cc (takes.answered (inl refl) 1 true refl)
 
 -- a turn is taken, and none is counted
 not_counted : IsTurn opened (Next 0) opened → ⊥
-not_counted k = let e = k.later.turns in cc
+not_counted turn = cc (turn.later.turns)

@@ -20,28 +20,29 @@ set words events = machine kinds.Indices words (registries.Indices []) events
 
 -- an index is claimed by two
 claimed_twice : IsIndexSet (set (0 ∷ 1 ∷ 2 ∷ 1 ∷ []) (Claimed 0 0 ∷ Claimed 1 0 ∷ [])) → ⊥
-claimed_twice k = let e = (k.holds (Claimed 0 0 ∷ []) [] (Claimed 1 0) refl).1 in cc
+claimed_twice index_set = cc ((index_set.holds (Claimed 0 0 ∷ []) [] (Claimed 1 0) refl).1)
 
 -- it says that it is locked, and is not
 says_so : IsIndexSet (set (0 ∷ 1 ∷ 2 ∷ 0 ∷ []) (Finished 0 (starts.Indices IsLocked) (Truth true) ∷ [])) → ⊥
-says_so k = let e = k.answers [] [] (Finished 0 (starts.Indices IsLocked) (Truth true)) refl in cc
+says_so index_set = cc (index_set.answers [] [] (Finished 0 (starts.Indices IsLocked) (Truth true)) refl)
 
 -- a flag stands, and nobody holds the index
 flag_stands : IsIndexSet (set (0 ∷ 1 ∷ 2 ∷ 1 ∷ []) []) → ⊥
-flag_stands k = let e = k.flags 0 (omega arith) in cc
+flag_stands index_set = cc (index_set.flags 0 (omega arith))
 
 -- the head says that it is locked, and nobody has locked it
 head_says_so : IsIndexSet (set ((2 ^ 24 - 1) ∷ 1 ∷ 2 ∷ 0 ∷ []) []) → ⊥
-head_says_so k = let e = k.lock in cc
+head_says_so index_set = cc (index_set.lock)
 
 -- the machine lets a party give an index back that it has not claimed
 unnamed_holder : IsIndexSet (machine kinds.Indices (0 ∷ 1 ∷ 2 ∷ 0 ∷ []) (registries.Indices (Some 0 ∷ [])) []) → ⊥
-unnamed_holder k = let e = k.holders 0 in cc
+unnamed_holder index_set = cc (index_set.holders 0)
 
 -- a release in mode Default has turned back
 abbrev turned_back : Party ℕ
 turned_back = record { start = starts.Indices (Release 0 Default); steps = 7; backs = 1; doing = Over 0 }
 
+-- a trace whose last call is that release
 abbrev released : Trace ℕ
 released =
     record {
@@ -50,4 +51,4 @@ released =
     }
 
 turns_back : IsIndexSet released → ⊥
-turns_back k = let e = k.straight 0 turned_back refl in cc
+turns_back index_set = cc (index_set.straight 0 turned_back refl)

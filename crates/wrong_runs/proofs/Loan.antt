@@ -35,11 +35,11 @@ receive = starts.Loan Receive
 
 -- an index is claimed that somebody has
 claimed_twice : IsChannelOf fresh (channel still (Claimed 0 0 ∷ Claimed 1 0 ∷ [])) → ⊥
-claimed_twice k = let e = (k.moves (Claimed 0 0 ∷ []) [] (Claimed 1 0) refl).1 in cc
+claimed_twice k = cc ((k.moves (Claimed 0 0 ∷ []) [] (Claimed 1 0) refl).1)
 
 -- the receiver loans
 receiver_loans : IsChannelOf fresh (channel still (Begun 1 loan ∷ [])) → ⊥
-receiver_loans k = let e = k.begins [] [] (Begun 1 loan) refl in cc
+receiver_loans k = cc (k.begins [] [] (Begun 1 loan) refl)
 
 -- a loan fails because of a lock
 locked : IsChannelOf fresh (channel still (Finished 0 loan (NoIndex failures.IsLocked) ∷ [])) → ⊥
@@ -47,14 +47,14 @@ locked k = k.answers [] [] (Finished 0 loan (NoIndex failures.IsLocked)) refl
 
 -- who has died receives
 dead_receives : IsChannelOf fresh (channel still (Died 1 ∷ Begun 1 receive ∷ [])) → ⊥
-dead_receives k = let e = k.lives (Died 1 ∷ []) [] (Begun 1 receive) refl in cc
+dead_receives k = cc (k.lives (Died 1 ∷ []) [] (Begun 1 receive) refl)
 
 -- the sender's table says that an index is loaned that nobody has claimed
 abbrev tabled : Book
 tabled = record fresh { places = places.Loaned ∷ [] }
 
 loaned_unclaimed : IsChannelOf tabled (machine kinds.Loan still (registries.Loan tabled) []) → ⊥
-loaned_unclaimed k = let e = k.table 0 in cc
+loaned_unclaimed k = cc (k.table 0)
 
 -- an index is in passing, and its party has no call
 passes_nowhere : IsChannelOf fresh (channel still (Claimed 0 0 ∷ [])) → ⊥
@@ -79,14 +79,14 @@ flag_stands k = (k.flags 0 (omega arith)).0 refl refl
 
 -- an index is sent, and waits in no cell
 sent_nowhere : IsChannelOf fresh (channel still (Published 0 (items.Index 0) ∷ [])) → ⊥
-sent_nowhere k = let e = k.sent in cc
+sent_nowhere k = cc (k.sent)
 
 -- the submission queue holds an index that nobody has sent, or one twice
 abbrev filled : List ℕ
 filled = 0 ∷ 1 ∷ 2 ∷ 0 ∷ 1 ∷ 0 ∷ 1 ∷ 1 ∷ 0 ∷ 0 ∷ 0 ∷ 0 ∷ 0 ∷ 1 ∷ 1 ∷ 0 ∷ 0 ∷ []
 
 waits_unsent : IsChannelOf fresh (channel filled []) → ⊥
-waits_unsent k = let e = (k.waits.each 0).0 (0, omega arith, refl) in cc
+waits_unsent k = cc ((k.waits.each 0).0 (0, omega arith, refl))
 
 abbrev filled_twice : List ℕ
 filled_twice = 0 ∷ 1 ∷ 2 ∷ 0 ∷ 2 ∷ 0 ∷ 1 ∷ 1 ∷ 0 ∷ 0 ∷ 0 ∷ 0 ∷ 0 ∷ 1 ∷ 1 ∷ 0 ∷ 0 ∷ []
@@ -96,22 +96,22 @@ waits_twice k = k.waits.once 0 1 (items.Index 0) (omega arith) (omega arith) ref
 
 -- an index is published, and no send has acted
 unacted : IsChannelOf fresh (channel filled (Published 0 (items.Index 0) ∷ [])) → ⊥
-unacted k = let e = k.list in cc
+unacted k = cc (k.list)
 
 -- a receive answers an index that nobody has sent
 invents : IsChannelOf fresh (channel still (Acted 1 receive (PoppedIndex 0) ∷ [])) → ⊥
-invents k = let e = k.legal in cc
+invents k = cc (k.legal)
 
 -- an index is given back, and waits in no cell
 returned_nowhere : IsChannelOf fresh (channel still (Returned 1 0 ∷ [])) → ⊥
-returned_nowhere k = let e = k.returned in cc
+returned_nowhere k = cc (k.returned)
 
 -- the completion queue holds an index that nobody has given back
 abbrev returning : List ℕ
 returning = 0 ∷ 1 ∷ 2 ∷ 0 ∷ 0 ∷ 0 ∷ 1 ∷ 1 ∷ 0 ∷ 0 ∷ 0 ∷ 1 ∷ 0 ∷ 1 ∷ 1 ∷ 0 ∷ 0 ∷ []
 
 returns_unreturned : IsChannelOf fresh (channel returning []) → ⊥
-returns_unreturned k = let e = (k.returns.each 0).0 (0, omega arith, refl) in cc
+returns_unreturned k = cc ((k.returns.each 0).0 (0, omega arith, refl))
 
 -- what is kept says what the events do not: of the table, of who has an index, of the receiver, of the dead
 placed : IsChannelOf tabled (machine kinds.Loan still (registries.Loan tabled) []) → ⊥
@@ -121,16 +121,16 @@ abbrev named : Book
 named = record fresh { holders = Some 0 ∷ [] }
 
 unnamed_holder : IsChannelOf named (machine kinds.Loan still (registries.Loan named) []) → ⊥
-unnamed_holder k = let e = k.keeps.holders 0 in cc
+unnamed_holder k = cc (k.keeps.holders 0)
 
 abbrev second : Book
 second = record fresh { receiver = 2 }
 
 other_receiver : IsChannelOf second (machine kinds.Loan still (registries.Loan second) []) → ⊥
-other_receiver k = let e = k.keeps.receiver in cc
+other_receiver k = cc (k.keeps.receiver)
 
 abbrev mourned : Book
 mourned = record fresh { dead = 1 ∷ [] }
 
 unnamed_dead : IsChannelOf mourned (machine kinds.Loan still (registries.Loan mourned) []) → ⊥
-unnamed_dead k = let e = k.keeps.dead 1 in cc
+unnamed_dead k = cc (k.keeps.dead 1)

@@ -99,17 +99,17 @@ are_taken t [] = true
 are_taken t (turn ∷ turns) = may (refusal_of t.world turn) && are_taken (after_turn t turn) turns
 
 may_is : (o : Option Refusal) → may o ≡ true → o ≡ None
-may_is None e = refl
-may_is (Some refusal) e = absurd (cc)
+may_is None allowed = refl
+may_is (Some refusal) allowed = absurd (cc)
 
 both : (a b : Bool) → (a && b) ≡ true → (a ≡ true) × (b ≡ true)
 both true b e = (refl, e)
 both false b e = absurd (cc)
 
 all_allowed : (t : Trace ℕ) (turns : List (Turn ℕ)) → are_taken t turns ≡ true → AreAllowed t turns
-all_allowed t [] e = tt
-all_allowed t (turn ∷ turns) e =
-    let here = both (may (refusal_of t.world turn)) (are_taken (after_turn t turn) turns) e in
+all_allowed t [] taken = tt
+all_allowed t (turn ∷ turns) taken =
+    let here = both (may (refusal_of t.world turn)) (are_taken (after_turn t turn) turns) taken in
     (may_is (refusal_of t.world turn) here.0, all_allowed (after_turn t turn) turns here.1)
 
 -- so the law says that party 0 has ended a call, and it has ended six

@@ -41,30 +41,30 @@ abbrev set : List ℕ → List (Event ℕ) → Trace ℕ
 set words events = machine kinds.Robust words (registries.Owners []) events
 
 filled_twice : IsOpenSet (set (0 ∷ 7 ∷ empty ∷ []) (Filled 0 0 7 ∷ Filled 1 0 9 ∷ [])) → ⊥
-filled_twice k = let e = (k.does (Filled 0 0 7 ∷ []) [] (Filled 1 0 9) refl).1 in cc
+filled_twice open_set = cc ((open_set.does (Filled 0 0 7 ∷ []) [] (Filled 1 0 9) refl).1)
 
 -- a recovery asks about an index that nobody has filled
 asks_of_nothing : IsOpenSet (set (0 ∷ empty ∷ empty ∷ []) (Asked 1 0 7 ∷ [])) → ⊥
-asks_of_nothing k = let e = (k.asks [] [] (Asked 1 0 7) refl).0 in cc
+asks_of_nothing open_set = cc ((open_set.asks [] [] (Asked 1 0 7) refl).0)
 
 says_so : IsOpenSet (set (0 ∷ empty ∷ empty ∷ []) (Finished 0 (starts.Robust robust.IsLocked) (Truth true) ∷ [])) → ⊥
-says_so k = let e = k.answers [] [] (Finished 0 (starts.Robust robust.IsLocked) (Truth true)) refl in cc
+says_so open_set = cc (open_set.answers [] [] (Finished 0 (starts.Robust robust.IsLocked) (Truth true)) refl)
 
 granted_twice : IsOpenSet (set (0 ∷ 7 ∷ empty ∷ []) two) → ⊥
-granted_twice k = let e = k.holds well_formed honest (Filled 0 0 7 ∷ Granted 0 0 7 ∷ []) [] (Granted 1 0 9) refl in cc
+granted_twice open_set = cc (open_set.holds well_formed honest (Filled 0 0 7 ∷ Granted 0 0 7 ∷ []) [] (Granted 1 0 9) refl)
 
 holds_unfilled : IsOpenSet (set (0 ∷ 7 ∷ empty ∷ []) []) → ⊥
-holds_unfilled k = let e = k.cells 0 (omega arith) in absurd (omega arith)
+holds_unfilled open_set = absurd (omega (arith, open_set.cells 0 (omega arith)))
 
 counter_says_so : IsOpenSet (set ((2 ^ 64 - 1) ∷ empty ∷ empty ∷ []) []) → ⊥
-counter_says_so k = let e = k.lock in cc
+counter_says_so open_set = cc (open_set.lock)
 
 -- an owner is seen to die
 seen_to_die : IsOpenSet (set (0 ∷ empty ∷ empty ∷ []) (Died 7 ∷ [])) → ⊥
-seen_to_die k = let e = k.lives 7 in cc
+seen_to_die open_set = cc (open_set.lives 7)
 
 unnamed_dead : IsOpenSet (machine kinds.Robust (0 ∷ empty ∷ empty ∷ []) (registries.Owners (7 ∷ [])) []) → ⊥
-unnamed_dead k = let e = k.dead 7 in cc
+unnamed_dead open_set = cc (open_set.dead 7)
 
 -- ---- the container, of whatever turns
 
@@ -73,11 +73,11 @@ abbrev IsRefused : Trace ℕ → Type 0
 IsRefused t = (r : IsReachedOpen t) → IsOpenContainer t r → ⊥
 
 filled_twice_there : IsRefused (plain.container plain.still (Filled 0 0 7 ∷ Filled 1 0 9 ∷ []))
-filled_twice_there r k = let e = (k.does (Filled 0 0 7 ∷ []) [] (Filled 1 0 9) refl).1 in cc
+filled_twice_there r k = cc ((k.does (Filled 0 0 7 ∷ []) [] (Filled 1 0 9) refl).1)
 
 -- a recovery is told to free an index of an owner for whom none has begun
 told_unbegun : IsRefused (plain.container plain.still (Told 1 0 7 ∷ []))
-told_unbegun r k = let e = k.asks [] [] (Told 1 0 7) refl in cc
+told_unbegun r k = cc (k.asks [] [] (Told 1 0 7) refl)
 
 -- a recovery frees an index of an owner who is not its own
 abbrev other : Start ℕ
@@ -90,39 +90,39 @@ frees_another : IsRefused (plain.container plain.still (Filled 0 0 7 ∷ Begun 1
 frees_another r k = not_another 7 9 (omega arith) (k.recovers (Filled 0 0 7 ∷ Begun 1 other ∷ []) [] (FreedOf 1 0 7) refl).0
 
 says_so_there : IsRefused (plain.container plain.still (Finished 0 (starts.Container containers.IsLocked) (Truth true) ∷ []))
-says_so_there r k = let e = k.answers [] [] (Finished 0 (starts.Container containers.IsLocked) (Truth true)) refl in cc
+says_so_there r k = cc (k.answers [] [] (Finished 0 (starts.Container containers.IsLocked) (Truth true)) refl)
 
 holds_unfilled_there : IsRefused (plain.container (0 ∷ 7 ∷ empty ∷ 0 ∷ 0 ∷ 0 ∷ 0 ∷ 0 ∷ []) [])
-holds_unfilled_there r k = let e = k.cells 0 (omega arith) in absurd (omega arith)
+holds_unfilled_there r k = absurd (omega (arith, k.cells 0 (omega arith)))
 
 counter_says_so_there : IsRefused (plain.container ((2 ^ 64 - 1) ∷ empty ∷ empty ∷ 0 ∷ 0 ∷ 0 ∷ 0 ∷ 0 ∷ []) [])
-counter_says_so_there r k = let e = k.lock in cc
+counter_says_so_there r k = cc (k.lock)
 
 seen_to_die_there : IsRefused (plain.container plain.still (Died 7 ∷ []))
-seen_to_die_there r k = let e = k.lives 7 in cc
+seen_to_die_there r k = cc (k.lives 7)
 
 unnamed_dead_there : IsRefused (machine kinds.Container plain.still (registries.Container (7 ∷ []) []) [])
-unnamed_dead_there r k = let e = k.dead 7 in cc
+unnamed_dead_there r k = cc (k.dead 7)
 
 asks_uncopied : IsRefused (plain.forgotten (begins 1 (starts.Container (containers.Find 1)) 4))
-asks_uncopied r k = let e = k.questions 1 0 5 refl in plain.no_copy e.before (Copies 0 5) e.is
+asks_uncopied r k = let asked_there = k.questions 1 0 5 refl in plain.no_copy asked_there.before (Copies 0 5) asked_there.is
 
 shows_uncopied : IsRefused (plain.forgotten (begins 1 (starts.Container containers.GetState) 4))
-shows_uncopied r k = let e = k.states 1 0 _ 5 refl refl refl in no_more e.before (Copied 1 0 5) e.after e.is
+shows_uncopied r k = let shown_there = k.states 1 0 _ 5 refl refl refl in no_more shown_there.before (Copied 1 0 5) shown_there.after shown_there.is
 
 granted_twice_there : IsRefused (plain.container plain.still two)
-granted_twice_there r k = let e = k.holds well_formed honest (Filled 0 0 7 ∷ Granted 0 0 7 ∷ []) [] (Granted 1 0 9) refl in cc
+granted_twice_there r k = cc (k.holds well_formed honest (Filled 0 0 7 ∷ Granted 0 0 7 ∷ []) [] (Granted 1 0 9) refl)
 
 -- an index is filled for an owner for whom a recovery has begun, though nobody takes a step for one who is gone
 abbrev dishonest : Trace ℕ
 dishonest = plain.container plain.still (Begun 1 (starts.Container (containers.Recover 7 Default)) ∷ Filled 0 0 7 ∷ [])
 
 fills_for_gone : (r : IsReachedOpen dishonest) → IsFaithful dishonest r → IsOpenContainer dishonest r → ⊥
-fills_for_gone r faithful k =
-    let e = k.honest faithful (Begun 1 (starts.Container (containers.Recover 7 Default)) ∷ []) [] (Filled 0 0 7) refl in cc
+fills_for_gone r faithful open_container =
+    cc (open_container.honest faithful (Begun 1 (starts.Container (containers.Recover 7 Default)) ∷ []) [] (Filled 0 0 7) refl)
 
 -- a value is copied that does not stand there, in a run that is well-formed, faithful and short
 copies_nothing : (r : IsReachedOpen (plain.container plain.still plain.copied)) → IsFaithfulRun (plain.container plain.still plain.copied) r
     → IsOpenContainer (plain.container plain.still plain.copied) r
     → ⊥
-copies_nothing r faithful k = plain.copies_nothing (k.contained plain.copied_well_formed faithful)
+copies_nothing r faithful open_container = plain.copies_nothing (open_container.contained plain.copied_well_formed faithful)

@@ -68,7 +68,7 @@ unreplaced_well_formed =
 
 -- it finds its owner at the index, ends, and changes nothing
 replace_changes_nothing : ContainerRuns (container still unreplaced) → ⊥
-replace_changes_nothing k = let e = k.replaced unreplaced_well_formed 0 0 7 6 replacing ([], refl) in cc
+replace_changes_nothing k = cc (k.replaced unreplaced_well_formed 0 0 7 6 replacing ([], refl))
 
 replacing_well_formed : (words : List ℕ) → IsWellFormedRun (container words replacing)
 replacing_well_formed words =
@@ -78,8 +78,8 @@ replacing_well_formed words =
 
 -- it writes its value over the one that stands, and has not hidden it
 replace_writes_under_an_odd_count : IsContainer (container (words 1 6) replacing) → ⊥
-replace_writes_under_an_odd_count k =
-    let word = ((k.well_formed (replacing_well_formed (words 1 6))).elements 0 (omega arith)).1 0 (omega arith) in cc
+replace_writes_under_an_odd_count is_container =
+    let word = ((is_container.well_formed (replacing_well_formed (words 1 6))).elements 0 (omega arith)).1 0 (omega arith) in cc
 
 -- ---- recovery
 
@@ -95,7 +95,7 @@ unplaced_well_formed words =
 
 -- a recovery raises the even number of the element to an odd one, so that words stand there that nobody has placed
 recovery_raises_an_even_count : IsContainer (container (words 1 0) unplaced) → ⊥
-recovery_raises_an_even_count k = let e = (k.well_formed (unplaced_well_formed (words 1 0))).elements 0 (omega arith) in cc
+recovery_raises_an_even_count is_container = cc ((is_container.well_formed (unplaced_well_formed (words 1 0))).elements 0 (omega arith))
 
 -- a recovery is told to free an index, frees nothing, and answers Unlocked
 abbrev told : List (Event ℕ)
@@ -109,7 +109,7 @@ abbrev visited : List (Event ℕ)
 visited = Died 7 ∷ Begun 1 recover ∷ Shown 1 0 ∷ []
 
 container_recovery_visits_twice : IsKept (container still (visited ++ Shown 1 0 ∷ [])) → ⊥
-container_recovery_visits_twice k = let e = (k.spans visited [] (Shown 1 0) refl).0 in absurd (omega arith)
+container_recovery_visits_twice kept = absurd (omega (arith, (kept.spans visited [] (Shown 1 0) refl).0))
 
 -- ---- update_state
 
@@ -156,6 +156,6 @@ looked_well_formed =
 
 -- it answers true, and its state still shows nothing
 update_copies_nothing : IsTurn (with_blank looking) (Next 1) (with_blank looked) → ⊥
-update_copies_nothing k =
-    let right = k.tells.looks 1 UpdateState (Truth true) blank (record { is_look = tt; wrote = []; is = refl }) refl in
-    let e = (right.1 looked_well_formed).0.alone alone 0 (omega arith) in cc
+update_copies_nothing turn =
+    let right = turn.tells.looks 1 UpdateState (Truth true) blank (record { is_look = tt; wrote = []; is = refl }) refl in
+    cc ((right.1 looked_well_formed).0.alone alone 0 (omega arith))

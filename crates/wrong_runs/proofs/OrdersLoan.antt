@@ -25,6 +25,7 @@ reclaim = Loan Reclaim
 abbrev loaned : ℕ → List (Event ℕ)
 loaned index = Begun 0 loan ∷ Claimed 0 index ∷ Finished 0 loan (Index index) ∷ []
 
+-- what a send of the index writes down
 abbrev sent : ℕ → List (Event ℕ)
 sent index =
     Begun 0 (send index)
@@ -54,7 +55,7 @@ sends_over =
     ∷ []
 
 not_left : IsLeftOver {T = ℕ} 0 1 sends_over → ⊥
-not_left left = let e = left.reclaims in cc
+not_left left = cc (left.reclaims)
 
 loan_send_releases_its_own : ChannelRuns 1 (narrow (sends_over ++ Freed 0 1 ∷ [])) → ⊥
 loan_send_releases_its_own k = ⊎_elim (λ held. cc) not_left (k.freed 0 1 sends_over ([], refl))

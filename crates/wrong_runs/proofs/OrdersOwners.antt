@@ -41,9 +41,9 @@ granted =
 
 -- every acquire answers that no index is left, though index 0 was filled at no moment of the call
 every_acquire_fails : IsRobustSet (set (0 ∷ 7 ∷ 9 ∷ []) (Begun 0 (acquire 7) ∷ Finished 0 (acquire 7) (NoIndex OutOfIndices) ∷ [])) → ⊥
-every_acquire_fails k =
+every_acquire_fails robust_set =
     at_no_moment 0 (IsFilled 0) (Begun 0 (acquire 7) ∷ []) ((λ e. cc), (λ e. cc))
-    ((k.answers (Begun 0 (acquire 7) ∷ []) [] (Finished 0 (acquire 7) (NoIndex OutOfIndices)) refl).1 0 (omega arith))
+    ((robust_set.answers (Begun 0 (acquire 7) ∷ []) [] (Finished 0 (acquire 7) (NoIndex OutOfIndices)) refl).1 0 (omega arith))
 
 -- ---- the lock
 
@@ -96,8 +96,8 @@ unlocked = Filled 0 0 7 ∷ Begun 0 last ∷ FreedOf 0 0 7 ∷ []
 
 -- a release that has freed the last index, might lock and answers Unlocked is refused
 release_never_locks : IsRobustSet (set (0 ∷ 7 ∷ 9 ∷ []) (unlocked ++ Finished 0 last (State Unlocked) ∷ [])) → ⊥
-release_never_locks k =
-    let since = (k.answers unlocked [] (Finished 0 last (State Unlocked)) refl).1 in
+release_never_locks robust_set =
+    let since = (robust_set.answers unlocked [] (Finished 0 last (State Unlocked)) refl).1 in
     at_no_moment 0 (λ part. IsOneOf (Frees 0 7) (set_acts_of 0 part) × IsFilled since.other part) unlocked (
       (λ h. no_more h.0.before (Frees 0 7) h.0.after h.0.is),
       (
@@ -115,12 +115,12 @@ finding = Filled 0 0 7 ∷ Begun 1 find ∷ []
 
 none_chosen : (chosen : ℕ → Bool) → count_below chosen 2 ≡ 0 → chosen 0 ≡ true → ⊥
 none_chosen chosen none is =
-    let e = subst (λ (b : Bool). (if chosen 1 then 1 else 0) + ((if b then 1 else 0) + 0) ≡ 0) is none in absurd (omega arith)
+    absurd (omega (arith, subst (λ (b : Bool). (if chosen 1 then 1 else 0) + ((if b then 1 else 0) + 0) ≡ 0) is none))
 
 not_stopped : ◌≡◌ {A = Turn ℕ} (Next 1) (Decide 1 false) → ⊥
 not_stopped e = cc
 
 find_does_nothing : IsTurn (set (0 ∷ 7 ∷ 9 ∷ []) finding) (Next 1) (set (0 ∷ 7 ∷ 9 ∷ []) (finding ++ Finished 1 find (Number 0) ∷ [])) → ⊥
-find_does_nothing k =
-    let count = k.tells.0.0 1 7 0 refl not_stopped in
+find_does_nothing turn =
+    let count = turn.tells.0.0 1 7 0 refl not_stopped in
     none_chosen count.chosen count.is (count.through 0 (omega arith) (held_since (IsFilledWith 7 0) 7 find refl))

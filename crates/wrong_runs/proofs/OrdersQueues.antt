@@ -27,37 +27,37 @@ pushing steps = ran one_word kinds.IndexQueue 2 2 (roles ++ begins 0 (push 7) st
 
 -- a turn runs the whole push
 whole_call_in_one_turn : Takes (pushing 0) (Next 0) (pushing 4) → ⊥
-whole_call_in_one_turn k = let e = k.one_word in cc
+whole_call_in_one_turn takes = cc (takes.one_word)
 
--- or a whole count, which changes no word
+-- an index queue in which a count has taken so many steps
 abbrev counting : ℕ → Trace ℕ
 counting steps = ran one_word kinds.IndexQueue 2 2 (begins 1 (Queues Len) steps)
 
 whole_look_in_one_turn : IsTurn (counting 0) (Next 1) (counting 3) → ⊥
-whole_look_in_one_turn k = let e = k.counts.steps in cc
+whole_look_in_one_turn turn = cc (turn.counts.steps)
 
 -- where 1 is to be added to the write position, it becomes 2
 abbrev with_words : List ℕ → Trace ℕ → Trace ℕ
 with_words words t = record t { world = record t.world { words = words } }
 
 operation_adds_twice : Takes (pushing 3) (Next 0) (with_words (2 ∷ 0 ∷ 0 ∷ 0 ∷ 7 ∷ 0 ∷ []) (pushing 4)) → ⊥
-operation_adds_twice k = let e = k.one_word in cc
+operation_adds_twice takes = cc (takes.one_word)
 
 -- ---- the bounded queue
 
 -- a push raises the write position before it writes the cell: what waits there by the words is not what it has published
 publishes_before_writing : QueueRuns queues.IndexQueue (queue (1 ∷ 0 ∷ 0 ∷ 0 ∷ 0 ∷ 0 ∷ []) (Begun 0 (push 7) ∷ Published 0 (Index 7) ∷ [])) → ⊥
-publishes_before_writing k = let e = k.conserved in cc
+publishes_before_writing k = cc (k.conserved)
 
 -- every push answers false, and every pop None
 abbrev pushed : List (Event ℕ)
 pushed = Begun 0 (push 7) ∷ Published 0 (Index 7) ∷ Acted 0 (push 7) (Truth true) ∷ Finished 0 (push 7) (Truth true) ∷ []
 
 every_push_is_false : QueueRuns queues.IndexQueue (queue (0 ∷ 0 ∷ 0 ∷ 0 ∷ 0 ∷ 0 ∷ []) (Begun 0 (push 7) ∷ Acted 0 (push 7) (Truth false) ∷ [])) → ⊥
-every_push_is_false k = let e = k.list.answers in cc
+every_push_is_false k = cc (k.list.answers)
 
 every_pop_is_none : QueueRuns queues.IndexQueue (queue (1 ∷ 0 ∷ 0 ∷ 0 ∷ 7 ∷ 0 ∷ []) (pushed ++ Begun 1 pop ∷ Acted 1 pop PoppedNone ∷ [])) → ⊥
-every_pop_is_none k = let e = k.list.answers in cc
+every_pop_is_none k = cc (k.list.answers)
 
 -- a push waits until there is room: a fifth step, and nobody has changed a word
 abbrev waiting : Trace ℕ
@@ -71,7 +71,7 @@ waiting =
     }
 
 push_waits : MakesProgress waiting → ⊥
-push_waits k = let e = k.bounded 0 (push 7) _ refl refl in absurd (omega arith)
+push_waits k = absurd (omega (arith, k.bounded 0 (push 7) _ refl refl))
 
 -- and a push that has found no room takes it for a turn back, which nobody has paid
 abbrev turning : Trace ℕ
@@ -85,10 +85,11 @@ turning =
     }
 
 push_turns_back : MakesProgress turning → ⊥
-push_turns_back k = let e = k.paid 0 _ refl in absurd (omega arith)
+push_turns_back k = absurd (omega (arith, k.paid 0 _ refl))
 
 -- ---- the overflowing queue, of capacity 1
 
+-- an overflowing queue of capacity 1 with these words and events
 abbrev overflow : List ℕ → List (Event ℕ) → Trace ℕ
 overflow words events =
     record {
@@ -117,7 +118,7 @@ late =
     ∷ []
 
 overflow_acts_at_finish : QueueRuns queues.Overflow (overflow (2 ∷ 2 ∷ 0 ∷ 0 ∷ 1 ∷ 2 ∷ []) late) → ⊥
-overflow_acts_at_finish k = let e = k.list.answers in cc
+overflow_acts_at_finish k = cc (k.list.answers)
 
 -- A pop has read 1, a push of 2 takes 1 out, and the pop answers it all the same.
 abbrev stale : List (Event ℕ)
@@ -135,13 +136,14 @@ stale =
     ∷ []
 
 overflow_pop_keeps_stale_value : QueueRuns queues.Overflow (overflow (2 ∷ 2 ∷ 0 ∷ 0 ∷ 1 ∷ 2 ∷ []) stale) → ⊥
-overflow_pop_keeps_stale_value k = let e = k.list.answers in cc
+overflow_pop_keeps_stale_value k = cc (k.list.answers)
 
 hands_out_twice : QueueRuns queues.Overflow (overflow (2 ∷ 2 ∷ 0 ∷ 0 ∷ 1 ∷ 2 ∷ []) stale) → ⊥
-hands_out_twice k = let e = k.conserved in cc
+hands_out_twice k = cc (k.conserved)
 
 -- ---- the single value, of two words
 
+-- a single value of two words with these events
 abbrev values : List (Event ℕ) → Trace ℕ
 values events =
     record {
@@ -179,4 +181,4 @@ torn =
     ∷ []
 
 value_load_skips_validation : ValueRuns (values torn) → ⊥
-value_load_skips_validation k = let e = k.value.answers in cc
+value_load_skips_validation k = cc (k.value.answers)

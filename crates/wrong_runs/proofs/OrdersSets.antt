@@ -33,7 +33,7 @@ abbrev stands_already : List (Event ℕ)
 stands_already = Begun 0 set_1 ∷ events.Set 0 1 ∷ Finished 0 set_1 (Truth true) ∷ Begun 1 set_1 ∷ []
 
 set_again_is_true : BitsRun (bits (0 ∷ 2 ∷ []) (stands_already ++ Finished 1 set_1 (Truth true) ∷ [])) → ⊥
-set_again_is_true k = let e = k.set 1 1 stands_already ([], refl) in cc
+set_again_is_true k = cc (k.set 1 1 stands_already ([], refl))
 
 -- after one event a call has begun: what it has found and done since
 only_begin : (one : Event ℕ) (P : List (Event ℕ) → List (Event ℕ) → Type 0) → ((start : Start ℕ) → one ≡ Begun 1 start → ⊥)
@@ -55,8 +55,8 @@ abbrev unreset : List (Event ℕ)
 unreset = events.Set 0 1 ∷ Begun 1 reset_all ∷ []
 
 reset_all_does_nothing : IsBitSet (bits (0 ∷ 2 ∷ []) (unreset ++ Finished 1 reset_all Done ∷ [])) → ⊥
-reset_all_does_nothing k =
-    let held = k.answers unreset [] (Finished 1 reset_all Done) refl in
+reset_all_does_nothing bit_set =
+    let held = bit_set.answers unreset [] (Finished 1 reset_all Done) refl in
     let cleared = only_begin (events.Set 0 1) (HasCleared 2) (λ start e. cc) held 1 (omega arith) refl in absurd (omega arith)
 
 -- one of a counting set takes nothing out
@@ -64,8 +64,8 @@ abbrev untaken : List (Event ℕ)
 untaken = Counted 0 1 ∷ Begun 1 reset_all ∷ []
 
 reset_all_takes_nothing : IsCountingSet (counts (0 ∷ 1 ∷ []) (untaken ++ Finished 1 reset_all Done ∷ [])) → ⊥
-reset_all_takes_nothing k =
-    let held = k.answers untaken [] (Finished 1 reset_all Done) refl in
+reset_all_takes_nothing counting_set =
+    let held = counting_set.answers untaken [] (Finished 1 reset_all Done) refl in
     let taken = only_begin (Counted 0 1) (HasTaken 2) (λ start e. cc) held 1 (omega arith) (omega arith) in absurd (omega arith)
 
 -- ---- unique indices
@@ -75,18 +75,19 @@ acquire = Indices Acquire
 
 -- every acquire answers that no index is left
 every_acquire_fails : IsIndexSet (set (0 ∷ 1 ∷ 2 ∷ 0 ∷ []) (Begun 0 acquire ∷ Finished 0 acquire (NoIndex OutOfIndices) ∷ [])) → ⊥
-every_acquire_fails k =
-    let e = k.answers (Begun 0 acquire ∷ []) [] (Finished 0 acquire (NoIndex OutOfIndices)) refl in absurd (omega arith)
+every_acquire_fails index_set =
+    absurd (omega (arith, index_set.answers (Begun 0 acquire ∷ []) [] (Finished 0 acquire (NoIndex OutOfIndices)) refl))
 
 -- an acquire answers what the free list proposes, and claims no flag
 acquire_claims_without_flag : IndicesRun (set (0 ∷ 1 ∷ 2 ∷ 0 ∷ []) (Begun 0 acquire ∷ Finished 0 acquire (Index 0) ∷ [])) → ⊥
 acquire_claims_without_flag k =
-    let e = ap (λ (d : SetActs). d.claimed) (k.acquired 0 0 (Begun 0 acquire ∷ []) ([], refl)).0 in cc
+    cc (ap (λ (d : SetActs). d.claimed) (k.acquired 0 0 (Begun 0 acquire ∷ []) ([], refl)).0)
 
 -- or it says that it claims, and the flag stays clear; so a second one claims the same
 claims_by_word_alone : IsIndexSet (set (0 ∷ 1 ∷ 2 ∷ 0 ∷ []) (Begun 0 acquire ∷ Claimed 0 0 ∷ [])) → ⊥
-claims_by_word_alone k = let e = k.flags 0 (omega arith) in cc
+claims_by_word_alone index_set = cc (index_set.flags 0 (omega arith))
 
+-- what two acquires write down that both claim index 0
 abbrev both_claim : List (Event ℕ)
 both_claim =
     Begun 0 acquire
@@ -105,7 +106,7 @@ abbrev neighbours : List (Event ℕ)
 neighbours = Begun 0 acquire ∷ Claimed 0 0 ∷ Finished 0 acquire (Index 0) ∷ Begun 1 acquire ∷ Claimed 1 1 ∷ []
 
 claim_clears_its_neighbours : IsIndexSet (set (0 ∷ 1 ∷ 2 ∷ 2 ∷ []) neighbours) → ⊥
-claim_clears_its_neighbours k = let e = k.flags 0 (omega arith) in cc
+claim_clears_its_neighbours index_set = cc (index_set.flags 0 (omega arith))
 
 -- A release counts down, and locks, before it clears the flag of its index.
 abbrev release : Start ℕ

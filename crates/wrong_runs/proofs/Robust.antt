@@ -23,31 +23,31 @@ set words events = machine kinds.Robust words (registries.Owners []) events
 
 -- an index is filled for two owners
 filled_twice : IsRobustSet (set (0 ∷ 7 ∷ empty ∷ []) (Filled 0 0 7 ∷ Filled 1 0 9 ∷ [])) → ⊥
-filled_twice k = let e = (k.does (Filled 0 0 7 ∷ []) [] (Filled 1 0 9) refl).1 in cc
+filled_twice robust_set = cc ((robust_set.does (Filled 0 0 7 ∷ []) [] (Filled 1 0 9) refl).1)
 
 -- a recovery is told to free an index of an owner who lives
 told_of_the_living : IsRobustSet (set (0 ∷ 7 ∷ empty ∷ []) (Filled 0 0 7 ∷ Told 1 0 7 ∷ [])) → ⊥
-told_of_the_living k = let e = k.asks (Filled 0 0 7 ∷ []) [] (Told 1 0 7) refl in cc
+told_of_the_living robust_set = cc (robust_set.asks (Filled 0 0 7 ∷ []) [] (Told 1 0 7) refl)
 
 -- an index is granted to two owners
 pub well_formed : IsWellFormed two_grants
 well_formed = Each-append FreesRight [] two_grants (Each-nil FreesRight) (tt, (tt, (tt, tt)))
 
 pub granted_twice : IsRobustSet wrong.granted_twice → ⊥
-granted_twice k = let e = k.holds well_formed (Filled 0 0 7 ∷ Granted 0 0 7 ∷ []) [] (Granted 1 0 9) refl in cc
+granted_twice robust_set = cc (robust_set.holds well_formed (Filled 0 0 7 ∷ Granted 0 0 7 ∷ []) [] (Granted 1 0 9) refl)
 
 -- it says that it is locked, and is not
 says_so : IsRobustSet (set (0 ∷ empty ∷ empty ∷ []) (Finished 0 (starts.Robust IsLocked) (Truth true) ∷ [])) → ⊥
-says_so k = let e = k.answers [] [] (Finished 0 (starts.Robust IsLocked) (Truth true)) refl in cc
+says_so robust_set = cc (robust_set.answers [] [] (Finished 0 (starts.Robust IsLocked) (Truth true)) refl)
 
 -- a cell holds an owner, and nobody has filled it
 holds_unfilled : IsRobustSet (set (0 ∷ 7 ∷ empty ∷ []) []) → ⊥
-holds_unfilled k = let e = k.cells 0 (omega arith) in absurd (omega arith)
+holds_unfilled robust_set = absurd (omega (arith, robust_set.cells 0 (omega arith)))
 
 -- the counter says that it is locked, and nobody has locked it
 counter_says_so : IsRobustSet (set ((2 ^ 64 - 1) ∷ empty ∷ empty ∷ []) []) → ⊥
-counter_says_so k = let e = k.lock in cc
+counter_says_so robust_set = cc (robust_set.lock)
 
 -- the machine takes an owner for dead who has not died
 unnamed_dead : IsRobustSet (machine kinds.Robust (0 ∷ empty ∷ empty ∷ []) (registries.Owners (7 ∷ [])) []) → ⊥
-unnamed_dead k = let e = k.dead 7 in cc
+unnamed_dead robust_set = cc (robust_set.dead 7)

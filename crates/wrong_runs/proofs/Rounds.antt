@@ -49,13 +49,13 @@ steps_until_it_ends = (inr (omega arith), (inr (omega arith), (inr (omega arith)
 
 -- a party that has a call, and takes no step in the first round, or in one of the later
 none_at_first : StepsInEach 0 started (other ∷ both ∷ []) → ⊥
-none_at_first h = ⊎_elim (λ rests. let e = rests in cc) (λ steps. absurd (omega (steps, arith))) h.0
+none_at_first steps_in_each = ⊎_elim (λ rests. cc (rests)) (λ steps. absurd (omega (steps, arith))) steps_in_each.0
 
 one_left_out : StepsInEach 0 started (both ∷ other ∷ both ∷ both ∷ []) → ⊥
-one_left_out h = ⊎_elim (λ rests. let e = rests in cc) (λ steps. absurd (omega (steps, arith))) h.1.0
+one_left_out steps_in_each = ⊎_elim (λ rests. cc (rests)) (λ steps. absurd (omega (steps, arith))) steps_in_each.1.0
 
 last_left_out : StepsInEach 0 started (both ∷ both ∷ both ∷ other ∷ []) → ⊥
-last_left_out h = ⊎_elim (λ rests. let e = rests in cc) (λ steps. absurd (omega (steps, arith))) h.1.1.1.0
+last_left_out steps_in_each = ⊎_elim (λ rests. cc (rests)) (λ steps. absurd (omega (steps, arith))) steps_in_each.1.1.1.0
 
 -- ---- no call under way as one of the rounds begins
 
@@ -72,9 +72,9 @@ rests_in_none h =
     ⊎_elim (λ e. cc)
     (λ h. ⊎_elim (λ e. cc) (λ h. ⊎_elim (λ e. cc) (λ h. ⊎_elim (λ e. cc) (λ h. h) h) h) h) h
 
--- where another party's call ends
+-- party 0 rests in none of the rounds in which another party's call ends
 other_rests : RestsInOne 0 started ((Next 1 ∷ Next 1 ∷ Next 1 ∷ Next 1 ∷ []) ∷ [] ∷ []) → ⊥
 other_rests h = ⊎_elim (λ e. cc) (λ h. ⊎_elim (λ e. cc) (λ h. h) h) h
 
 never_without_rounds : RestsInOne 0 started [] → ⊥
-never_without_rounds h = h
+never_without_rounds rests_in_one = rests_in_one

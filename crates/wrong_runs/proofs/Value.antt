@@ -17,18 +17,18 @@ value words events = machine kinds.Atomic words (registries.Atomic None) events
 
 -- a load answers what nobody has stored
 invents : IsValue (value (1 ∷ 1 ∷ 0 ∷ 0 ∷ []) (Acted 0 (Atomic Load) (Loaded 5) ∷ [])) → ⊥
-invents k = let e = k.moments in cc
+invents value = cc (value.moments)
 
 invents_there : IsValue (value (1 ∷ 1 ∷ 0 ∷ 0 ∷ []) (Acted 0 (Atomic Load) (Loaded 5) ∷ [])) → ⊥
-invents_there k = let e = k.answers [] [] (Acted 0 (Atomic Load) (Loaded 5)) refl in cc
+invents_there value = cc (value.answers [] [] (Acted 0 (Atomic Load) (Loaded 5)) refl)
 
 -- the cell holds what nobody has stored
 changes_unseen : IsValue (value (1 ∷ 1 ∷ 5 ∷ 0 ∷ []) []) → ⊥
-changes_unseen k = let e = k.cell in cc
+changes_unseen value = cc (value.cell)
 
 -- a role is refused that nobody holds
 refused_role : IsValue (value (1 ∷ 1 ∷ 0 ∷ 0 ∷ []) (Finished 0 (Atomic AcquireProducer) (Truth false) ∷ [])) → ⊥
-refused_role k = let e = k.roles [] [] (Finished 0 (Atomic AcquireProducer) (Truth false)) refl in cc
+refused_role value = cc (value.roles [] [] (Finished 0 (Atomic AcquireProducer) (Truth false)) refl)
 
 -- a look answers that nobody holds the role, which party 0 holds
 abbrev taken : Event ℕ
@@ -38,7 +38,7 @@ abbrev unseen : Event ℕ
 unseen = Finished 1 (Atomic HasProducer) (Truth false)
 
 unseen_producer : IsValue (machine kinds.Atomic (1 ∷ 0 ∷ 0 ∷ 0 ∷ []) (registries.Atomic (Some 0)) (taken ∷ unseen ∷ [])) → ⊥
-unseen_producer k = let e = k.roles (taken ∷ []) [] unseen refl in cc
+unseen_producer value = cc (value.roles (taken ∷ []) [] unseen refl)
 
 -- a look at the version does not count the last store
 abbrev last_stored : Event ℕ
@@ -48,8 +48,8 @@ abbrev uncounted : Event ℕ
 uncounted = Finished 1 (Atomic Version) (Number 1)
 
 uncounted_store : IsValue (value (2 ∷ 1 ∷ 0 ∷ 7 ∷ []) (last_stored ∷ uncounted ∷ [])) → ⊥
-uncounted_store k = let e = k.answers (last_stored ∷ []) [] uncounted refl in cc
+uncounted_store value = cc (value.answers (last_stored ∷ []) [] uncounted refl)
 
 -- the machine lets a party store that was not granted the role
 unnamed_producer : IsValue (machine kinds.Atomic (1 ∷ 0 ∷ 0 ∷ 0 ∷ []) (registries.Atomic (Some 0)) []) → ⊥
-unnamed_producer k = let e = k.holder in cc
+unnamed_producer value = cc (value.holder)

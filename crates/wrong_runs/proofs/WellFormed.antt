@@ -39,6 +39,7 @@ ran_on turns = ran two_words kinds.Container 1 2 turns
 abbrev handled : List (Turn ℕ)
 handled = begins 0 (add 5 1) 9 ++ (begins 0 (replace 0 6 1) 7 ++ begins 0 (remove 0 1) 6)
 
+-- what the add of the run writes down
 abbrev added : List (Event ℕ)
 added =
     Begun 0 (add 5 1)
@@ -48,6 +49,7 @@ added =
     ∷ Finished 0 (add 5 1) (Index 0)
     ∷ []
 
+-- what the add and the replace of the run write down
 abbrev replaced : List (Event ℕ)
 replaced =
     added
@@ -72,7 +74,7 @@ nobody_else : (n : ℕ) (x : Party ℕ) (events : List (Event ℕ))
     → StandsWellFormed (suc n) (party_of (suc n) ((0, x) ∷ [])) events
 nobody_else n x events = rw (apart (suc n) 0 (λ e. cc)) tt
 
--- and the last call of this party has ended
+-- each party stands as a well-formed run asks, since the last call has ended
 stands : (p : ℕ)
     → StandsWellFormed p (party_of p (ran_on handled).world.latest) (ran_on handled).events
 stands zero = λ index owner value wrote is steps held. absurd (cc)
@@ -148,8 +150,8 @@ no_give_back : SinceBegin 1 (λ before since. settled_of 0 before ≡ Some 1)
 no_give_back h = too_early h.before h.since h.start h.is h.holds
 
 pub hasty_is_not_well_formed : IsWellFormedRun (ran_on hasty) → ⊥
-hasty_is_not_well_formed h =
-    no_give_back (h.frees (filled ++ Begun 1 (remove 0 1) ∷ []) [] (FreedOf 1 0 1) refl)
+hasty_is_not_well_formed well_formed_run =
+    no_give_back (well_formed_run.frees (filled ++ Begun 1 (remove 0 1) ∷ []) [] (FreedOf 1 0 1) refl)
 
 -- ---- a replace that is begun beside a replace of the same handle
 
@@ -193,4 +195,4 @@ was_filled : HeldSometime 0 (IsFilledWith 1 0) both
 was_filled = record { part = both; rest = []; is = refl; within = tt; held = refl }
 
 pub beside_is_not_well_formed : IsWellFormedRun (ran_on beside) → ⊥
-beside_is_not_well_formed h = no_replace (h.replaces zero 0 1 6 [] refl (omega arith) was_filled)
+beside_is_not_well_formed well_formed_run = no_replace (well_formed_run.replaces zero 0 1 6 [] refl (omega arith) was_filled)

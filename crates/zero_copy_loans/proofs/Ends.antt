@@ -53,9 +53,9 @@ told_by f (n ∷ ns) (a ∷ told) all = λ i. all.0 i ∷ told_by f ns told all.
 -- what a queue handed back, as its word is read, and after what came back was settled
 pub handed_back : (capacity word next back read : ℕ) (v w then : View ℕ) → word ≡ next → read ≡ back → then ≡ w
     → PushHandedBack capacity word back v w → PushHandedBack capacity next read v then
-handed_back capacity word next back read v w then is parts settled p =
+handed_back capacity word next back read v w then is parts settled push_handed_back =
     subst (λ r. PushHandedBack capacity next r v then) (sym parts)
-    (subst (λ n. PushHandedBack capacity n back v then) is (subst (PushHandedBack capacity word back v) (sym settled) p))
+    (subst (λ n. PushHandedBack capacity n back v then) is (subst (PushHandedBack capacity word back v) (sym settled) push_handed_back))
 
 module _ {X K : Type 0} {rule : Ghosts K X} where
   -- ---- the sender
@@ -66,12 +66,12 @@ module _ {X K : Type 0} {rule : Ghosts K X} where
 
   -- a call that keeps what a sender has sent sends nothing
   pub sent_nothing : (old new : Sender X K rule) → KeepsSends old new → HasSent 0 [] old new
-  sent_nothing old new h =
+  sent_nothing old new keeps_sends =
       record {
-        same = h.1;
-        layout = h.2;
-        next = h.3 ∙ omega arith;
-        sends = λ some. sends_still (sends_shape old) (sends_view old) (sends_view new) h.0;
+        same = keeps_sends.1;
+        layout = keeps_sends.2;
+        next = keeps_sends.3 ∙ omega arith;
+        sends = λ some. sends_still (sends_shape old) (sends_view old) (sends_view new) keeps_sends.0;
       }
 
   -- a value more was sent: nothing came back, or one did
@@ -80,7 +80,7 @@ module _ {X K : Type 0} {rule : Ghosts K X} where
       → next_of new ≡ next_of old + 1
       → (0 < (sends_queue old).capacity → Goes (sends_view old) (sends_view new))
       → word ≡ word_next old place → PushAdded word (sends_view old) (sends_view new) → HasSent 1 (numbers_back answer) old new
-  sent_one place word answer old new none has fits same layout next goes is p =
+  sent_one place word answer old new none has fits same layout next goes is push_added =
       record {
         same = same;
         layout = layout;
@@ -89,7 +89,7 @@ module _ {X K : Type 0} {rule : Ghosts K X} where
             λ some.
             subst (λ a. SendsOn (sends_shape old) (next_of old ∷ []) (numbers_back a) (sends_view old) (sends_view new)) (sym none)
             (sends_one (sends_shape old) (sends_queue old).capacity some (sends_view old) (sends_view new) (goes some) (next_of old) place has.0 (omega arith)
-            (subst (λ w. PushAdded w (sends_view old) (sends_view new)) is p));
+            (subst (λ w. PushAdded w (sends_view old) (sends_view new)) is push_added));
       }
 
   -- a send to which the queue handed a word back sends one value, and gets one number back
@@ -98,7 +98,7 @@ module _ {X K : Type 0} {rule : Ghosts K X} where
       → (0 < (sends_queue old).capacity → Goes (sends_view old) (sends_view new))
       → word ≡ word_next old place → word_of (layout_of old).room other at ≡ back
       → PushHandedBack (sends_queue old).capacity word back (sends_view old) (sends_view new) → HasSent 1 (other ∷ []) old new
-  sent_back place word other at back old new has fits below same layout next goes is parts p =
+  sent_back place word other at back old new has fits below same layout next goes is parts push_handed_back =
       record {
         same = same;
         layout = layout;
@@ -108,25 +108,25 @@ module _ {X K : Type 0} {rule : Ghosts K X} where
             sends_back (sends_shape old) (sends_queue old).capacity some (sends_view old) (sends_view new)
             (goes some) (next_of old) place has.0 (omega arith) other at below
             (subst (λ b. PushHandedBack (sends_queue old).capacity (word_next old place) b (sends_view old) (sends_view new)) (sym parts)
-            (subst (λ w. PushHandedBack (sends_queue old).capacity w back (sends_view old) (sends_view new)) is p));
+            (subst (λ w. PushHandedBack (sends_queue old).capacity w back (sends_view old) (sends_view new)) is push_handed_back));
       }
 
   -- sends one after another send both numbers of values, and get both lists back
   pub sent_then : (n m : ℕ) (xs ys : List ℕ) (s t u : Sender X K rule) → HasSent n xs s t → HasSent m ys t u → HasSent (n + m) (xs ++ ys) s u
-  sent_then n m xs ys s t u h k =
+  sent_then n m xs ys s t u first_sent second_sent =
       record {
-        same = (k.same.0 ∙ h.same.0, k.same.1 ∙ h.same.1, k.same.2 ∙ h.same.2);
-        layout = k.layout ∙ h.layout;
-        next = (let p = h.next in let q = k.next in omega arith);
+        same = (second_sent.same.0 ∙ first_sent.same.0, second_sent.same.1 ∙ first_sent.same.1, second_sent.same.2 ∙ first_sent.same.2);
+        layout = second_sent.layout ∙ first_sent.layout;
+        next = omega (arith, first_sent.next, second_sent.next);
         sends =
             λ some.
             subst (λ ns. SendsOn (sends_shape s) ns (xs ++ ys) (sends_view s) (sends_view u)) (range_then (next_of s) n m)
             (sends_then (sends_shape s) (range_with_len (next_of s) n) xs (range_with_len (next_of s + n) m) ys (sends_view s) (sends_view t)
-            (sends_view u) (h.sends some)
-            (subst (λ first. SendsOn (sends_shape s) (range_with_len first m) ys (sends_view t) (sends_view u)) h.next
+            (sends_view u) (first_sent.sends some)
+            (subst (λ first. SendsOn (sends_shape s) (range_with_len first m) ys (sends_view t) (sends_view u)) first_sent.next
             (subst (λ shape. SendsOn shape (range_with_len (next_of t) m) ys (sends_view t) (sends_view u))
-            (shape_kept s t h.same.1 h.layout)
-            (k.sends (subst (λ (q : QueueId). 0 < q.capacity) (sym h.same.1) some)))));
+            (shape_kept s t first_sent.same.1 first_sent.layout)
+            (second_sent.sends (subst (λ (q : QueueId). 0 < q.capacity) (sym first_sent.same.1) some)))));
       }
 
   -- nothing was sent yet
@@ -136,47 +136,49 @@ module _ {X K : Type 0} {rule : Ghosts K X} where
   -- after calls that send nothing, a value more is sent
   pub sends_next : (n : ℕ) (xs ys : List ℕ) (s t u w : Sender X K rule) → HasSent n xs s t → KeepsSends t u → HasSent 1 ys u w
       → HasSent (n + 1) (xs ++ ys) s w
-  sends_next n xs ys s t u w h keeps k = sent_then n 1 xs ys s t w h (sent_then 0 1 [] ys t u w (sent_nothing t u keeps) k)
+  sends_next n xs ys s t u w first_sent keeps second_sent =
+      sent_then n 1 xs ys s t w first_sent (sent_then 0 1 [] ys t u w (sent_nothing t u keeps) second_sent)
 
   -- the same, where what came back is noted
   pub sent_next : (n : ℕ) (xs ys zs : List ℕ) (s t u w : Sender X K rule) → zs ≡ xs ++ ys → HasSent n xs s t → KeepsSends t u
       → HasSent 1 ys u w → HasSent (n + 1) zs s w
-  sent_next n xs ys zs s t u w is h keeps k = subst (λ all. HasSent (n + 1) all s w) (sym is) (sends_next n xs ys s t u w h keeps k)
+  sent_next n xs ys zs s t u w is first_sent keeps second_sent =
+      subst (λ all. HasSent (n + 1) all s w) (sym is) (sends_next n xs ys s t u w first_sent keeps second_sent)
 
   -- a sender that gives its role back after sends has sent what they sent
   pub sent_all : (n : ℕ) (xs : List ℕ) (s t : Sender X K rule) (p : SenderParts) → HasSent n xs s t → HasSentAll 0 [] t p → HasSentAll n xs s p
-  sent_all n xs s t p h k =
+  sent_all n xs s t p has_sent has_sent_all =
       record {
-        of = (k.of.0 ∙ h.same.0, k.of.1 ∙ h.same.1, k.of.2 ∙ h.same.2);
-        next = (let p = h.next in let q = k.next in omega arith);
+        of = (has_sent_all.of.0 ∙ has_sent.same.0, has_sent_all.of.1 ∙ has_sent.same.1, has_sent_all.of.2 ∙ has_sent.same.2);
+        next = omega (arith, has_sent.next, has_sent_all.next);
         sends =
             λ some.
             subst (λ ns. SendsOn (sends_shape s) ns xs (sends_view s) (sent_view p)) (append-nil (range_with_len (next_of s) n))
             (subst (λ ns. SendsOn (sends_shape s) (range_with_len (next_of s) n ++ []) ns (sends_view s) (sent_view p)) (append-nil xs)
-            (sends_then (sends_shape s) (range_with_len (next_of s) n) xs [] [] (sends_view s) (sends_view t) (sent_view p) (h.sends some)
-            (subst (λ shape. SendsOn shape [] [] (sends_view t) (sent_view p)) (shape_kept s t h.same.1 h.layout)
-            (k.sends (subst (λ (q : QueueId). 0 < q.capacity) (sym h.same.1) some)))));
+            (sends_then (sends_shape s) (range_with_len (next_of s) n) xs [] [] (sends_view s) (sends_view t) (sent_view p) (has_sent.sends some)
+            (subst (λ shape. SendsOn shape [] [] (sends_view t) (sent_view p)) (shape_kept s t has_sent.same.1 has_sent.layout)
+            (has_sent_all.sends (subst (λ (q : QueueId). 0 < q.capacity) (sym has_sent.same.1) some)))));
       }
 
   -- its role was taken, and given back
   pub begins : (s : Sender X K rule) (p : SenderParts) (w : View ℕ) → IsOfSender s p → next_of s ≡ p.next → sends_view s ≡ w
       → Goes (sent_view p) w → HasAcquired roles.Producer true (sent_view p) w → HasBegun p s
-  begins s p w of next is goes h =
+  begins s p w of next is goes acquired =
       record {
         of = of;
         next = next;
-        sent = subst (HasSentNumbers (sends_shape s) [] [] (sent_view p)) (sym is) (sent_none (sends_shape s) (sent_view p) w roles.Producer goes h);
+        sent = subst (HasSentNumbers (sends_shape s) [] [] (sent_view p)) (sym is) (sent_none (sends_shape s) (sent_view p) w roles.Producer goes acquired);
       }
 
   -- a sender that gives its role back sends nothing by that
   pub finishes : (s : Sender X K rule) (p : SenderParts) → IsOfSender s p → p.next ≡ next_of s
       → Goes (sends_view s) (sent_view p) → HasReleased roles.Producer (sends_view s) (sent_view p)
       → published (sent_view p).seen ≡ published (sends_view s).seen → HasSentAll 0 [] s p
-  finishes s p of next goes h list =
+  finishes s p of next goes released list =
       record {
         of = of;
-        next = (let n = next in omega arith);
-        sends = λ some. sends_all (sends_shape s) roles.Producer (sends_view s) (sent_view p) goes h list;
+        next = omega (arith, next);
+        sends = λ some. sends_all (sends_shape s) roles.Producer (sends_view s) (sent_view p) goes released list;
       }
 
   -- ---- the receiver
@@ -187,12 +189,12 @@ module _ {X K : Type 0} {rule : Ghosts K X} where
 
   -- a call that keeps what a receiver has received receives nothing
   pub received_nothing : (old new : Receiver X K rule) → KeepsReceives old new → HasReceived [] old new
-  received_nothing old new h =
+  received_nothing old new keeps_receives =
       record {
-        same = h.1;
-        layout = h.2;
-        places = h.3;
-        receives = λ some. receives_still (receives_shape old) (receives_view old) (receives_view new) h.0;
+        same = keeps_receives.1;
+        layout = keeps_receives.2;
+        places = keeps_receives.3;
+        receives = λ some. receives_still (receives_shape old) (receives_view old) (receives_view new) keeps_receives.0;
       }
 
   -- a pop: the value of a sample, a word with no place, or nothing
@@ -201,7 +203,7 @@ module _ {X K : Type 0} {rule : Ghosts K X} where
       → (0 < (receives_queue old).capacity → Goes (receives_view old) (receives_view new))
       → word_of (layout_in old).room number place ≡ word → HasPopped (Some (Index word)) (receives_view old) (receives_view new)
       → HasReceived (number ∷ []) old new
-  received_one number place word old new within same layout places goes is p =
+  received_one number place word old new within same layout places goes is popped =
       record {
         same = same;
         layout = layout;
@@ -209,7 +211,7 @@ module _ {X K : Type 0} {rule : Ghosts K X} where
         receives =
             λ some.
             receives_one (receives_shape old) (receives_view old) (receives_view new) number place within (goes some)
-            (subst (λ w. HasPopped (Some (Index w)) (receives_view old) (receives_view new)) (sym is) p);
+            (subst (λ w. HasPopped (Some (Index w)) (receives_view old) (receives_view new)) (sym is) popped);
       }
 
   -- a receive that answers None has received nothing
@@ -234,36 +236,38 @@ module _ {X K : Type 0} {rule : Ghosts K X} where
 
   -- receives one after another receive both lists
   pub received_then : (xs ys : List ℕ) (s t u : Receiver X K rule) → HasReceived xs s t → HasReceived ys t u → HasReceived (xs ++ ys) s u
-  received_then xs ys s t u h k =
+  received_then xs ys s t u first_received second_received =
       record {
-        same = (k.same.0 ∙ h.same.0, k.same.1 ∙ h.same.1);
-        layout = k.layout ∙ h.layout;
-        places = k.places ∙ h.places;
+        same = (second_received.same.0 ∙ first_received.same.0, second_received.same.1 ∙ first_received.same.1);
+        layout = second_received.layout ∙ first_received.layout;
+        places = second_received.places ∙ first_received.places;
         receives =
             λ some.
-            receives_then (receives_shape s) xs ys (receives_view s) (receives_view t) (receives_view u) (h.receives some)
-            (subst (λ shape. ReceivesOn shape ys (receives_view t) (receives_view u)) (shape_stays s t h.same.0 h.layout h.places)
-            (k.receives (subst (λ (q : QueueId). 0 < q.capacity) (sym h.same.0) some)));
+            receives_then (receives_shape s) xs ys (receives_view s) (receives_view t) (receives_view u) (first_received.receives some)
+            (subst (λ shape. ReceivesOn shape ys (receives_view t) (receives_view u))
+            (shape_stays s t first_received.same.0 first_received.layout first_received.places)
+            (second_received.receives (subst (λ (q : QueueId). 0 < q.capacity) (sym first_received.same.0) some)));
       }
 
   -- a receive, and then calls that receive nothing
   pub receives_next : (xs ys : List ℕ) (s t u w : Receiver X K rule) → HasReceived xs s t → HasReceived ys t u → KeepsReceives u w
       → HasReceived (xs ++ ys) s w
-  receives_next xs ys s t u w h k keeps =
+  receives_next xs ys s t u w first_received second_received keeps =
       subst (λ ns. HasReceived ns s w) (append-nil (xs ++ ys))
-      (received_then (xs ++ ys) [] s u w (received_then xs ys s t u h k) (received_nothing u w keeps))
+      (received_then (xs ++ ys) [] s u w (received_then xs ys s t u first_received second_received) (received_nothing u w keeps))
 
   -- a receiver that gives its role back after receives has received what they received
   pub received_all : (xs : List ℕ) (s t : Receiver X K rule) (p : ReceiverParts) → HasReceived xs s t → HasReceivedAll [] t p → HasReceivedAll xs s p
-  received_all xs s t p h k =
+  received_all xs s t p has_received has_received_all =
       record {
-        of = (k.of.0 ∙ h.same.0, k.of.1 ∙ h.same.1);
+        of = (has_received_all.of.0 ∙ has_received.same.0, has_received_all.of.1 ∙ has_received.same.1);
         receives =
             λ some.
             subst (λ ns. ReceivesOn (receives_shape s) ns (receives_view s) (received_view p)) (append-nil xs)
-            (receives_then (receives_shape s) xs [] (receives_view s) (receives_view t) (received_view p) (h.receives some)
-            (subst (λ shape. ReceivesOn shape [] (receives_view t) (received_view p)) (shape_stays s t h.same.0 h.layout h.places)
-            (k.receives (subst (λ (q : QueueId). 0 < q.capacity) (sym h.same.0) some))));
+            (receives_then (receives_shape s) xs [] (receives_view s) (receives_view t) (received_view p) (has_received.receives some)
+            (subst (λ shape. ReceivesOn shape [] (receives_view t) (received_view p))
+            (shape_stays s t has_received.same.0 has_received.layout has_received.places)
+            (has_received_all.receives (subst (λ (q : QueueId). 0 < q.capacity) (sym has_received.same.0) some))));
       }
 
   -- what was told of what was received: nothing yet, then of one more, and in the end of all
@@ -279,36 +283,36 @@ module _ {X K : Type 0} {rule : Ghosts K X} where
   pub read_next : {A : Type 0} (tells : ℕ → A → Type 0) (told more : List A) (one : A) (number : ℕ) (s t u w : Receiver X K rule)
       → more ≡ told ++ one ∷ [] → tells number one → HasRead tells told s t → HasReceived (number ∷ []) t u → KeepsReceives u w
       → HasRead tells more s w
-  read_next tells told more one number s t u w is holds h k keeps =
+  read_next tells told more one number s t u w is holds read has_received keeps =
       record {
-        numbers = h.numbers ++ number ∷ [];
-        of_each = subst (AreTold tells (h.numbers ++ number ∷ [])) (sym is) (told_then tells h.numbers told number one h.of_each holds);
-        received = receives_next h.numbers (number ∷ []) s t u w h.received k keeps;
+        numbers = read.numbers ++ number ∷ [];
+        of_each = subst (AreTold tells (read.numbers ++ number ∷ [])) (sym is) (told_then tells read.numbers told number one read.of_each holds);
+        received = receives_next read.numbers (number ∷ []) s t u w read.received has_received keeps;
       }
 
   pub read_all : {A : Type 0} (tells : ℕ → A → Type 0) (told : List A) (s t : Receiver X K rule) (p : ReceiverParts) → HasRead tells told s t
       → HasReceivedAll [] t p → HasReadAll tells told s p
-  read_all tells told s t p h k =
-      record { numbers = h.numbers; of_each = h.of_each; received = received_all h.numbers s t p h.received k }
+  read_all tells told s t p read has_received_all =
+      record { numbers = read.numbers; of_each = read.of_each; received = received_all read.numbers s t p read.received has_received_all }
 
   -- its role was taken, and given back
   pub waits : (r : Receiver X K rule) (p : ReceiverParts) (w : View ℕ) → IsOfReceiver r p → receives_view r ≡ w
       → Goes (received_view p) w → HasAcquired roles.Consumer true (received_view p) w → HasWaited p r
-  waits r p w of is goes h =
+  waits r p w of is goes acquired =
       record {
         of = of;
         received =
             subst (HasReceivedNumbers (receives_shape r) [] (received_view p)) (sym is)
-            (received_nothing_yet (receives_shape r) (received_view p) w roles.Consumer goes h);
+            (received_nothing_yet (receives_shape r) (received_view p) w roles.Consumer goes acquired);
       }
 
   -- a receiver that gives its role back receives nothing by that
   pub ends : (r : Receiver X K rule) (p : ReceiverParts) → IsOfReceiver r p → Goes (receives_view r) (received_view p)
       → HasReleased roles.Consumer (receives_view r) (received_view p) → HasReceivedAll [] r p
-  ends r p of goes h =
+  ends r p of goes released =
       record {
         of = of;
-        receives = λ some. receives_all (receives_shape r) roles.Consumer (receives_view r) (received_view p) goes h;
+        receives = λ some. receives_all (receives_shape r) roles.Consumer (receives_view r) (received_view p) goes released;
       }
 
   -- ---- the channel
@@ -360,7 +364,7 @@ module _ {X K : Type 0} {rule : Ghosts K X} where
         (relays (shape_of first) (submission_in left).capacity sent back received (range_with_len (next_in first) count) others came
         (sending_view first) opened.half (sent_view sends) (sending_view left) (received_view receives) (sends_view s) (receives_view r)
         (sent_view sends') (received_view receives') rejoined.half (sending_view last)
-        (let long = length-range_with_len (next_in first) count in omega arith) known opened.cut opened.again
+        (omega (arith, length-range_with_len (next_in first) count)) known opened.cut opened.again
         (subst (λ shape. HasSentNumbers shape [] [] (sent_view sends) (sends_view s)) ours begun.sent)
         (subst (λ shape. HasReceivedNumbers shape [] (received_view receives) (receives_view r)) theirs waited.received)
         sends_on receives_on rejoined.taken_in rejoined.both rejoined.all rejoined.history)
@@ -396,7 +400,7 @@ module _ {X K : Type 0} {rule : Ghosts K X} where
       first_relayed f made others count first left last sends sends' receives receives' s r fresh none opened same begun waited shapes
       some fits (sent_all count others s s' sends' sent ended) (read_all (λ n a. a ≡ f n) made r r' receives' read over) rejoined kept
 
-  -- and of ends that each thread has made of its parts
+  -- the same, of ends that each thread has made of its parts
   pub relayed_through : {A : Type 0} (f : ℕ → A) (made : List A) (others : List ℕ) (count : ℕ) (first left last : Channel X K rule)
       (sends sends' : SenderParts) (receives receives' : ReceiverParts) → HasPassedOn [] [] [] first → next_in first ≡ 0
       → HasOpened first left sends receives → IsSameChannel first left → 0 < (submission_in first).capacity → count < 2 ^ 64 - 1

@@ -29,20 +29,20 @@ use Rattle.lock_free_queues.proofs.Queues.TakenOut.{item, same_list, no_longer, 
 
 -- each element of the two is one of the third
 pub merges_within : {A : Type 0} (P : A → Type 0) (xs ys zs : List A) → Merges xs ys zs → All P zs → All P xs
-merges_within P xs ys [] h all = subst (All P) (sym h.0) (All-nil P)
+merges_within P xs ys [] merges all = subst (All P) (sym merges.0) (All-nil P)
 merges_within P xs ys (z ∷ zs) (inl h) all =
     subst (All P) (sym h.1) (All-cons P z h.0 (All-head P z zs all) (merges_within P h.0 ys zs h.2 (All-tail P z zs all)))
 merges_within P xs ys (z ∷ zs) (inr h) all = merges_within P xs h.0 zs h.2 (All-tail P z zs all)
 
 -- what is a merge stays one, if each of the numbers is read in another way
 pub merges_map : (f : ℕ → ℕ) (xs ys zs : List ℕ) → Merges xs ys zs → Merges (map f xs) (map f ys) (map f zs)
-merges_map f xs ys [] h = (ap (map f) h.0, ap (map f) h.1)
+merges_map f xs ys [] merges = (ap (map f) merges.0, ap (map f) merges.1)
 merges_map f xs ys (z ∷ zs) (inl h) = inl (map f h.0, ap (map f) h.1, merges_map f h.0 ys zs h.2)
 merges_map f xs ys (z ∷ zs) (inr h) = inr (map f h.0, ap (map f) h.1, merges_map f xs h.0 zs h.2)
 
 -- where nothing came back, what was received is all of it
 pub merges_none : {A : Type 0} (xs zs : List A) → Merges xs [] zs → xs ≡ zs
-merges_none xs [] h = h.0
+merges_none xs [] merges = merges.0
 merges_none xs (z ∷ zs) (inl h) = h.1 ∙ ap (λ ws. z ∷ ws) (merges_none h.0 zs h.2)
 merges_none xs (z ∷ zs) (inr h) = (let none : [] ≡ z ∷ h.0 = h.1 in absurd (cc))
 
@@ -60,8 +60,8 @@ stand_in_itself [] = tt
 stand_in_itself (x ∷ xs) = inl (refl, stand_in_itself xs)
 
 no_more : {A : Type 0} (xs : List A) → length xs ≡ 0 → xs ≡ []
-no_more [] e = refl
-no_more (x ∷ xs) e = absurd (omega arith)
+no_more [] length_is_zero = refl
+no_more (x ∷ xs) length_is_zero = absurd (omega arith)
 
 -- ---- both joined: `was` is what was known before, with the whole share
 
@@ -83,18 +83,15 @@ module _ (n : ℕ) (words words_back words_received all back came : List ℕ) (w
   -- what the whole has pushed is what was known before, and what the sender pushed
   puts_all : sum_by puts z.made ≡ length words + sum_by puts a.made
   puts_all =
-      let d = r.done.puts_more in
-      let p = puts_z in
-      let q = right_put in
       let before = ap length known.list ∙ length_named item words in
       let size = was_counted.0 in
-      omega arith
+      omega (arith, r.done.puts_more, puts_z, right_put)
 
   pushed : HasPushedAll all back left a
-  pushed = s.all (let low = seen_later a z since in let size = counted.0 in let few = s.few in let one = puts_all in let start = none_put in omega arith)
+  pushed = s.all (let low = seen_later a z since in omega (arith, counted.0, s.few, puts_all, none_put))
 
   put_z : length (published z.seen) ≡ length words + length all
-  put_z = (let size = counted.0 in let one = puts_all in let start = none_put in let put = pushed.added.done.puts_more in omega arith)
+  put_z = omega (arith, counted.0, puts_all, none_put, pushed.added.done.puts_more)
 
   -- what was published is that of before, and then all of it
   parted : published z.seen ≡ ((map Index words ++ pushed.added.others) ++ map Index all) ++ flat_map publishes since.rest
@@ -104,22 +101,20 @@ module _ (n : ℕ) (words words_back words_received all back came : List ℕ) (w
       ∙ ap (λ xs. xs ++ flat_map publishes since.rest)
       (pushed.added.list ∙ ap (λ xs. (xs ++ pushed.added.others) ++ map Index all) (ap published left_seen ∙ known.list)))
 
-  -- so what was published is as long as all of that, and what came behind
+  -- what was published is as long as all that was sent, and what came behind
   sizes : length (published z.seen) ≡ ((length words + length pushed.added.others) + length all) + length (flat_map publishes since.rest)
   sizes =
       let one = ap length parted in
       let two = length-append ((map Index words ++ pushed.added.others) ++ map Index all) (flat_map publishes since.rest) in
       let three = length-append (map Index words ++ pushed.added.others) (map Index all) in
       let four = length-append (map Index words) pushed.added.others in
-      let x = length_named item words in
-      let y = length_named item all in
-      omega arith
+      omega (arith, length_named item words, length_named item all)
 
   no_others : pushed.added.others ≡ []
-  no_others = no_more _ (let size = sizes in let put = put_z in omega arith)
+  no_others = no_more _ (omega (arith, sizes, put_z))
 
   nothing_later : flat_map publishes since.rest ≡ []
-  nothing_later = no_more _ (let size = sizes in let put = put_z in omega arith)
+  nothing_later = no_more _ (omega (arith, sizes, put_z))
 
   -- what was published is what was known before, and all that the sender pushed
   all_published : published z.seen ≡ map Index (words ++ all)
@@ -134,16 +129,13 @@ module _ (n : ℕ) (words words_back words_received all back came : List ℕ) (w
   gets_all : length (handed_out z.seen) ≡ length (words_received ++ came) + length (words_back ++ back)
   gets_all =
       let size = counted.1 in
-      let p = gets_z in
       let ours = none_got in
       let theirs = right_got in
       let pushes = pushed.added.done.gets_more in
       let pops = r.done.gets_more in
       let before = was_counted.1 in
       let out = known.out in
-      let x = length-append words_received came in
-      let y = length-append words_back back in
-      omega arith
+      omega (arith, gets_z, length-append words_received came, length-append words_back back)
 
   -- what came back stands, in order, in what pushes took out
   in_pushes : StandIn (map item (words_back ++ back)) (taken by_push z.seen)
@@ -169,47 +161,35 @@ module _ (n : ℕ) (words words_back words_received all back came : List ℕ) (w
   all_pushes : map item (words_back ++ back) ≡ taken by_push z.seen
   all_pushes =
       same_list (map item (words_back ++ back)) (taken by_push z.seen) in_pushes
-      (let x = length_named item (words_back ++ back) in
-      let y = length_named item (words_received ++ came) in
-      let low = no_longer _ _ in_pops in
+      (let low = no_longer _ _ in_pops in
       let few = few_taken z.seen in
       let out = gets_all in
-      omega arith)
+      omega (arith, length_named item (words_back ++ back), length_named item (words_received ++ came)))
 
   -- what was received is all that pops took out
   all_pops : map item (words_received ++ came) ≡ taken by_pop z.seen
   all_pops =
       same_list (map item (words_received ++ came)) (taken by_pop z.seen) in_pops
-      (let x = length_named item (words_back ++ back) in
-      let y = length_named item (words_received ++ came) in
-      let low = no_longer _ _ in_pushes in
+      (let low = no_longer _ _ in_pushes in
       let few = few_taken z.seen in
       let out = gets_all in
-      omega arith)
+      omega (arith, length_named item (words_back ++ back), length_named item (words_received ++ came)))
 
   -- what was taken out is a merge of both
   both : Merges (map item (words_received ++ came)) (map item (words_back ++ back)) (handed_out z.seen)
   both =
       subst (λ ys. Merges (map item (words_received ++ came)) ys (handed_out z.seen)) (sym all_pushes)
       (subst (λ xs. Merges xs (taken by_push z.seen) (handed_out z.seen)) (sym all_pops)
-      (merged z.seen (let x = length_named item (words_back ++ back) in
-      let y = length_named item (words_received ++ came) in
-      let p = ap length all_pops in
-      let q = ap length all_pushes in
-      let out = gets_all in
-      omega arith)))
+      (merged z.seen (let out = gets_all in
+      omega (arith, length_named item (words_back ++ back), length_named item (words_received ++ came), ap length all_pops, ap length all_pushes))))
 
-  -- and a beginning of what was published
+  -- what was sent is what was taken out and what waits
   listed : map item (words ++ all) ≡ handed_out z.seen ++ waiting z.seen
   listed = sym all_published ∙ (over_sound one_word n z history).book z.seen [] (sym (append-nil z.seen))
 
   -- no more was received and came back than was sent
   few_out : length (words_received ++ came) + length (words_back ++ back) ≤ length (words ++ all)
-  few_out =
-      let size = ap length listed ∙ length-append (handed_out z.seen) (waiting z.seen) in
-      let out = gets_all in
-      let named = length_named item (words ++ all) in
-      omega arith
+  few_out = omega (arith, ap length listed ∙ length-append (handed_out z.seen) (waiting z.seen), gets_all, length_named item (words ++ all))
 
   abbrev first_ones : List ℕ
   first_ones = take (length (words_received ++ came) + length (words_back ++ back)) (words ++ all)
@@ -217,7 +197,7 @@ module _ (n : ℕ) (words words_back words_received all back came : List ℕ) (w
   -- what was taken out is a beginning of what was sent
   begins : handed_out z.seen ≡ map item first_ones
   begins =
-      let size : length (handed_out z.seen) ≡ length (words_received ++ came) + length (words_back ++ back) = (let out = gets_all in omega arith) in
+      let size : length (handed_out z.seen) ≡ length (words_received ++ came) + length (words_back ++ back) = omega (arith, gets_all) in
       sym (take-append_seam (handed_out z.seen) (waiting z.seen))
       ∙ (ap (λ k. take k (handed_out z.seen ++ waiting z.seen)) size
       ∙ (ap (take (length (words_received ++ came) + length (words_back ++ back))) (sym listed)
@@ -241,7 +221,7 @@ module _ (n : ℕ) (words words_back words_received all back came : List ℕ) (w
         passed_on = record { few = few_out; merged = merge };
       }
 
-  -- so each word that was received is one that was sent
+  -- each word that was received is one that was sent
   pub came_of : (P : ℕ → Type 0) → All P (words ++ all) → All P came
   came_of P these =
       later_ones P words_received came

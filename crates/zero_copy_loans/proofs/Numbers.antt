@@ -36,18 +36,18 @@ module _ (s : Shape) where
 
   -- a sender that has acquired its role has sent no number
   pub sent_none : (v w : View ℕ) (role : Role) → Goes v w → HasAcquired role true v w → HasSentNumbers s [] [] v w
-  sent_none v w role goes h =
+  sent_none v w role goes acquired =
       record {
         words = [];
         words_back = [];
         numbers = refl;
         returned = refl;
         places = All-nil (HasPlace s);
-        pushed = pushed_none [] role v w goes h;
+        pushed = pushed_none [] role v w goes acquired;
       }
 
   pub received_nothing_yet : (v w : View ℕ) (role : Role) → Goes v w → HasAcquired role true v w → HasReceivedNumbers s [] v w
-  received_nothing_yet v w role goes h = record { words = []; numbers = λ all. refl; taken = takes_none role v w goes h }
+  received_nothing_yet v w role goes acquired = record { words = []; numbers = λ all. refl; taken = takes_none role v w goes acquired }
 
   -- ---- sends
 
@@ -130,7 +130,7 @@ module _ (s : Shape) where
   receives_other w u word past goes p v received h =
       record {
         words = h.words ++ word ∷ [];
-        numbers = λ all. (let here = All-head (HasPlace s) word [] (later_ones h.words (word ∷ []) all) in absurd (omega arith));
+        numbers = λ all. (absurd (omega (arith, All-head (HasPlace s) word [] (later_ones h.words (word ∷ []) all))));
         taken = takes_one h.words word v w u h.taken goes p;
       }
     where

@@ -10,9 +10,9 @@ use Rattle.lock_free_loans.specs.declared.spsc.loan.places.Place.{Place}
 use Rattle.lock_free_loans.specs.declared.spsc.loan.places.Place.TheVariants.{Free, Loaned, Sent}
 
 within : (ps : List Place) (i : ℕ) → is_out (place_at ps i) ≡ true → i < length ps
-within [] i h = absurd (true≢false (sym h))
-within (p ∷ ps) zero h = omega arith
-within (p ∷ ps) (suc i) h = let lt = within ps i h in omega arith
+within [] i out = absurd (true≢false (sym out))
+within (p ∷ ps) zero out = omega arith
+within (p ∷ ps) (suc i) out = omega (arith, within ps i out)
 
 -- to be freed is the same as to be sent and to come back
 pub unsent : (ps : List Place) (i : ℕ) → place_at ps i ≡ Loaned → slice_set ps i Free ≡ returned i (slice_set ps i Sent)

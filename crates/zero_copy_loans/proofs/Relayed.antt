@@ -83,19 +83,11 @@ module _ (s : Shape) (capacity : ℕ) (sent back received numbers others came : 
 
   -- what it has pushed is what was pushed before and what both ends pushed
   puts_z : sum_by puts z.made ≡ sum_by puts old.made + (sum_by puts a.made + sum_by puts b.made)
-  puts_z =
-      let one = ap (sum_by puts) all_made in
-      let two = sum_by-append puts (old.made ++ a.made) b.made in
-      let three = sum_by-append puts old.made a.made in
-      omega arith
+  puts_z = omega (arith, ap (sum_by puts) all_made, sum_by-append puts (old.made ++ a.made) b.made, sum_by-append puts old.made a.made)
 
   -- what it has taken out is what was taken out before and what both ends took
   gets_z : sum_by gets z.made ≡ sum_by gets old.made + (sum_by gets a.made + sum_by gets b.made)
-  gets_z =
-      let one = ap (sum_by gets) all_made in
-      let two = sum_by-append gets (old.made ++ a.made) b.made in
-      let three = sum_by-append gets old.made a.made in
-      omega arith
+  gets_z = omega (arith, ap (sum_by gets) all_made, sum_by-append gets (old.made ++ a.made) b.made, sum_by-append gets old.made a.made)
 
   abbrev read : ℕ → ℕ
   read word = word / s.room
@@ -117,11 +109,11 @@ module _ (s : Shape) (capacity : ℕ) (sent back received numbers others came : 
       × HavePassed (known.words ++ pushed.words) (known.words_back ++ pushed.words_back) (known.words_received ++ popped.words) z
   joined = (
     came_of capacity known.words known.words_back known.words_received pushed.words pushed.words_back popped.words old one other a b z
-        (let l = long in omega arith) known.passed (cut.right_seen) (again.right_seen ∙ cut.seen)
+        (omega (arith, long)) known.passed (cut.right_seen) (again.right_seen ∙ cut.seen)
         (ap (sum_by puts) cut.right_made) (ap (sum_by gets) cut.right_made) (ap (sum_by puts) again.right_made)
         (ap (sum_by gets) again.right_made) pushed.pushed popped.taken since both.others puts_z gets_z whole all history,
     have_passed capacity known.words known.words_back known.words_received pushed.words pushed.words_back popped.words old one other a b z
-        (let l = long in omega arith) known.passed (cut.right_seen) (again.right_seen ∙ cut.seen)
+        (omega (arith, long)) known.passed (cut.right_seen) (again.right_seen ∙ cut.seen)
         (ap (sum_by puts) cut.right_made) (ap (sum_by gets) cut.right_made) (ap (sum_by puts) again.right_made)
         (ap (sum_by gets) again.right_made) pushed.pushed popped.taken since both.others puts_z gets_z whole all history,
   )
@@ -147,23 +139,23 @@ module _ (s : Shape) (capacity : ℕ) (sent back received numbers others came : 
 
 -- what is known of all words is known of all numbers: a beginning of them was received or came back
 pub passed_on : (s : Shape) (sent back received : List ℕ) (v : View ℕ) → HasAll s sent back received v → IsPassedOn sent received back
-passed_on s sent back received v h =
+passed_on s sent back received v has_all =
     let read : ℕ → ℕ = λ word. word / s.room in
-    let long : length h.words ≡ length sent = sym (length_named read h.words) ∙ ap length h.numbers in
-    let out : length h.words_back ≡ length back = sym (length_named read h.words_back) ∙ ap length h.returned in
-    let came : length h.words_received ≡ length received = sym (length_named read h.words_received) ∙ ap length h.received_these in
-    let few = h.passed.passed_on.few in
-    let n = length h.words_received + length h.words_back in
+    let long : length has_all.words ≡ length sent = sym (length_named read has_all.words) ∙ ap length has_all.numbers in
+    let out : length has_all.words_back ≡ length back = sym (length_named read has_all.words_back) ∙ ap length has_all.returned in
+    let came : length has_all.words_received ≡ length received = sym (length_named read has_all.words_received) ∙ ap length has_all.received_these in
+    let few = has_all.passed.passed_on.few in
+    let n = length has_all.words_received + length has_all.words_back in
     let size : n ≡ length received + length back = omega arith in
-    let list : map read (take n h.words) ≡ take (length received + length back) sent =
-    sym (take-map read n h.words) ∙ (ap (take n) h.numbers ∙ ap (λ k. take k sent) size) in
+    let list : map read (take n has_all.words) ≡ take (length received + length back) sent =
+    sym (take-map read n has_all.words) ∙ (ap (take n) has_all.numbers ∙ ap (λ k. take k sent) size) in
     record {
       few = omega arith;
       merged =
           subst (λ zs. Merges received back zs) list
-          (subst (λ ys. Merges received ys (map read (take n h.words))) h.returned
-          (subst (λ xs. Merges xs (map read h.words_back) (map read (take n h.words))) h.received_these
-          (merges_map read h.words_received h.words_back (take n h.words) h.passed.passed_on.merged)));
+          (subst (λ ys. Merges received ys (map read (take n has_all.words))) has_all.returned
+          (subst (λ xs. Merges xs (map read has_all.words_back) (map read (take n has_all.words))) has_all.received_these
+          (merges_map read has_all.words_received has_all.words_back (take n has_all.words) has_all.passed.passed_on.merged)));
     }
 
 -- ---- numbers that follow one another
@@ -174,7 +166,7 @@ take_range first n zero le = refl
 take_range first zero (suc k) le = absurd (omega arith)
 take_range first (suc n) (suc k) le = ap (λ xs. first ∷ xs) (take_range (first + 1) n k (omega arith))
 
--- and those of a later sender behind them
+-- the numbers of a later sender come behind those of the first
 pub range_then : (first n m : ℕ) → range_with_len first n ++ range_with_len (first + n) m ≡ range_with_len first (n + m)
 range_then first zero m =
     ap (λ k. range_with_len k m) (let e : first + 0 ≡ first = omega arith in e) ∙ ap (range_with_len first) (let e : m ≡ 0 + m = omega arith in e)
@@ -187,9 +179,9 @@ range_then first (suc n) m =
 -- where nothing came back, the numbers that were received follow one another from the first one on
 pub first_received : (first n : ℕ) (received : List ℕ) → IsPassedOn (range_with_len first n) received []
     → received ≡ range_with_len first (length received)
-first_received first n received h =
-    let few : length received ≤ n = (let f = h.few in let long = length-range_with_len first n in omega arith) in
-    merges_none received (take (length received + 0) (range_with_len first n)) h.merged
+first_received first n received is_passed_on =
+    let few : length received ≤ n = omega (arith, is_passed_on.few, length-range_with_len first n) in
+    merges_none received (take (length received + 0) (range_with_len first n)) is_passed_on.merged
     ∙ (ap (λ k. take k (range_with_len first n)) (let e : length received + 0 ≡ length received = omega arith in e)
     ∙ take_range first n (length received) few)
 

@@ -27,12 +27,12 @@ module _ {X K : Type 0} {rule : Ghosts K X} where
   -- a loan of another channel is counted as sent
   pub send_counts_a_foreign_loan : (place : ℕ) (back : Back) (old new : Sender X K rule) → next_of new ≡ next_of old + 1
       → IsForeign place back old new → ⊥
-  send_counts_a_foreign_loan place back old new counted k = let same = k.4 in let next = counted in absurd (omega arith)
+  send_counts_a_foreign_loan place back old new counted foreign = absurd (omega (arith, foreign.4, counted))
 
   -- another place is said to come back
   pub send_hands_another_place_back : (place : ℕ) (back : Back) (old new : Sender X K rule) → back.place ≢ place
       → IsForeign place back old new → ⊥
-  send_hands_another_place_back place back old new differs k = differs k.2
+  send_hands_another_place_back place back old new differs foreign = differs foreign.2
 
 -- ---- the receiver
 
@@ -46,39 +46,39 @@ module _ {X K : Type 0} where
       → (number_in reading ≡ number_of sample) × (slot_in reading ≡ received sample) → ⊥
   read_takes_another_number reading sample differs k = differs k.0
 
--- of a value that is read nothing stands in the answer
+-- the answer has something of each value that is read
 pub read_each_tells_too_little : {A : Type 0} (tells : ℕ → A → Type 0) (number : ℕ) (numbers : List ℕ) → AreTold tells (number ∷ numbers) [] → ⊥
-read_each_tells_too_little tells number numbers k = k
+read_each_tells_too_little tells number numbers told = told
 
 -- what is told holds with no such number
 pub read_each_tells_of_another : {A : Type 0} (tells : ℕ → A → Type 0) (number : ℕ) (numbers : List ℕ) (one : A) (told : List A)
     → ¬ tells number one → AreTold tells (number ∷ numbers) (one ∷ told) → ⊥
-read_each_tells_of_another tells number numbers one told wrong k = wrong k.0
+read_each_tells_of_another tells number numbers one told wrong are_told = wrong are_told.0
 
 -- ---- the pool
 
 -- an acquire that waits ends where no place is free
 pub acquire_waiting_finds_no_place : HasPlaces (NoPlace OutOfIndices) → ⊥
-acquire_waiting_finds_no_place k = k
+acquire_waiting_finds_no_place places = places
 
 module _ {X K : Type 0} {rule : Ghosts K X} where
   -- the value comes out of another slot than that of the place
   pub acquire_takes_another_slot : (b : Buffer X K rule) → emptied_slot b.came ≢ place_in b → IsTakenOut b → ⊥
-  acquire_takes_another_slot b differs k = differs k.0
+  acquire_takes_another_slot b differs taken_out = differs taken_out.0
 
   -- it is said to have another number than it lay there with
   pub acquire_tells_another_number : (b : Buffer X K rule) (value : X) (number : ℕ) → b.value ≡ Some value → emptied_number b.came ≡ Some number
       → number ≢ b.number → IsTakenOut b → ⊥
-  acquire_tells_another_number b value number some was differs k =
+  acquire_tells_another_number b value number some was differs taken_out =
       let out : MatchOption (Some value) ((emptied_number b.came ≡ None) × (b.number ≡ 0)) (λ v. emptied_number b.came ≡ Some b.number) =
-      subst (λ o. MatchOption o ((emptied_number b.came ≡ None) × (b.number ≡ 0)) (λ v. emptied_number b.came ≡ Some b.number)) some k.1 in
+      subst (λ o. MatchOption o ((emptied_number b.came ≡ None) × (b.number ≡ 0)) (λ v. emptied_number b.came ≡ Some b.number)) some taken_out.1 in
       let same : number ≡ b.number = cc in
       differs same
 
   -- something is said to lie there, and there was no value
   pub give_back_lays_nothing : (b : Buffer X K rule) (laid : Laid) → b.value ≡ None → IsGivenBack b (Some laid) → ⊥
-  give_back_lays_nothing b laid none k = true≢false (sym k.0 ∙ ap is_some none)
+  give_back_lays_nothing b laid none given_back = true≢false (sym given_back.0 ∙ ap is_some none)
 
   -- the value is laid into another slot
   pub give_back_lays_elsewhere : (b : Buffer X K rule) (laid : Laid) → laid_slot laid ≢ place_in b → IsGivenBack b (Some laid) → ⊥
-  give_back_lays_elsewhere b laid differs k = differs k.1
+  give_back_lays_elsewhere b laid differs given_back = differs given_back.1

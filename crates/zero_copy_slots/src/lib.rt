@@ -199,6 +199,7 @@ impl<'a, X: Drop, K: Keeps<X>> Drop for Writing<'a, X, K> {
     }
 }
 
+/// The number and the value of what lay in a slot, if anything did.
 fn value_of<X, K: Keeps<X>>(kept: Option<Kept<X, K>>) -> Option<(u64, X)>
     requires { IfSome kept (λ k. K.holds k.number k.value) }
     ensures { IfSome result (λ r. K.holds r.0 r.1) }
@@ -215,6 +216,7 @@ fn value_of<X, K: Keeps<X>>(kept: Option<Kept<X, K>>) -> Option<(u64, X)>
     }
 }
 
+/// How many readers the word of a slot counts.
 fn reader_count(word: u64) -> u64
     ensures { result ≡ readers word }
 {

@@ -37,20 +37,20 @@ module _ {A : Type 0} (tells : ℕ → A → Type 0) where
       -- one value more
       pub read_told : (one : A) → HasFound tells (found.Told one) mid new → longer ≡ after ++ one ∷ []
           → HasRead tells [] before longer old new
-      read_told one f is =
+      read_told one has_found is =
           record {
-            numbers = h.numbers ++ f.0 ∷ [];
+            numbers = h.numbers ++ has_found.0 ∷ [];
             told = h.told ++ one ∷ [];
             received =
-                f.1
-                ∙ (ap (λ xs. xs ++ f.0 ∷ []) (h.received ∙ ap (λ ns. received_so_far old ++ ns) (append-nil h.numbers))
-                ∙ (append_assoc (received_so_far old) h.numbers (f.0 ∷ [])
-                ∙ ap (λ ns. received_so_far old ++ ns) (sym (append-nil (h.numbers ++ f.0 ∷ [])))));
+                has_found.1
+                ∙ (ap (λ xs. xs ++ has_found.0 ∷ []) (h.received ∙ ap (λ ns. received_so_far old ++ ns) (append-nil h.numbers))
+                ∙ (append_assoc (received_so_far old) h.numbers (has_found.0 ∷ [])
+                ∙ ap (λ ns. received_so_far old ++ ns) (sym (append-nil (h.numbers ++ has_found.0 ∷ [])))));
             appended = is ∙ (ap (λ xs. xs ++ one ∷ []) h.appended ∙ append_assoc before h.told (one ∷ []));
-            of_each = told_then h.numbers h.told f.0 one h.of_each f.2;
+            of_each = told_then h.numbers h.told has_found.0 one h.of_each has_found.2;
           }
 
-      -- and then one of which nothing is told, or none
+      -- one more came of which nothing is told, or none
       pub read_rest : (rest : List ℕ) → received_so_far new ≡ received_so_far mid ++ rest → longer ≡ after
           → HasRead tells rest before longer old new
       read_rest rest came same =
@@ -75,8 +75,8 @@ module _ {A : Type 0} (f : ℕ → A) where
   -- for a client: a receiver that had received nothing, and a vector that was empty
   pub all_told : {X K : Type 0} {rule : Ghosts K X} (told before : List A) (old new : Receiver X K rule)
       → HasRead (λ n a. a ≡ f n) [] before told old new → before ≡ [] → received_so_far old ≡ [] → told ≡ map f (received_so_far new)
-  all_told told before old new h empty none =
-      h.appended
-      ∙ (ap (λ xs. xs ++ h.told) empty
-      ∙ (told_by h.numbers h.told h.of_each
-      ∙ ap (map f) (sym (h.received ∙ (ap (λ xs. xs ++ (h.numbers ++ [])) none ∙ append-nil h.numbers)))))
+  all_told told before old new read empty none =
+      read.appended
+      ∙ (ap (λ xs. xs ++ read.told) empty
+      ∙ (told_by read.numbers read.told read.of_each
+      ∙ ap (map f) (sym (read.received ∙ (ap (λ xs. xs ++ (read.numbers ++ [])) none ∙ append-nil read.numbers)))))

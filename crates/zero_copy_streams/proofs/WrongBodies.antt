@@ -16,6 +16,7 @@ use Rattle.zero_copy_streams.specs.declared.sender.Sent.{Sent}
 one_longer : (xs : List ℕ) (x : ℕ) → xs ≡ xs ++ x ∷ [] → ⊥
 one_longer xs x is = (let long = ap length is in let both = length-append xs (x ∷ []) in absurd (omega arith))
 
+-- a list with two numbers more is none with one number more
 two_longer : (xs : List ℕ) (x y z : ℕ) → xs ++ x ∷ y ∷ [] ≡ xs ++ z ∷ [] → ⊥
 two_longer xs x y z is =
     let long = ap length is in
@@ -31,7 +32,7 @@ head z (x ∷ xs) = x
 same_last : (xs : List ℕ) (x y : ℕ) → xs ++ x ∷ [] ≡ xs ++ y ∷ [] → x ≡ y
 same_last xs x y is = ap (head x) (append_cancel_left xs (x ∷ []) (y ∷ []) is)
 
--- as many are told as there are numbers
+-- there are as many told as there are numbers
 told_many : {A : Type 0} (tells : ℕ → A → Type 0) (ns : List ℕ) (told : List A) → AreTold tells ns told → length ns ≡ length told
 told_many tells [] [] all = refl
 told_many tells [] (a ∷ told) all = absurd all

@@ -50,6 +50,7 @@ impl Drop for Received {
 }
 
 impl Received {
+    /// The receiver of tickets that has ended.
     pub(crate) fn into_tickets(self) -> ends::Received<Ticket>
         ensures { result ≡ self.tickets }
     {

@@ -51,6 +51,7 @@ impl Drop for Passes {
 }
 
 impl Passes {
+    /// The passes of both queues.
     fn into_parts(self) -> (Pass<Element<Ticket>>, Pass<Element<u32>>)
         ensures { result ≡ (self.tickets, self.places) }
     {

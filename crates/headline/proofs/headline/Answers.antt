@@ -38,9 +38,10 @@ returns-clause-runs g c code kind capacity queue parties turns coded admitted qu
 last_word : {T : Type 0} (t : Trace T) (turn : Turn T) → IsReached t → refusal_of t.world turn ≡ None
     → (t.world.kind ≡ kinds.Robust) ⊎ (t.world.kind ≡ kinds.Container)
     → (p : ℕ) (said : Bool) → turn ≡ Decide p said → waits_at (after_turn t turn) p ≡ false
-last_word t turn r e is p said decides =
-    ⊎_elim (λ robust. answering.answered t robust r turn e p said decides) (λ container. waiting.answered t container r turn e p said decides) is
+last_word t turn reached e is p said decides =
+    ⊎_elim (λ robust. answering.answered t robust reached turn e p said decides) (λ container. waiting.answered t container reached turn e p said decides) is
 
+-- the return of `turn` meets what it ensures
 pub returns-clause-turn : goal.returns-clause-turn
 returns-clause-turn g c t turn r e =
     let is_turn = (laws_of t.world.kind).turn t turn refl e r in

@@ -78,7 +78,7 @@ module _ {T : Type 0} (c : ℕ) (events : List (Event T)) (spans : Each (StandsR
     RightAct e p b = Tells (number b) e × Acts kinds.Bits b (number b) (number_after b (number b) e) (way p b)
 
     spread : (e : Event T) (q k p b : ℕ) → RightAct e q k → (q == p && k == b) ≡ true → RightAct e p b
-    spread e q k p b right_act q_true = grind (arith, both_true, is_number)
+    spread e q k p b right_act is_it = grind (arith, both_true, is_number)
 
     set_acts : (k : ℕ) (q : ℕ) (span : Span T) (w : Way') → Stands bits_promise c (event.Set q k) span
         → WayFits Fit k span w → Acts kinds.Bits k (number k) 1 w
@@ -128,9 +128,7 @@ module _ {T : Type 0} (c : ℕ) (events : List (Event T)) (spans : Each (StandsR
         sets_within part rest cut b =
             let first : sets b events ≡ sets b (h ++ Finished q s a ∷ after) = ap (sets b) is in
             let second : sets b h ≡ sets b (part ++ rest) = ap (sets b) cut in
-            let one = sets_more b h (Finished q s a ∷ after) in
-            let two = sets_more b part rest in
-            omega arith
+            omega (arith, sets_more b h (Finished q s a ∷ after), sets_more b part rest)
 
         -- a place that the call left silently, where it was clear
         clear_there : (b : ℕ) (part rest : List (Event T)) → h ≡ part ++ rest → BeginsNone q rest
@@ -193,10 +191,8 @@ module _ {T : Type 0} (c : ℕ) (events : List (Event T)) (spans : Each (StandsR
               -- a set that answers false does not act on a place past the capacity
               past : c ≤ k → ⊥
               past le =
-                  let none = within k le in
-                  let up = sets_within q (set_call k) (Truth false) is once.part once.rest once.is k in
                   let stood : sets k once.part - clears k once.part ≡ 1 = once.held in
-                  omega arith
+                  omega (arith, within k le, sets_within q (set_call k) (Truth false) is once.part once.rest once.is k)
 
       end_next : (q k : ℕ) → events ≡ h ++ Finished q (Bits ResetNext) (Reset k) ∷ after → M (h ++ Finished q (Bits ResetNext) (Reset k) ∷ [])
       end_next q k is =
@@ -282,16 +278,18 @@ module _ {T : Type 0} (c : ℕ) (events : List (Event T)) (spans : Each (StandsR
                       let both = (was b).0 in
                       let low = (was b).1 in
                       let out = cleared_in b since.since (since.holds b lt (omega arith)) in
-                      let to : List (Event T) = since.before ++ Begun q since.start ∷ out.first in
-                      clear_there q all_call Done is b (to ++ Cleared out.by b ∷ []) out.second
+                      let events_then : List (Event T) = since.before ++ Begun q since.start ∷ out.first in
+                      clear_there q all_call Done is b (events_then ++ Cleared out.by b ∷ []) out.second
                       (since.is
                       ∙ (ap (λ xs. since.before ++ Begun q since.start ∷ xs) out.is
                       ∙ (sym (append_assoc since.before (Begun q since.start ∷ out.first) (Cleared out.by b ∷ out.second))
-                      ∙ sym (append_assoc to (Cleared out.by b ∷ []) out.second))))
+                      ∙ sym (append_assoc events_then (Cleared out.by b ∷ []) out.second))))
                       (begins_none_later q (Cleared out.by b ∷ []) out.second
                       (begins_none_later q out.first (Cleared out.by b ∷ out.second) (subst (BeginsNone q) out.is since.within)))
                       under tt refl
-                      (number_more b 0 to (Cleared out.by b ∷ []) ∙ ap (λ z. cond z 0 (number_in b 0 to)) (same_number b)) (refl, λ sure lt. tt)
+                      (number_more b 0 events_then (Cleared out.by b ∷ [])
+                      ∙ ap (λ z. cond z 0 (number_in b 0 events_then)) (same_number b))
+                      (refl, λ sure lt. tt)
 
       end_look : (q k : ℕ) (answer : Bool) → events ≡ h ++ Finished q (Bits (IsSet k)) (Truth answer) ∷ after
           → M (h ++ Finished q (Bits (IsSet k)) (Truth answer) ∷ [])
@@ -311,13 +309,13 @@ module _ {T : Type 0} (c : ℕ) (events : List (Event T)) (spans : Each (StandsR
               fits.is ∙ ap (λ d. Some (look_call k, d)) (fits.fit.0 (ap (clears b) opened.holds))
 
           number_is : number_in k 0 h ≡ one_if answer
-          number_is = let both = (numbered k).0 in let low = (numbered k).1 in let right = seen.1 in omega arith
+          number_is = omega (arith, (numbered k).0, (numbered k).1, seen.1)
 
           elsewhere : (b : ℕ) → (k ≡ b → ⊥) → Ends c (Sure b) b (look_call k) (Truth answer) (way q b)
           elsewhere b ne = subst (λ w. Ends c (Sure b) b (look_call k) (Truth answer) w) (sym (under b)) (refl, λ same. absurd (ne same))
 
           past : (b : ℕ) → k ≡ b → c ≤ b → ⊥
-          past b same le = let low = seen.0 in absurd (omega arith)
+          past b same le = absurd (omega (arith, seen.0))
 
           facts : (b : ℕ) → b < c → Fact kinds.Bits c Sure h q (look_call k) (Truth answer) b
           facts b lt =

@@ -50,8 +50,7 @@ module _ {T : Type 0} where
   cleared_in b [] some = absurd (omega arith)
   cleared_in b (Cleared p x ∷ es) some = go (x == b) refl (λ more. cleared_in b es more)
     where
-      -- whether the first event clears this place or another, the place was cleared somewhere in
-      -- the list
+      -- whether the first event clears this place or another, the place was cleared somewhere in the list
       go : (t : Bool) → (x == b) ≡ t → (1 ≤ clears b es → ClearedIn b es) → ClearedIn b (Cleared p x ∷ es)
       go true t rest = record { by = p; first = []; second = es; is = ap (λ z. Cleared p z ∷ es) (is_number x b t) }
       go false t rest = grind (arith, clears_more, clears, cleared_later)
@@ -74,7 +73,7 @@ module _ {T : Type 0} where
   numbers_stay h e b none nor still was =
       let s = sets_more b h (e ∷ []) in
       let c = clears_more b h (e ∷ []) in
-      let n : number_in b 0 (h ++ e ∷ []) ≡ number_in b 0 h = number_more b 0 h (e ∷ []) ∙ still in
+      let number_is : number_in b 0 (h ++ e ∷ []) ≡ number_in b 0 h = number_more b 0 h (e ∷ []) ∙ still in
       let first = was.0 in
       let low = was.1 in
       (omega arith, omega arith)
@@ -92,7 +91,7 @@ module _ {T : Type 0} where
           let none : clears {T = T} b (event.Set p k ∷ []) ≡ 0 = refl in
           let s = sets_more b h (event.Set p k ∷ []) in
           let c = clears_more b h (event.Set p k ∷ []) in
-          let n : number_in b 0 (h ++ event.Set p k ∷ []) ≡ 1 =
+          let number_is : number_in b 0 (h ++ event.Set p k ∷ []) ≡ 1 =
           number_more b 0 h (event.Set p k ∷ []) ∙ ap (λ z. cond z 1 (number_in b 0 h)) t in
           let found : sets b h ≡ clears b h = subst (λ z. sets z h ≡ clears z h) (is_number k b t) finds in
           (omega arith, omega arith)
@@ -108,7 +107,7 @@ module _ {T : Type 0} where
           let none : sets {T = T} b (Cleared p k ∷ []) ≡ 0 = refl in
           let s = sets_more b h (Cleared p k ∷ []) in
           let c = clears_more b h (Cleared p k ∷ []) in
-          let n : number_in b 0 (h ++ Cleared p k ∷ []) ≡ 0 = number_more b 0 h (Cleared p k ∷ []) ∙ ap (λ z. cond z 0 (number_in b 0 h)) t in
+          let number_is : number_in b 0 (h ++ Cleared p k ∷ []) ≡ 0 = number_more b 0 h (Cleared p k ∷ []) ∙ ap (λ z. cond z 0 (number_in b 0 h)) t in
           let found : sets b h ≡ clears b h + 1 = subst (λ z. sets z h ≡ clears z h + 1) (is_number k b t) finds in
           (omega arith, omega arith)
       go false t = grind (arith, numbers_stay, cond, number_in)
@@ -147,7 +146,7 @@ module _ {T : Type 0} where
   set_fits : (q k b n : ℕ) (span : Span T) (way : Way T) → Stands bits_promise 0 (event.Set q k) span
       → (k ≡ b → n ≡ 0) → WayFits Fit b span way
       → WayFits Fit b (own_after span (event.Set q k)) (cond (k == b) (found_now n way) way)
-  set_fits q k b n span way stands n_is_zero way_fits = grind arith
+  set_fits q k b n span way stands zero_there way_fits = grind arith
 
   -- a call that clears this place has found 1 there
   fit_cleared : (start : Start T) (q k b : ℕ) (wrote : List (Event T)) → MayClear k start wrote → (k == b) ≡ true
@@ -203,8 +202,8 @@ module _ {T : Type 0} where
   -- each act of a history finds at its place the number that stands there
   pub at_place : (h : List (Event T)) (e : Event T) → BitFinds h e → Numbers h → (b : ℕ) → AtPlace b (number_in b 0 h) e
   at_place h (event.Set q k) finds numbers b =
-      λ same. (let is = (numbers b).0 in let found : sets b h ≡ clears b h = subst (λ z. sets z h ≡ clears z h) same finds in omega arith)
+      λ same. (let found : sets b h ≡ clears b h = subst (λ z. sets z h ≡ clears z h) same finds in omega (arith, (numbers b).0))
   at_place h (Cleared q k) finds numbers b =
       λ same.
-      (let is = (numbers b).0 in let found : sets b h ≡ clears b h + 1 = subst (λ z. sets z h ≡ clears z h + 1) same finds in omega arith)
+      (let found : sets b h ≡ clears b h + 1 = subst (λ z. sets z h ≡ clears z h + 1) same finds in omega (arith, (numbers b).0))
   at_place h e finds numbers b = tt

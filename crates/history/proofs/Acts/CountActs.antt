@@ -48,8 +48,7 @@ module _ {T : Type 0} where
   taken_in b [] some = absurd (omega arith)
   taken_in b (TakenOut p x m ∷ es) some = go (x == b) refl (λ more. taken_in b es more)
     where
-      -- whether the first event takes out of this place or of another, the place lost something
-      -- somewhere in the list
+      -- whether the first event takes out of this place or of another, the place lost something somewhere in the list
       go : (t : Bool) → (x == b) ≡ t → (1 ≤ takes b es → TakenIn b es) → TakenIn b (TakenOut p x m ∷ es)
       go true t rest = record { by = p; number = m; first = []; second = es; is = ap (λ z. TakenOut p z m ∷ es) (is_number x b t) }
       go false t rest = grind (arith, takes_more, takes, taken_later)
@@ -76,7 +75,7 @@ module _ {T : Type 0} where
   numbers_stay h e b none nor still was =
       let c = counts_more b h (e ∷ []) in
       let t = takes_more b h (e ∷ []) in
-      let n : number_in b 0 (h ++ e ∷ []) ≡ number_in b 0 h = number_more b 0 h (e ∷ []) ∙ still in
+      let number_is : number_in b 0 (h ++ e ∷ []) ≡ number_in b 0 h = number_more b 0 h (e ∷ []) ∙ still in
       let whole = was.whole in
       let low = was.low in
       record { wraps = was.wraps; whole = omega arith; low = omega arith }
@@ -91,7 +90,7 @@ module _ {T : Type 0} where
           let none : takes {T = T} b (Counted p k ∷ []) ≡ 0 = refl in
           let c = counts_more b h (Counted p k ∷ []) in
           let k' = takes_more b h (Counted p k ∷ []) in
-          let n : number_in b 0 (h ++ Counted p k ∷ []) ≡ (number_in b 0 h + 1) % 2 ^ 64 =
+          let number_is : number_in b 0 (h ++ Counted p k ∷ []) ≡ (number_in b 0 h + 1) % 2 ^ 64 =
           number_more b 0 h (Counted p k ∷ []) ∙ ap (λ z. cond z ((number_in b 0 h + 1) % 2 ^ 64) (number_in b 0 h)) t in
           let whole = (was b).whole in
           let low = (was b).low in
@@ -111,7 +110,7 @@ module _ {T : Type 0} where
           let none : counts {T = T} b (TakenOut p k m ∷ []) ≡ 0 = refl in
           let c = counts_more b h (TakenOut p k m ∷ []) in
           let k' = takes_more b h (TakenOut p k m ∷ []) in
-          let n : number_in b 0 (h ++ TakenOut p k m ∷ []) ≡ 0 = number_more b 0 h (TakenOut p k m ∷ []) ∙ ap (λ z. cond z 0 (number_in b 0 h)) t in
+          let number_is : number_in b 0 (h ++ TakenOut p k m ∷ []) ≡ 0 = number_more b 0 h (TakenOut p k m ∷ []) ∙ ap (λ z. cond z 0 (number_in b 0 h)) t in
           let all : counts b h ≡ takes b h + m + 2 ^ 64 * finds.0 = subst (λ z. counts z h ≡ takes z h + m + 2 ^ 64 * finds.0) (is_number k b t) finds.1 in
           record { wraps = finds.0; whole = omega arith; low = omega arith }
       go false t = grind (arith, numbers_stay, cond, number_in, was)
@@ -238,7 +237,7 @@ module _ {T : Type 0} (c : ℕ) (events : List (Event T)) (spans : Each (StandsR
     RightAct e p b = Tells (number b) e × Acts kinds.Counts b (number b) (number_after b (number b) e) (way p b)
 
     spread : (e : Event T) (q k p b : ℕ) → RightAct e q k → (q == p && k == b) ≡ true → RightAct e p b
-    spread e q k p b right_act q_true = grind (arith, both_true, is_number)
+    spread e q k p b right_act is_it = grind (arith, both_true, is_number)
 
     count_acts : (k : ℕ) (q : ℕ) (span : Span T) (w : Way') → Stands counts_promise c (Counted q k) span
         → WayFits Fit k span w → Acts kinds.Counts k (number k) ((number k + 1) % 2 ^ 64) w
@@ -302,15 +301,14 @@ module _ {T : Type 0} (c : ℕ) (events : List (Event T)) (spans : Each (StandsR
           counted : way q k ≡ found_now (number_in k 0 answer.before) (way_in q k 0 None answer.before)
           counted = grind (arith, way_in, way_more, cond, found_now, number_in, both)
 
-          -- the set has found what it answers at its place, and of another place nothing has to be
-          -- known
+          -- the set has found what it answers at its place, and of another place nothing has to be known
           done : (b : ℕ) → Ends c (Sure b) b (set_call k) (Number n) (way q b)
           done b =
               let fits = here q b (set_call k) opened.wrote opened.is in
               ⊎_elim (λ same. subst (λ z. Ends c (Sure z) z (set_call k) (Number n) (way q z)) same mine)
               (λ ne. subst (λ w. Ends c (Sure b) b (set_call k) (Number n) w) (sym fits.is) (refl, λ same. absurd (ne same))) (cases_eq k b)
             where
-              -- of its own place the set has found the count that it answers
+              -- at its own place the set has found the count that it answers
               mine : Ends c (Sure k) k (set_call k) (Number n) (way q k)
               mine =
                   let fits = here q k (set_call k) opened.wrote opened.is in
@@ -341,7 +339,7 @@ module _ {T : Type 0} (c : ℕ) (events : List (Event T)) (spans : Each (StandsR
           elsewhere b ne = subst (λ w. Ends c (Sure b) b (look_call k) (Number n) w) (sym (under b)) (refl, λ same. absurd (ne same))
 
           past : (b : ℕ) → k ≡ b → c ≤ b → ⊥
-          past b same le = let low = seen.0 in absurd (omega arith)
+          past b same le = absurd (omega (arith, seen.0))
 
           facts : (b : ℕ) → b < c → Fact kinds.Counts c Sure h q (look_call k) (Number n) b
           facts b lt =
@@ -411,18 +409,18 @@ module _ {T : Type 0} (c : ℕ) (events : List (Event T)) (spans : Each (StandsR
                       lost : 1 ≤ takes b since.since → Fact kinds.Counts c Sure h q all_call Done b
                       lost some =
                           let out = taken_in b since.since some in
-                          let to : List (Event T) = since.before ++ Begun q since.start ∷ out.first in
-                          clear_there q b (to ++ TakenOut out.by b out.number ∷ []) out.second
+                          let events_then : List (Event T) = since.before ++ Begun q since.start ∷ out.first in
+                          clear_there q b (events_then ++ TakenOut out.by b out.number ∷ []) out.second
                           (since.is
                           ∙ (ap (λ xs. since.before ++ Begun q since.start ∷ xs) out.is
                           ∙ (sym (append_assoc since.before (Begun q since.start ∷ out.first) (TakenOut out.by b out.number ∷ out.second))
-                          ∙ sym (append_assoc to (TakenOut out.by b out.number ∷ []) out.second))))
+                          ∙ sym (append_assoc events_then (TakenOut out.by b out.number ∷ []) out.second))))
                           (begins_none_later q (TakenOut out.by b out.number ∷ []) out.second
                           (begins_none_later q out.first (TakenOut out.by b out.number ∷ out.second) (subst (BeginsNone q) out.is since.within)))
                           under
-                          (number_more b 0 to (TakenOut out.by b out.number ∷ []) ∙ ap (λ z. cond z 0 (number_in b 0 to)) (same_number b))
+                          (number_more b 0 events_then (TakenOut out.by b out.number ∷ []) ∙ ap (λ z. cond z 0 (number_in b 0 events_then)) (same_number b))
 
-                      -- of a place that was counted 2^64 times nothing has to be known
+                      -- nothing has to be known of a place that was counted 2^64 times
                       far : 2 ^ 64 ≤ counts b since.before + counts b since.since → Fact kinds.Counts c Sure h q all_call Done b
                       far many =
                           let one = counts_more b since.before (Begun q since.start ∷ (since.since ++ Finished q all_call Done ∷ after)) in

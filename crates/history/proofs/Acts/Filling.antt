@@ -14,8 +14,7 @@ module _ {T : Type 0} (kind : Kind) (capacity : ℕ) (Sure : ℕ → Type 0) whe
   abbrev IsGood : ℕ → ℕ → List (Mark T) → Type 0
   IsGood p b ms = Right kind capacity Sure p b 0 None ms
 
-  -- marks that tell the history, right for each party and place, and with each way as it is in the
-  -- history
+  -- marks that tell the history, right for each party and place, and with each way as it is in the history
   pub record Marked (h : List (Event T)) : Type 0 where
     pub marks : List (Mark T)
     pub is : told marks ≡ h

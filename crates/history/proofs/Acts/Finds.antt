@@ -78,15 +78,15 @@ module _ {T : Type 0} where
         let c1 = clears_more b before es in
         let c2 = clears_more b xs (events.Set p b ∷ ys) in
         let c4 = clears_more b before xs in
-        let se : sets b es ≡ sets b (xs ++ events.Set p b ∷ ys) = ap (sets b) is in
-        let ce : clears b es ≡ clears b (xs ++ events.Set p b ∷ ys) = ap (clears b) is in
+        let sets_are : sets b es ≡ sets b (xs ++ events.Set p b ∷ ys) = ap (sets b) is in
+        let clears_are : clears b es ≡ clears b (xs ++ events.Set p b ∷ ys) = ap (clears b) is in
         let was = h b in
         let now = h' b in
         let top = low b in
         let most = few b in
         ⊎_elim
-        (λ (none : (b : ℕ) → sets b es ≡ 0). (let zero = none b in absurd (omega arith)))
-        (λ (none : (b : ℕ) → clears b es ≡ 0). (let zero = none b in omega arith))
+        (λ (none : (b : ℕ) → sets b es ≡ 0). (absurd (omega (arith, none b))))
+        (λ (none : (b : ℕ) → clears b es ≡ 0). (omega (arith, none b)))
         sided
 
     -- where a turn clears a place and sets none, the place stood just before
@@ -100,15 +100,15 @@ module _ {T : Type 0} where
         let c2 = clears_more b xs (Cleared p b ∷ ys) in
         let c3 = clears_more b (Cleared p b ∷ []) ys in
         let c4 = clears_more b before xs in
-        let se : sets b es ≡ sets b (xs ++ Cleared p b ∷ ys) = ap (sets b) is in
-        let ce : clears b es ≡ clears b (xs ++ Cleared p b ∷ ys) = ap (clears b) is in
+        let sets_are : sets b es ≡ sets b (xs ++ Cleared p b ∷ ys) = ap (sets b) is in
+        let clears_are : clears b es ≡ clears b (xs ++ Cleared p b ∷ ys) = ap (clears b) is in
         let was = h b in
         let now = h' b in
         let top = low b in
         let most = few b in
         ⊎_elim
-        (λ (none : (b : ℕ) → sets b es ≡ 0). (let zero = none b in omega arith))
-        (λ (none : (b : ℕ) → clears b es ≡ 0). (let zero = none b in absurd (omega arith)))
+        (λ (none : (b : ℕ) → sets b es ≡ 0). (omega (arith, none b)))
+        (λ (none : (b : ℕ) → clears b es ≡ 0). (absurd (omega (arith, none b))))
         sided
 
     finds_there : OneSided es → (xs ys : List (Event T)) (e : Event T) → es ≡ xs ++ e ∷ ys → BitFinds (before ++ xs) e
@@ -128,12 +128,12 @@ module _ {T : Type 0} where
 
   -- the end of a call sets and clears nothing
   sided_more : (p : ℕ) (start : Start T) (o : Option (Answer T)) (es : List (Event T)) → OneSided es → OneSided (es ++ ending_of p start o)
-  sided_more p start None es h = subst OneSided (sym (append-nil es)) h
-  sided_more p start (Some answer) es h =
+  sided_more p start None es one_sided = subst OneSided (sym (append-nil es)) one_sided
+  sided_more p start (Some answer) es one_sided =
       ⊎_elim
       (λ (none : (b : ℕ) → sets b es ≡ 0). inl (λ b. (let zero = none b in let more = sets_more b es (Finished p start answer ∷ []) in more ∙ omega arith)))
       (λ (none : (b : ℕ) → clears b es ≡ 0). inr (λ b. (let zero = none b in let more = clears_more b es (Finished p start answer ∷ []) in more ∙ omega arith)))
-      h
+      one_sided
 
   abbrev wrote_there : Trace T → ℕ → ℕ → Start T → Flight T → Registry T → List (Event T)
   wrote_there t p old start flight kept =
@@ -160,12 +160,12 @@ module _ {T : Type 0} where
     -- what the machine writes with an answer sets no place, or clears none
     bits_go : (p old : ℕ) (o : Option (Party T)) → party_of p t.world.latest ≡ o → (x : Party T) → o ≡ Some x
         → (doing : Doing T) → x.doing ≡ doing → OneSided (events_of_answer t.world p x old doing)
-    bits_go p old o is x found (Over others) d = inl (λ b. refl)
-    bits_go p old o is x found (Going flight since) d =
-        let s = bits_sound in
-        let there = stands_there (family bits.bit_set t.world.coding t.world.capacity) t s p x since flight (is ∙ found) d in
+    bits_go p old o is x found (Over others) same_doing = inl (λ b. refl)
+    bits_go p old o is x found (Going flight since) same_doing =
+        let is_sound = bits_sound in
+        let there = stands_there (family bits.bit_set t.world.coding t.world.capacity) t is_sound p x since flight (is ∙ found) same_doing in
         sided_more p x.start (answer_in (step_in t.world p x flight old).after) (step_in t.world p x flight old).wrote
-        (step_sided t t.world.capacity p old (wrote_in (span_of p s.state.events)) t.world.kept x.start flight s.fit.kept there.at)
+        (step_sided t t.world.capacity p old (wrote_in (span_of p is_sound.state.events)) t.world.kept x.start flight is_sound.fit.kept there.at)
 
     next_one : (p : ℕ) (o : Option (Party T)) → party_of p t.world.latest ≡ o → OneSided (events_of_next t.world p o)
     next_one p None e = inl (λ b. refl)
@@ -201,18 +201,17 @@ module _ {T : Type 0} where
 
   -- in each run of a bit set each act found what it should
   pub bits_find : (t : Trace T) → t.world.kind ≡ kinds.Bits → IsReachedOn t → Each BitFinds t.events
-  bits_find t is r =
+  bits_find t is reached_on =
       (kept_by_runs_on BitsSo (λ t turn e so. bits_turn t so turn e) t
       (record {
-        reached = reached_on_opening t.world.coding t.world.kind t.world.capacity t.world.parties r.coded r.admitted;
+        reached = reached_on_opening t.world.coding t.world.kind t.world.capacity t.world.parties reached_on.coded reached_on.admitted;
         kind = is;
         finds = Each-nil BitFinds;
-      }) r).finds
+      }) reached_on).finds
 
   -- ---- counts
 
-  -- what is taken out of a place is all that was counted there and not yet taken out, modulo 2^64,
-  -- and above 0
+  -- what is taken out of a place is all that was counted there and not yet taken out, modulo 2^64, and above 0
   abbrev pub CountFinds : List (Event T) → Event T → Type 0
   CountFinds before (TakenOut p b m) = (wraps : ℕ) × (counts b before ≡ takes b before + m + 2 ^ 64 * wraps) × (1 ≤ m) × (m < 2 ^ 64)
   CountFinds before e = Unit {0}
@@ -238,11 +237,11 @@ module _ {T : Type 0} where
     take_right p word old start o is =
         by_bool (old == 0)
         (λ z. rw z (ends_right t.events p start o))
-        (λ z. let s = counts_sound in
+        (λ z. let is_sound = counts_sound in
         let some : 1 ≤ old = grind (arith, nat_tests) in
-        let same : old ≡ get_or s.state.words word 0 = is some ∙ ap (λ ws. get_or ws word 0) s.fit.words in
-        let low : get_or s.state.words word 0 < 2 ^ 64 = s.holds.0.low word in
-        let whole = s.holds.0.conserved word in
+        let same : old ≡ get_or is_sound.state.words word 0 = is some ∙ ap (λ ws. get_or ws word 0) is_sound.fit.words in
+        let low : get_or is_sound.state.words word 0 < 2 ^ 64 = is_sound.holds.0.low word in
+        let whole = is_sound.holds.0.conserved word in
         let all : counts word t.events ≡ takes word t.events + old + 2 ^ 64 * whole.0 = rw same whole.1 in
         let less : old < 2 ^ 64 = rw same low in
         rw z ((whole.0, all, some, less), ends_right (t.events ++ TakenOut p word old ∷ []) p start o))
@@ -264,12 +263,12 @@ module _ {T : Type 0} where
     counts_go : (p old : ℕ) (x : Party T) → party_of p t.world.latest ≡ Some x → (doing : Doing T) → x.doing ≡ doing
         → ((flight : Flight T) (since : ℕ) → doing ≡ Going flight since → Hears flight old)
         → AreRight CountFinds t.events (events_of_answer t.world p x old doing)
-    counts_go p old x found (Over others) d hears = tt
-    counts_go p old x found (Going flight since) d hears =
-        let s = counts_sound in
-        let there = stands_there (family counting.counting_set t.world.coding t.world.capacity) t s p x since flight found d in
-        count_step t.world.capacity p old (wrote_in (span_of p s.state.events)) t.world.kept x.start flight
-        (answer_in (step_in t.world p x flight old).after) s.fit.kept there.at (hears flight since refl)
+    counts_go p old x found (Over others) same_doing hears = tt
+    counts_go p old x found (Going flight since) same_doing hears =
+        let is_sound = counts_sound in
+        let there = stands_there (family counting.counting_set t.world.coding t.world.capacity) t is_sound p x since flight found same_doing in
+        count_step t.world.capacity p old (wrote_in (span_of p is_sound.state.events)) t.world.kept x.start flight
+        (answer_in (step_in t.world p x flight old).after) is_sound.fit.kept there.at (hears flight since refl)
 
     next_counts : (p : ℕ) (o : Option (Party T)) → party_of p t.world.latest ≡ o → AreRight CountFinds t.events (events_of_next t.world p o)
     next_counts = grind (arith, counts_go, hears_next)
@@ -304,10 +303,10 @@ module _ {T : Type 0} where
 
   -- in each run of a counting bit set each take-out took all
   pub counts_find : (t : Trace T) → t.world.kind ≡ kinds.Counts → IsReachedOn t → Each CountFinds t.events
-  counts_find t is r =
+  counts_find t is reached_on =
       (kept_by_runs_on CountsSo (λ t turn e so. counts_turn t so turn e) t
       (record {
-        reached = reached_on_opening t.world.coding t.world.kind t.world.capacity t.world.parties r.coded r.admitted;
+        reached = reached_on_opening t.world.coding t.world.kind t.world.capacity t.world.parties reached_on.coded reached_on.admitted;
         kind = is;
         finds = Each-nil CountFinds;
-      }) r).finds
+      }) reached_on).finds

@@ -18,8 +18,10 @@ module _ {T : Type 0} where
   goes_on u turn e is set = grind (arith, reached_on_more, passes, turn_making)
 
   pub reached_is_on : (t : Trace T) → IsReached t → IsSet t.world.kind → IsReachedOn t
-  reached_is_on t r set =
-      kept_by_runs IsRun goes_on t (λ queue queued. at_opening t.world.coding t.world.kind t.world.capacity queue t.world.parties r.coded r.admitted) r set
+  reached_is_on t reached set =
+      kept_by_runs IsRun goes_on t
+      (λ queue queued. at_opening t.world.coding t.world.kind t.world.capacity queue t.world.parties reached.coded reached.admitted)
+      reached set
 
   pub machines_act : (t : Trace T) → IsReached t → IsSet t.world.kind → ActsByPlace t.world.kind t.world.capacity t.events
-  machines_act t r set = runs_act t (reached_is_on t r set) set
+  machines_act t reached set = runs_act t (reached_is_on t reached set) set

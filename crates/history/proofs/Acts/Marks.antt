@@ -109,11 +109,14 @@ module _ {T : Type 0} (kind : Kind) (capacity : ℕ) (Sure : ℕ → Type 0) whe
   abbrev pub Right : ℕ → ℕ → ℕ → Way T → List (Mark T) → Type 0
   Right p b n way ms = IsRight kind capacity (Sure b) p b n way ms
 
+  -- marks that are right, and more that are right after them, are right together
   pub right_more : (p b n : ℕ) (way : Way T) (ms ns : List (Mark T)) → Right p b n way ms
       → Right p b (number_at b n ms) (way_at p b n way ms) ns → Right p b n way (ms ++ ns)
-  right_more p b n way [] ns h k = k
-  right_more p b n way (Happens e ∷ ms) ns h k = (h.0, right_more p b (number_after b n e) (way_after p b n way e) ms ns h.1 k)
-  right_more p b n way (Leaves q c ∷ ms) ns h k = (h.0, right_more p b n (cond (q == p && c == b) (found_now n way) way) ms ns h.1 k)
+  right_more p b n way [] ns first_right second_right = second_right
+  right_more p b n way (Happens e ∷ ms) ns first_right second_right =
+      (first_right.0, right_more p b (number_after b n e) (way_after p b n way e) ms ns first_right.1 second_right)
+  right_more p b n way (Leaves q c ∷ ms) ns first_right second_right =
+      (first_right.0, right_more p b n (cond (q == p && c == b) (found_now n way) way) ms ns first_right.1 second_right)
 
   right_first : (p b n : ℕ) (way : Way T) (ms ns : List (Mark T)) → Right p b n way (ms ++ ns) → Right p b n way ms
   right_first p b n way [] ns h = tt
@@ -172,19 +175,19 @@ module _ {T : Type 0} (kind : Kind) (capacity : ℕ) (Sure : ℕ → Type 0) whe
     quiet n way (Leaves q c ∷ ms) e none =
         let more = quiet n (cond (q == p && c == b) (found_now n way) way) ms e none in
         let test = by_test (q == p && c == b) n way more.was in
-        let t : (q == p && c == b) ≡ false = test.0 in
+        let tests_apart : (q == p && c == b) ≡ false = test.0 in
         record {
           was = test.1;
           right = λ other. ((λ yes. absurd (cc)), more.right (cond (q == p && c == b) (found_now n other) other));
-          stays = λ other. more.stays (cond (q == p && c == b) (found_now n other) other) ∙ ap (λ z. cond z (found_now n other) other) t;
+          stays = λ other. more.stays (cond (q == p && c == b) (found_now n other) other) ∙ ap (λ z. cond z (found_now n other) other) tests_apart;
         }
     quiet n way (Happens (Begun q s) ∷ ms) e none =
-        let t : (q == p) ≡ false = other_number q p none.0 in
+        let tests_apart : (q == p) ≡ false = other_number q p none.0 in
         let more = quiet n (cond (q == p) (Some (s, None)) way) ms e none.1 in
         record {
-          was = sym (ap (λ z. cond z (Some (s, None)) way) t) ∙ more.was;
+          was = sym (ap (λ z. cond z (Some (s, None)) way) tests_apart) ∙ more.was;
           right = λ other. ((λ same. absurd (none.0 same)), more.right (cond (q == p) (Some (s, None)) other));
-          stays = λ other. more.stays (cond (q == p) (Some (s, None)) other) ∙ ap (λ z. cond z (Some (s, None)) other) t;
+          stays = λ other. more.stays (cond (q == p) (Some (s, None)) other) ∙ ap (λ z. cond z (Some (s, None)) other) tests_apart;
         }
     quiet n way (Happens (Finished q s a) ∷ ms) e none = go (q == p) refl (quiet n (cond (q == p) None way) ms e none)
       where

@@ -46,8 +46,7 @@ module _ {T : Type 0} where
       → call_at m p start (response_in p ys (m + 1)) ≡ call_at n p start (response_in p ys (n + 1))
   same_place p start ys m n e = ap (λ z. call_at z p start (response_in p ys (z + 1))) e
 
-  -- a call that begins there stands among the calls of the history, at its place and with its
-  -- response
+  -- a call that begins there stands among the calls of the history, at its place and with its response
   call_there : (p : ℕ) (start : Start T) (xs ys : List (Event T)) (k n : ℕ) → n ≡ k + length xs
       → Contains (calls_from (xs ++ Begun p start ∷ ys) k) (call_at n p start (response_in p ys (n + 1)))
   call_there p start [] ys k n e = grind (arith, here, calls_from, same_place)
@@ -103,7 +102,7 @@ module _ {T : Type 0} where
           named = refl;
           ends = at + 1 + length called.during;
           answered = response_there p start answer called.during rest (at + 1) (at + 1 + length called.during) no_ends refl;
-          after = (let l = length-append old.seen called.others in omega arith);
+          after = omega (arith, length-append old.seen called.others);
           before = seen_by;
         }
       where
@@ -111,9 +110,7 @@ module _ {T : Type 0} where
         seen_by : at + 1 + length called.during < length new.seen
         seen_by =
             let all : length new.seen ≡ length (before ++ Begun p start ∷ (called.during ++ end ∷ [])) = ap length called.is in
-            let one = length-append before (Begun p start ∷ (called.during ++ end ∷ [])) in
-            let two = length-append called.during (end ∷ []) in
-            omega arith
+            omega (arith, length-append before (Begun p start ∷ (called.during ++ end ∷ [])), length-append called.during (end ∷ []))
 
   -- a call that ended in what a pass had seen as it made the next one stands before that
   pub in_order : (p q : ℕ) (s t : Start T) (a b : Answer T) (old new later last : View T) (history : List (Event T))

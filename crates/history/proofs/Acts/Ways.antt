@@ -26,9 +26,9 @@ module _ {T : Type 0} where
 
   -- where no call of the party begins in a list, none begins in its end
   pub begins_none_later : (p : ℕ) (xs ys : List (Event T)) → BeginsNone p (xs ++ ys) → BeginsNone p ys
-  begins_none_later p [] ys h = h
-  begins_none_later p (Begun q start ∷ xs) ys h = begins_none_later p xs ys h.1
-  begins_none_later p (x ∷ xs) ys h = begins_none_later p xs ys h
+  begins_none_later p [] ys begins_none = begins_none
+  begins_none_later p (Begun q start ∷ xs) ys begins_none = begins_none_later p xs ys begins_none.1
+  begins_none_later p (x ∷ xs) ys begins_none = begins_none_later p xs ys begins_none
 
   -- a span that is open for a call
   pub record OpenFor (start : Start T) (P : List (Event T) → Type 0) (span : Span T) : Type 0 where
@@ -42,8 +42,7 @@ module _ {T : Type 0} where
   -- ---- ways
 
   module _ (Fit : Start T → ℕ → List (Event T) → Option ℕ → Type 0) where
-    -- the way is that of a call which has begun so, and has found at the place what fits what it
-    -- has written
+    -- the way is that of a call which has begun so, and has found at the place what fits what it has written
     pub record Fits (start : Start T) (b : ℕ) (wrote : List (Event T)) (way : Way T) : Type 0 where
       pub found : Option ℕ
       pub is : way ≡ Some (start, found)

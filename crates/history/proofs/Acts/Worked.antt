@@ -55,7 +55,7 @@ place_forgotten h = (h.1.0 refl).1 tt (omega arith)
 standing_is_left : of_party_0 kinds.Bits 1 (Happens (told.Set 1 1) ∷ Happens (Begun 0 (Bits ResetAll)) ∷ Leaves 0 1 ∷ []) → ⊥
 standing_is_left h = let e = (h.1.1.0 refl).1 in cc
 
--- and none is acted on twice
+-- no place is acted on twice by one call
 acted_twice : of_party_0 kinds.Bits 1 (Happens (Begun 0 (Bits ResetNext)) ∷ Leaves 0 1 ∷ Leaves 0 1 ∷ []) → ⊥
 acted_twice h = h.1.1.0 refl
 

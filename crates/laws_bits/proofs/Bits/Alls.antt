@@ -84,17 +84,16 @@ module _ {T : Type 0} (code : Coding T) (c : ℕ) (scene : SetScene T) (holds : 
             let none = clears_there b other in
             omega arith
 
-    -- with the end of the call or without
+    -- each bit is set and cleared so often, with the end of the call or without
     moved : (ends : List (Event T)) → ((b : ℕ) → sets b ends ≡ 0) → ((b : ℕ) → clears b ends ≡ 0) → (b : ℕ)
         → sets b (fx ++ ends) + one_if (stands s.words b) ≡ clears b (fx ++ ends) + one_if (stands then b)
     moved ends no_sets no_clears b =
-        let by = moved_by b in
         let s_more = sets_more b fx ends in
         let c_more = clears_more b fx ends in
         let s_none = sets_none T p b places in
         let s_ends = no_sets b in
         let c_ends = no_clears b in
-        omega arith
+        omega (arith, moved_by b)
 
     -- ---- what has been cleared since the call began
 
@@ -117,7 +116,7 @@ module _ {T : Type 0} (code : Coding T) (c : ℕ) (scene : SetScene T) (holds : 
     cleared_more : SinceBegin p (ClearedBelow (word + 1)) (events ++ fx)
     cleared_more = since_more p (ClearedBelow word) (ClearedBelow (word + 1)) events fx (begin_none T p places) cleared cleared_next
 
-  -- at the end all are behind
+  -- at the end of the words all places are behind the reset
   all_behind : (events' : List (Event T)) (end : ℕ) → 1 + elements c ≤ end → SinceBegin p (ClearedBelow end) events' → SinceBegin p (HasCleared c) events'
   all_behind events' end last h =
       record {
@@ -236,6 +235,7 @@ module _ {T : Type 0} (code : Coding T) (c : ℕ) (scene : SetScene T) (holds : 
     pub reset_all_step : word ≤ end → ShowsStep bit_set code c scene wrote ResetAll (all_at room word end)
     reset_all_step below = go (nat_lt word end) refl (nat_lt (word + 1) end) refl
       where
+        -- the cases are whether the word is before the end and whether a further word follows
         go : (t : Bool) → nat_lt word end ≡ t → (u : Bool) → nat_lt (word + 1) end ≡ u
             → ShowsStep bit_set code c scene wrote ResetAll (all_at room word end)
         go true t true u =

@@ -31,8 +31,7 @@ module _ {T : Type 0} where
   cleared_by b p start events before since es is none stood =
       let whole : events ++ es ≡ before ++ Begun p start ∷ (since ++ es) = ap (λ xs. xs ++ es) is ∙ append_assoc before (Begun p start ∷ since) es in
       let both : sets b (before ++ Begun p start ∷ (since ++ es)) ≡ clears b (before ++ Begun p start ∷ (since ++ es)) = rw (sym whole) none in
-      let s = sets_more b before (Begun p start ∷ (since ++ es)) in
       let c = clears_more b before (Begun p start ∷ (since ++ es)) in
       let own_s = sets_more b (Begun p start ∷ []) (since ++ es) in
       let own_c = clears_more b (Begun p start ∷ []) (since ++ es) in
-      omega arith
+      omega (arith, sets_more b before (Begun p start ∷ (since ++ es)))

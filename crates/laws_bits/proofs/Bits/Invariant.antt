@@ -88,7 +88,7 @@ module _ {T : Type 0} where
         record {
           sized = preserves.sized ∙ h.sized;
           conserved = conserved;
-          within = λ b past. (let a = h.within b past in let e = preserves.within b past in let m = sets_more b events es in omega arith);
+          within = λ b past. (omega (arith, h.within b past, preserves.within b past, sets_more b events es));
           position = preserves.position ∙ (ap (λ n. fold position_after n es) h.position ∙ sym (fold-append position_after 0 events es));
           answers = Each-append (BitsAnswerRight c) events es h.answers preserves.right;
         }
@@ -98,9 +98,7 @@ module _ {T : Type 0} where
         conserved b =
             let was = h.conserved b in
             let moved = preserves.moved b in
-            let s = sets_more b events es in
-            let c = clears_more b events es in
-            omega arith
+            omega (arith, sets_more b events es, clears_more b events es)
 
   -- ---- what a step of another party leaves
 
@@ -130,5 +128,5 @@ module _ {T : Type 0} where
         since_more p (ClearedBelow run.call.word) (ClearedBelow run.call.word) events es none knows_call.1
             (cleared_still run.call.word knows_call.1.before knows_call.1.since es knows_call.1.holds),
       )
-      call_still since backs (IsSet run) h = let up = pays.up in omega arith
+      call_still since backs (IsSet run) h = omega (arith, pays.up)
       call_still since backs flight h = absurd h

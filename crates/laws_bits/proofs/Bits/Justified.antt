@@ -62,5 +62,5 @@ module _ {T : Type 0} where
   -- all that is promised of a bit set holds without a bound of turns or parties
   pub bits_go_on : (t : Trace T) → t.world.kind ≡ kinds.Bits → IsReachedOn t → IsBitSet t
   bits_go_on t is reached_on =
-      let s = sound_on bit_set laws t is reached_on in
-      bits_kept t.world.capacity t refl (subst (λ ws. Holds t.world.capacity ws t.events) (sym s.fit.words) s.holds.0)
+      let sound_there = sound_on bit_set laws t is reached_on in
+      bits_kept t.world.capacity t refl (subst (λ ws. Holds t.world.capacity ws t.events) (sym sound_there.fit.words) sound_there.holds.0)

@@ -45,8 +45,7 @@ abbrev pub SetStands : ℕ → SetStage → Type 0
 SetStands bit setting.LoadsElement = Unit {0}
 SetStands bit (setting.ExchangesElement found) = has_flag found bit ≡ false
 
--- a reset of the next one: it has come to this place, where the bit stood if it exchanges the
--- element
+-- a reset of the next one: it has come to this place, where the bit stood if it exchanges the element
 abbrev pub NextStands : ℕ → ResetNextStage → Type 0
 NextStands c resetting.LoadsPosition = Unit {0}
 NextStands c (resetting.LoadsElement start passed) = (start ≤ c) × (passed < c)

@@ -16,6 +16,7 @@ module _ {T : Type 0} where
   own_more p [] more first_own second_own = second_own
   own_more p (e ∷ es) more first_own second_own = (first_own.0, own_more p es more first_own.1 second_own)
 
+  -- events that are right one after another, and more that are right after them, are right as one list
   pub right_more : (P : List (Event T) → Event T → Type 0) (before es more : List (Event T)) → AreRight P before es
       → AreRight P (before ++ es) more → AreRight P before (es ++ more)
   right_more P before [] more first_right second_right = subst (λ xs. AreRight P xs more) (append-nil before) second_right
@@ -40,7 +41,7 @@ Rise low (b ∷ bs) = (low ≤ b) × Rise (b + 1) bs
 
 rise_from : (low high : ℕ) (bs : List ℕ) → low ≤ high → Rise high bs → Rise low bs
 rise_from low high [] le rise = tt
-rise_from low high (b ∷ bs) le rise = let at = rise.0 in (omega arith, rise.1)
+rise_from low high (b ∷ bs) le rise = (omega (arith, rise.0), rise.1)
 
 -- the numbers of a range that pass a test rise from the range's first
 rise_some : (test : ℕ → Bool) (first n : ℕ) → Rise first (filter test (range_with_len first n))

@@ -21,7 +21,7 @@ module _ {T : Type 0} (code : Coding T) (c : ℕ) (scene : SetScene T) (holds : 
   loading = record { word = element_of bit; op = Load }
 
   seen : standing bit events ≡ one_if (stands s.words bit)
-  seen = let is = holds.conserved bit in omega arith
+  seen = omega (arith, holds.conserved bit)
 
   -- the one step of a look ends it with what stands at its bit
   pub look_step : steps ≤ 0 → backs + since ≤ changes → ShowsStep bit_set code c scene [] (starts.IsSet bit) (look_at bit)

@@ -31,15 +31,15 @@ place_comes c start b low below = ⊎_elim behind ahead (cases_lt b start)
   where
     behind : b < start → (k : ℕ) × (k < c) × (place_after c start k ≡ b)
     behind less =
-        let t : nat_lt (start + (b + c - start)) c ≡ false = grind (arith, nat_tests) in
+        let not_below : nat_lt (start + (b + c - start)) c ≡ false = grind (arith, nat_tests) in
         let is : start + (b + c - start) - c ≡ b = omega arith in
-        (b + c - start, omega arith, rw t is)
+        (b + c - start, omega arith, rw not_below is)
 
     ahead : start ≤ b → (k : ℕ) × (k < c) × (place_after c start k ≡ b)
     ahead more =
-        let t : nat_lt (start + (b - start)) c ≡ true = grind (arith, nat_tests) in
+        let is_below : nat_lt (start + (b - start)) c ≡ true = grind (arith, nat_tests) in
         let is : start + (b - start) ≡ b = omega arith in
-        (b - start, omega arith, rw t is)
+        (b - start, omega arith, rw is_below is)
 
 start_near : (c position : ℕ) → at_most c position ≤ c
 start_near = grind arith
@@ -56,9 +56,9 @@ module _ {T : Type 0} (code : Coding T) (c : ℕ) (scene : SetScene T) (holds : 
   abbrev DoesOf : List (Event T) → ResetNextStage → Type 0
   DoesOf before stage = ShowsStep bit_set code c scene before next (next_at c stage)
 
-  -- with nothing written
+  -- a search that began before has begun still where nothing is written
   began_more : (start : ℕ) → Began c p start events → Began c p start (events ++ [])
-  began_more start began_holds = held_later p (λ part. at_most c (position_of part) ≡ start) events [] tt began_holds
+  began_more start had_begun = held_later p (λ part. at_most c (position_of part) ≡ start) events [] tt had_begun
 
   passed_more : (start passed : ℕ) → Passed c p start passed events → Passed c p start passed (events ++ [])
   passed_more start passed h k below =
@@ -89,10 +89,10 @@ module _ {T : Type 0} (code : Coding T) (c : ℕ) (scene : SetScene T) (holds : 
         → passed < c → get_or s.words (element_of (place_after c start passed)) 0 ≡ found
         → has_flag found (place_after c start passed) ≡ true
         → Does [] (Some a) back (GoOn (next_at c (resetting.ExchangesElement start passed found))) []
-    exchanges passed found held few below is has_flag_true =
+    exchanges passed found held few below is flag_set =
         goes_on code c scene next (Some a) back (next_at c (resetting.ExchangesElement start passed found))
         (same_bits code c scene (Some a) same) (ap (λ ws. get_or ws 0 0) same)
-        few refl (refl, (low, below, has_flag_true)) (
+        few refl (refl, (low, below, flag_set)) (
           (omega arith, λ ne. absurd (ne (ap (λ ws. get_or ws (element_of (place_after c start passed)) 0) same ∙ is))),
           passed_more start passed held,
           began_more start began,
@@ -135,28 +135,28 @@ module _ {T : Type 0} (code : Coding T) (c : ℕ) (scene : SetScene T) (holds : 
     one_passed : has_flag word place ≡ false → Passed c p start (passed + 1) events
     one_passed t k less = ⊎_elim (λ l. held k l) here (cases_lt k passed)
       where
+        -- the place that was passed last was clear at this moment
         here : passed ≤ k → HeldSometime p (λ part. standing (place_after c start k) part ≡ 0) events
         here more =
             let same : passed ≡ k = omega arith in
-            let is = holds.conserved place in
             let zero : one_if (stands s.words place) ≡ 0 = ap one_if t in
             subst (λ n. HeldSometime p (λ part. standing (place_after c start n) part ≡ 0) events) same
-            (held_now p (λ part. standing place part ≡ 0) events (omega arith))
+            (held_now p (λ part. standing place part ≡ 0) events (omega (arith, holds.conserved place)))
 
     -- what the test comes to
     module _ (back : Bool) (a : Ask) (same : words_after s.words (Some a) ≡ s.words)
         (paid : backs + one_if back + since ≤ changes) (few : steps + 1 ≤ 2 + passed + (backs + one_if back)) where
       stood : has_flag word place ≡ true → Does [] (Some a) back (GoOn (next_at c (resetting.ExchangesElement start passed word))) []
-      stood has_flag_true = exchanges a back same paid start low began passed word held few below refl has_flag_true
+      stood flag_set = exchanges a back same paid start low began passed word held few below refl flag_set
 
       goes_further : has_flag word place ≡ false → passed + 1 < c
           → Does [] (Some a) back (GoOn (next_at c (resetting.LoadsElement start (passed + 1)))) []
-      goes_further has_flag_false more = comes_on a back same paid start low began (passed + 1) (one_passed has_flag_false) (omega arith) more
+      goes_further flag_clear more = comes_on a back same paid start low began (passed + 1) (one_passed flag_clear) (omega arith) more
 
       finds_none : has_flag word place ≡ false → passed + 1 ≡ c → Does [] (Some a) back (Done answers.ResetNone) []
-      finds_none has_flag_false last =
+      finds_none flag_clear last =
           comes_none a back same paid start low began
-          (subst (λ n. Passed c p start n events) last (one_passed has_flag_false)) (omega arith)
+          (subst (λ n. Passed c p start n events) last (one_passed flag_clear)) (omega arith)
 
     abbrev loads_it : Ask
     loads_it = record { word = element; op = Load }
@@ -175,6 +175,7 @@ module _ {T : Type 0} (code : Coding T) (c : ℕ) (scene : SetScene T) (holds : 
         same : words_after s.words (Some loads_it) ≡ s.words
         same = load_leaves s.words element
 
+        -- the cases are whether the place is set and whether a further place follows
         go : (t : Bool) → has_flag word place ≡ t → (u : Bool) → nat_lt (passed + 1) c ≡ u → DoesOf [] stage
         go true t u e =
             parts (GoOn (next_at c (resetting.ExchangesElement start passed word))) (rw t refl)
@@ -263,25 +264,24 @@ module _ {T : Type 0} (code : Coding T) (c : ℕ) (scene : SetScene T) (holds : 
         failed : (word == found) ≡ false → words_after s.words (Some (exchanging found)) ≡ s.words
         failed word_is_not_found = failed_leaves s.words element found (without_flag found place) word_is_not_found
 
-        -- an element that is as it was found is cleared of its bit; in another one the bit is
-        -- tested again
+        -- an element that is as it was found is cleared of its bit; in another one the bit is tested again
         go : (t : Bool) → (word == found) ≡ t → (u : Bool) → has_flag word place ≡ u → (v : Bool) → nat_lt (passed + 1) c ≡ v → DoesOf [] stage
         go true t u e v f =
             parts false (GoOn (next_at c (resetting.StoresPosition place))) (Cleared p place ∷ [])
             (rw t refl) (rw t refl) (rw t refl) (clears_it found was t paid few)
         go false t true u v f =
-            let ne : word ≢ found = grind (arith, nat_tests) in
-            let again = more ne in
+            let differs : word ≢ found = grind (arith, nat_tests) in
+            let again = more differs in
             parts true (GoOn (next_at c (resetting.ExchangesElement start passed word))) [] (rw t refl) (rw (t, u) refl) (rw t refl)
             (stood true (exchanging found) (failed t) (omega arith) (omega arith) u)
         go false t false u true v =
-            let ne : word ≢ found = grind (arith, nat_tests) in
-            let again = more ne in
+            let differs : word ≢ found = grind (arith, nat_tests) in
+            let again = more differs in
             parts true (GoOn (next_at c (resetting.LoadsElement start (passed + 1)))) [] (rw t refl) (rw (t, u, v) refl) (rw t refl)
             (goes_further true (exchanging found) (failed t) (omega arith) (omega arith) u (grind (arith, nat_tests)))
         go false t false u false v =
-            let ne : word ≢ found = grind (arith, nat_tests) in
-            let again = more ne in
+            let differs : word ≢ found = grind (arith, nat_tests) in
+            let again = more differs in
             let last : c ≤ passed + 1 = grind (arith, nat_tests) in
             parts true (Done answers.ResetNone) [] (rw t refl) (rw (t, u, v) refl) (rw t refl)
             (finds_none true (exchanging found) (failed t) (omega arith) (omega arith) u (omega arith))
@@ -299,10 +299,9 @@ module _ {T : Type 0} (code : Coding T) (c : ℕ) (scene : SetScene T) (holds : 
       stored = grind (arith, get_or-set_same)
 
       one : clears {T = T} place (Cleared p place ∷ []) ≡ 1
-      one = let t : (place == place) ≡ true = grind (arith, nat_tests) in rw t refl
+      one = let is_same : (place == place) ≡ true = grind (arith, nat_tests) in rw is_same refl
 
-  -- any step of a reset of the next one that stands at a stage, and knows what the stage tells,
-  -- shows what it has to
+  -- any step of a reset of the next one that stands at a stage, and knows what the stage tells, shows what it has to
   pub next_step : (stage : ResetNextStage) → NextStands c stage
       → KnowsNext c p events s.words since changes backs stage → steps ≤ next_number c stage backs
       → DoesOf (next_wrote p stage) stage

@@ -119,8 +119,7 @@ module _ {T : Type 0} (code : Coding T) (c : ℕ) (scene : SetScene T) (holds : 
           let after : stands then b ≡ stands s.words b = ap (λ ws. stands ws b) new ∙ set_leaves s.words bit b near other in
           rw (u, after) refl
 
-  -- the step in which a set exchanges its element shows what it has to, whether it is as it was
-  -- found or not
+  -- the step in which a set exchanges its element shows what it has to, whether it is as it was found or not
   exchanges : (found : ℕ) → has_flag found bit ≡ false → backs + since ≤ changes
       → (word ≢ found → backs + since + 1 ≤ changes) → steps ≤ 1 + backs
       → DoesOf (setting.ExchangesElement found)
@@ -134,18 +133,19 @@ module _ {T : Type 0} (code : Coding T) (c : ℕ) (scene : SetScene T) (holds : 
           → effects_of p (set_at bit stage) word ≡ fx → Does (Some (exchanging found)) back then fx → DoesOf stage
       parts = grind arith
 
+      -- the cases are whether the word is still what was read and whether the bit is set
       go : (t : Bool) → (word == found) ≡ t → (u : Bool) → has_flag word bit ≡ u → DoesOf stage
       go true t u e =
           parts false (Done (answers.Truth true)) (told.Set p bit ∷ []) (rw t refl) (rw t refl)
           (rw t refl) (sets_it found was t paid few)
       go false t true u =
-          let ne : word ≢ found = grind (arith, nat_tests) in
-          let next = more ne in
+          let differs : word ≢ found = grind (arith, nat_tests) in
+          let next = more differs in
           parts true (Done (answers.Truth false)) [] (rw t refl) (rw (t, u) refl) (rw t refl)
           (stood (exchanging found) true (failed_leaves s.words element found (with_flag found bit) t) (omega arith) (omega arith) u)
       go false t false u =
-          let ne : word ≢ found = grind (arith, nat_tests) in
-          let next = more ne in
+          let differs : word ≢ found = grind (arith, nat_tests) in
+          let next = more differs in
           parts true (GoOn (set_at bit (setting.ExchangesElement word))) [] (rw t refl) (rw (t, u) refl) (rw t refl)
           (clear (exchanging found) true (failed_leaves s.words element found (with_flag found bit) t) (omega arith) (omega arith) u)
 

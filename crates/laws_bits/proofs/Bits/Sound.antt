@@ -82,7 +82,7 @@ module _ {T : Type 0} where
   pub begins_own : (c : ℕ) (kept : Registry T) (start : Start T) (flight : Flight T) → first_of kinds.Bits c start kept ≡ Some flight → IsOwn start
   begins_own = grind arith
 
-  -- to begin changes no bit
+  -- the begin of a call changes no bit
   pub begins_none : (c p : ℕ) (start : BitsStart) (words : List ℕ) (events : List (Event T)) (changes : ℕ)
       → Preserves c words events changes words (Begun p (Bits start) ∷ []) changes
   begins_none = grind arith

@@ -4,7 +4,7 @@ use Rattle.laws_bits.proofs.Names.{List, [], ◌∷◌, ◌++◌, refl, sym, ap,
 use Rattle.laws_bits.proofs.Names.{Event, Begun, Start, is_count_of, take_of, counts, takes, count_at}
 use Rattle.std.proofs.Common.{arith}
 
--- of what was counted and taken out before and since
+-- where something was left of what was counted before, something is taken out since, or 2^64 was counted
 either_way : (c t c' t' wraps : ℕ) → 1 ≤ c - t → c + c' ≡ t + t' + 2 ^ 64 * wraps → (1 ≤ t') ⊎ (2 ^ 64 ≤ c + c')
 either_way = grind arith
 
@@ -36,6 +36,7 @@ module _ {T : Type 0} where
       → TakenBelow (end + 1) before (since ++ es)
   taken_next end p start events before since es wraps is none taken b below some = go (b == end) refl
     where
+      -- the cases are whether the word is the one at the end
       go : (t : Bool) → (b == end) ≡ t → (1 ≤ takes b (since ++ es)) ⊎ (2 ^ 64 ≤ counts b before + counts b (since ++ es))
       go false t =
           let less : b < end = grind (arith, nat_tests) in

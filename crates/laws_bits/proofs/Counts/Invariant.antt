@@ -100,21 +100,18 @@ module _ {T : Type 0} where
         record {
           sized = preserves.sized ∙ h.sized;
           conserved = conserved;
-          within = λ b past. (let a = h.within b past in let e = preserves.within b past in counts_more b events es ∙ omega arith);
+          within = λ b past. (counts_more b events es ∙ omega (arith, h.within b past, preserves.within b past));
           low = preserves.low;
-          few = λ b. (let a = h.few b in let e = preserves.few b in let c = counts_more b events es in omega arith);
+          few = λ b. (omega (arith, h.few b, preserves.few b, counts_more b events es));
           answers = Each-append (CountsAnswerOn c) events es h.answers preserves.right;
         }
       where
-        -- each place was counted as much as was taken out and stands there, but for whole turns
-        -- of its word
+        -- each place was counted as much as was taken out and stands there, but for whole turns of its word
         conserved : (b : ℕ) → (wraps : ℕ) × (counts b (events ++ es) ≡ takes b (events ++ es) + get_or words' b 0 + 2 ^ 64 * wraps)
         conserved b =
             let before = (h.conserved b).1 in
             let moved = (preserves.moved b).1 in
-            let c = counts_more b events es in
-            let t = takes_more b events es in
-            ((h.conserved b).0 + (preserves.moved b).0, omega arith)
+            ((h.conserved b).0 + (preserves.moved b).0, omega (arith, counts_more b events es, takes_more b events es))
 
   -- a turn of another party leaves what a call knows
   pub call_still : (p : ℕ) (events es : List (Event T)) (none : BeginsNone p es) (backs : ℕ) (flight : BitsFlight)

@@ -41,5 +41,5 @@ module _ {T : Type 0} where
   -- what is so of every run without a bound of turns or parties
   pub counts_go_on : (t : Trace T) → t.world.kind ≡ kinds.Counts → IsReachedOn t → IsCountingOn t
   counts_go_on t is reached_on =
-      let s = sound_on counting_set laws t is reached_on in
-      counts_on t.world.capacity t refl (subst (λ ws. Holds t.world.capacity ws t.events t.world.turns) (sym s.fit.words) s.holds.0)
+      let sound_there = sound_on counting_set laws t is reached_on in
+      counts_on t.world.capacity t refl (subst (λ ws. Holds t.world.capacity ws t.events t.world.turns) (sym sound_there.fit.words) sound_there.holds.0)

@@ -32,7 +32,7 @@ module _ {T : Type 0} where
   -- ---- where no place was counted 2^64 times
 
   part_counts : (b : ℕ) (events before after : List (Event T)) (e : Event T) → events ≡ before ++ e ∷ after → counts b before ≤ counts b events
-  part_counts b events before after e is = let m = counts_more b before (e ∷ after) in rw is (omega arith)
+  part_counts b events before after e is = rw is (omega (arith, counts_more b before (e ∷ after)))
 
   -- a reset that has taken out what stood, but for places that were counted 2^64 times, has
   -- taken it out from all where none was
@@ -44,6 +44,7 @@ module _ {T : Type 0} where
       holds : HasTaken c h.before h.since
       holds b below some = go (h.holds b below some)
         where
+          -- the second case cannot be, since no place was counted so often
           go : (1 ≤ takes b h.since) ⊎ (2 ^ 64 ≤ counts b h.before + counts b h.since) → 1 ≤ takes b h.since
           go (inl had) = had
           go (inr far) =
@@ -64,7 +65,7 @@ module _ {T : Type 0} where
       record { before = counts_answer_on.before; is = counts_answer_on.is; count = omega arith }
   answer_exact c before (Finished p (Bits ResetAll) answer) few counts_answer_on = taken_exact c p before few counts_answer_on
   answer_exact c before (Finished p (Bits (starts.Count place)) (Number number)) few counts_answer_on =
-      (counts_answer_on.0, (let low = few place in let is = counts_answer_on.1 in omega arith))
+      (counts_answer_on.0, omega (arith, counts_answer_on.1))
   answer_exact c before e few counts_answer_on = tt
 
   -- in a run in which no place was counted 2^64 times, what is promised of every run is what is
@@ -72,7 +73,7 @@ module _ {T : Type 0} where
   pub exact : (t : Trace T) → ((b : ℕ) → counts b t.events < 2 ^ 64) → IsCountingOn t → IsCountingSet t
   exact t few counting_on =
       record {
-        conserved = λ b. (let is = (counting_on.conserved b).1 in let low = few b in omega arith);
+        conserved = λ b. (let low = few b in omega (arith, (counting_on.conserved b).1));
         within = counting_on.within;
         answers =
             λ before after e is. answer_exact t.world.capacity before e

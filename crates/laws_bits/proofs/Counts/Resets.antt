@@ -44,6 +44,7 @@ module _ {T : Type 0} (code : Coding T) (c : ℕ) (scene : SetScene T) (holds : 
   swapped : (b n : ℕ) → word < length ws → n ≡ cond (word == b) count 0 → 0 + get_or ws b 0 ≡ n + get_or (set ws word 0) b 0
   swapped b n within e = go (word == b) refl
     where
+      -- the cases are whether it is the word in question
       go : (t : Bool) → (word == b) ≡ t → 0 + get_or ws b 0 ≡ n + get_or (set ws word 0) b 0
       go true t =
           let same : word ≡ b = grind (arith, nat_tests) in
@@ -60,6 +61,7 @@ module _ {T : Type 0} (code : Coding T) (c : ℕ) (scene : SetScene T) (holds : 
   not_far : word < length ws → (b : ℕ) → get_or (set ws word 0) b 0 < 2 ^ 64
   not_far within b = go (word == b) refl
     where
+      -- the cases are whether it is the word in question
       go : (t : Bool) → (word == b) ≡ t → get_or (set ws word 0) b 0 < 2 ^ 64
       go true t =
           let same : word ≡ b = grind (arith, nat_tests) in
@@ -85,8 +87,8 @@ module _ {T : Type 0} (code : Coding T) (c : ℕ) (scene : SetScene T) (holds : 
     -- what is below the next word has been taken out since the call began
     taken_more : SinceBegin p (TakenBelow (word + 1)) (events ++ fx)
     taken_more =
-        let t : (word == word) ≡ true = grind (arith, nat_tests) in
-        let all : takes word fx ≡ count = rw t at (out.takes word) in
+        let is_same : (word == word) ≡ true = grind (arith, nat_tests) in
+        let all : takes word fx ≡ count = rw is_same at (out.takes word) in
         let none = out.counts word in
         let before = (holds.conserved word).1 in
         let c = counts_more word events fx in
@@ -101,11 +103,10 @@ module _ {T : Type 0} (code : Coding T) (c : ℕ) (scene : SetScene T) (holds : 
     -- no count from the next word on is taken by the call so far
     empty_then : (b : ℕ) → word + 1 ≤ b → takes b (wrote ++ fx) ≡ 0
     empty_then b past =
-        let t : (word == b) ≡ false = grind (arith, nat_tests) in
-        let none : takes b fx ≡ 0 = rw t at (out.takes b) in
+        let is_other : (word == b) ≡ false = grind (arith, nat_tests) in
+        let none : takes b fx ≡ 0 = rw is_other at (out.takes b) in
         let before : takes b wrote ≡ 0 = empty b (omega arith) in
-        let m = takes_more b wrote fx in
-        omega arith
+        omega (arith, takes_more b wrote fx)
 
   -- ---- the events of one swap
 
@@ -136,7 +137,7 @@ module _ {T : Type 0} (code : Coding T) (c : ℕ) (scene : SetScene T) (holds : 
   -- ---- a swap
 
   module _ (room : OneWord) (end : ℕ) (all : end ≡ c) where
-    -- with what was found in the room
+    -- the reset goes on with what was found in its room
     abbrev next : After BitsFlight (Answer T)
     next = GoOn (take_at (record { 0 = count }) (word + 1) end)
 
@@ -145,7 +146,7 @@ module _ {T : Type 0} (code : Coding T) (c : ℕ) (scene : SetScene T) (holds : 
 
     module _ (within : word < length ws) where
       moved : (b n m : ℕ) → n ≡ 0 → m ≡ cond (word == b) count 0 → (wraps : ℕ) × (n + get_or ws b 0 ≡ m + get_or (set ws word 0) b 0 + 2 ^ 64 * wraps)
-      moved b n m none out = let s = swapped b m within out in (0, omega arith)
+      moved b n m none out = (0, omega (arith, swapped b m within out))
 
       -- a swap of a count that is not the last leads to the next one
       goes_on : (fx : List (Event T)) → TakesOut fx → word + 1 < end → Does swaps next fx
@@ -211,6 +212,7 @@ module _ {T : Type 0} (code : Coding T) (c : ℕ) (scene : SetScene T) (holds : 
         (effects_of p (take_at room word end) (old_of ws (ask_of (want (take_at room word end)))))
     reset_step below = go (nat_lt word end) refl (nat_lt (word + 1) end) refl
       where
+        -- the cases are whether the word is before the end and whether a further word follows
         go : (t : Bool) → nat_lt word end ≡ t → (u : Bool) → nat_lt (word + 1) end ≡ u
             → Does (ask_of (want (take_at room word end)))
             (after (take_at room word end) (old_of ws (ask_of (want (take_at room word end)))))

@@ -70,7 +70,7 @@ module _ {T : Type 0} where
       → first_of kinds.Counts c start kept ≡ Some flight → IsOwn start
   begins_own = grind arith
 
-  -- to begin changes no count
+  -- the begin of a call changes no count
   pub begins_none : (c p : ℕ) (start : BitsStart) (words : List ℕ) (events : List (Event T)) (turns : ℕ)
       → Holds c words events turns → Preserves c words events turns words (Begun p (Bits start) ∷ [])
   begins_none = grind arith

@@ -45,10 +45,10 @@ module _ {T : Type 0} (code : Coding T) (c : ℕ) (scene : SetScene T) where
         }
       where
         one : counts {T = T} place (Counted p place ∷ []) ≡ 1
-        one = let t : (place == place) ≡ true = grind (arith, nat_tests) in rw t refl
+        one = let is_same : (place == place) ≡ true = grind (arith, nat_tests) in rw is_same refl
 
         now : get_or ws place 0 ≡ count_at place events % 2 ^ 64
-        now = let h = (holds.conserved place).1 in let low = holds.low place in omega arith
+        now = let low = holds.low place in omega (arith, (holds.conserved place).1)
 
         -- no place is counted twice
         at_most_one : (b : ℕ) → counts {T = T} b (Counted p place ∷ Finished p (Bits (Set place)) (answers.Number (get_or ws place 0)) ∷ []) ≤ 1
@@ -65,10 +65,9 @@ module _ {T : Type 0} (code : Coding T) (c : ℕ) (scene : SetScene T) where
         wraps n below = ((n + 1) / 2 ^ 64, omega arith)
 
         past : (b : ℕ) → c ≤ b → counts {T = T} b (Counted p place ∷ Finished p (Bits (Set place)) (answers.Number (get_or ws place 0)) ∷ []) ≡ 0
-        past b h = let t : (place == b) ≡ false = grind (arith, nat_tests) in rw t refl
+        past b h = let is_other : (place == b) ≡ false = grind (arith, nat_tests) in rw is_other refl
 
-        -- the number of each place and what is counted of it stay in step, but for whole turns
-        -- of its word
+        -- the number of each place and what is counted of it stay in step, but for whole turns of its word
         moved : place < length ws → (b : ℕ)
             → (wraps : ℕ)
             × (counts {T = T} b (Counted p place ∷ Finished p (Bits (Set place)) (answers.Number (get_or ws place 0)) ∷ [])
@@ -76,6 +75,7 @@ module _ {T : Type 0} (code : Coding T) (c : ℕ) (scene : SetScene T) where
             ≡ 0 + get_or (set ws place ((get_or ws place 0 + 1) % 2 ^ 64)) b 0 + 2 ^ 64 * wraps)
         moved within b = go (place == b) refl
           where
+            -- the cases are whether it is the word in question
             go : (t : Bool) → (place == b) ≡ t
                 → (wraps : ℕ)
                 × (counts {T = T} b (Counted p place ∷ Finished p (Bits (Set place)) (answers.Number (get_or ws place 0)) ∷ [])
@@ -85,8 +85,7 @@ module _ {T : Type 0} (code : Coding T) (c : ℕ) (scene : SetScene T) where
                 let same : place ≡ b = grind (arith, nat_tests) in
                 let here = get_or-set_same ws place ((get_or ws place 0 + 1) % 2 ^ 64) 0 within in
                 let k = wraps (get_or ws place 0) (holds.low place) in
-                let is = k.1 in
-                (k.0, rw t (rw (sym same) (omega arith)))
+                (k.0, rw t (rw (sym same) (omega (arith, k.1))))
             go false t =
                 let other : b ≢ place = grind (arith, nat_tests) in
                 let there = get_or-set_other ws place b ((get_or ws place 0 + 1) % 2 ^ 64) 0 other in
@@ -96,6 +95,7 @@ module _ {T : Type 0} (code : Coding T) (c : ℕ) (scene : SetScene T) where
         not_far : place < length ws → (b : ℕ) → get_or (set ws place ((get_or ws place 0 + 1) % 2 ^ 64)) b 0 < 2 ^ 64
         not_far within b = go (b == place) refl
           where
+            -- the cases are whether it is the word in question
             go : (t : Bool) → (b == place) ≡ t → get_or (set ws place ((get_or ws place 0 + 1) % 2 ^ 64)) b 0 < 2 ^ 64
             go true t =
                 let same : b ≡ place = grind (arith, nat_tests) in
@@ -127,4 +127,4 @@ module _ {T : Type 0} (code : Coding T) (c : ℕ) (scene : SetScene T) where
         }
       where
         now : get_or ws place 0 ≡ count_at place events % 2 ^ 64
-        now = let h = (holds.conserved place).1 in let low = holds.low place in omega arith
+        now = let low = holds.low place in omega (arith, (holds.conserved place).1)

@@ -42,8 +42,9 @@ module _ {T : Type 0} where
   fits c xs v room =
       let longer = length-append xs (v ∷ []) in
       let long : length (items (xs ++ v ∷ [])) ≡ length (xs ++ v ∷ []) = length-map (xs ++ v ∷ []) Index in
-      let t : nat_lt c (length (items (xs ++ v ∷ []))) ≡ false = (let few : length (items (xs ++ v ∷ [])) ≤ c = omega arith in grind (arith, nat_tests)) in
-      (rw (more xs v, t) refl, rw (more xs v, t) refl)
+      let not_below : nat_lt c (length (items (xs ++ v ∷ []))) ≡ false =
+      (let few : length (items (xs ++ v ∷ [])) ≤ c = omega arith in grind (arith, nat_tests)) in
+      (rw (more xs v, not_below) refl, rw (more xs v, not_below) refl)
 
   -- a push that finds room
   pub push_room :
@@ -71,9 +72,9 @@ module _ {T : Type 0} where
       ap (λ ys. items ys ++ Index v ∷ []) (list_is c xs others v is full) ∙ (more others v ∙ (ap items (sym is) ∙ ap items front))
       in
       let many : length (items rest) ≡ length rest = length-map rest Index in
-      let t : nat_lt c (suc (length (items rest))) ≡ true = (let over : c < suc (length (items rest)) = omega arith in grind (arith, nat_tests)) in
+      let is_below : nat_lt c (suc (length (items rest))) ≡ true = (let over : c < suc (length (items rest)) = omega arith in grind (arith, nat_tests)) in
       let kept : take c rest ≡ rest = take_all c rest (omega arith) in
-      (rw (all, t, kept) refl, rw (all, t) refl)
+      (rw (all, is_below, kept) refl, rw (all, is_below) refl)
 
   -- a pop while no push waits
   pub pop_front :

@@ -39,8 +39,7 @@ take_keeps_pop = grind arith
 
 -- ---- a push, where a pop moves the read position and no push was pending
 
--- a push under way knows what it knew, and has written the same, once another party's pop has
--- taken the oldest value
+-- a push under way knows what it knew, and has written the same, once another party's pop has taken the oldest value
 pub take_keeps_push :
     {T : Type 0} → (c : ℕ) (k : Core ℕ) (q : ℕ) (rest : List ℕ) → Good 1 words_of_index (c + 1) k
     → length k.waiting ≤ c → (w : ℕ) (stage : overflow_pushes.PushStage) → KnowsOverflowPush c k w stage

@@ -59,6 +59,7 @@ overflow_push_number (overflow_pushes.StoresWrite write read) = 3
 overflow_push_number (overflow_pushes.MovesRead read) = 4
 overflow_push_number (overflow_pushes.LoadsCell read) = 5
 
+-- the number of steps that a pop has taken since it last turned back
 abbrev pub overflow_pop_number : PopStage → ℕ
 overflow_pop_number overflow_pops.FindsNone = 0
 overflow_pop_number overflow_pops.LoadsRead = 0
@@ -98,6 +99,7 @@ module _ {T : Type 0} where
       ∷ Acted p (Queues (PushIndex v)) (PoppedIndex (get_or k.cells (read % (c + 1)) 0))
       ∷ []
 
+  -- where a push or a pop of an overflowing queue stands
   abbrev pub OverflowAt : ℕ → Roles → Core ℕ → ℕ → QueueStart T → OverflowCall → Type 0
   OverflowAt c ro k p (PushIndex v) (overflows.Push run) =
       (ro.producer ≡ Some p) × (run.call.capacity ≡ c) × (run.given ≡ v) × KnowsOverflowPush c k v run.call.stage

@@ -110,18 +110,19 @@ module _ {T : Type 0} (en : Coding T) (scene : Scene T kinds.Overflow)
         → Does (Some load_of_write) false (after en (at (overflow_pops.LoadsWrite read)) k.write) Acts
     loads_write read some low ahead s paid = go (k.write == read) refl
       where
+        -- the cases are whether the queue has nothing to read
         go : (b : Bool) → (k.write == read) ≡ b → Does (Some load_of_write) false (after en (at (overflow_pops.LoadsWrite read)) k.write) Acts
         go true t =
-            let g = inv.queue.good in
-            let write = g.write in
+            let queue_good = inv.queue.good in
+            let write = queue_good.write in
             let same : k.write ≡ read = grind (arith, nat_tests) in
             let goes : after en (at (overflow_pops.LoadsWrite read)) k.write ≡ Done PoppedNone = rw t refl in
             let none : length k.waiting ≡ 0 = omega arith in
             subst (λ a. Does (Some load_of_write) false a Acts) (sym goes)
             (finds_none (Some load_of_write) refl (nil_from_length k.waiting none) (omega arith) (omega arith))
         go false t =
-            let g = inv.queue.good in
-            let write = g.write in
+            let queue_good = inv.queue.good in
+            let write = queue_good.write in
             let other : k.write ≢ read = grind (arith, nat_tests) in
             let goes : after en (at (overflow_pops.LoadsWrite read)) k.write ≡ GoOn (at (overflow_pops.LoadsCell read)) = rw t refl in
             let moved : read < k.read → k.read < k.write = ahead in
@@ -129,15 +130,14 @@ module _ {T : Type 0} (en : Coding T) (scene : Scene T kinds.Overflow)
             let waits : k.read < k.write = ⊎_elim moved still (cases_lt read k.read) in
             subst (λ a. Does (Some load_of_write) false a Acts) (sym goes) (goes_on read some low waits s paid)
 
-    -- the load of the cell does so: the pop has the value in its room, and goes on to move the
-    -- read position
+    -- the load of the cell does so: the pop has the value in its room, and goes on to move the read position
     loads_cell : (read : ℕ) → 0 < c → read ≤ k.read → k.read < k.write → steps ≤ 2 * backs + 2 → backs + since + k.read ≤ changes + read
         → Does (Some (record { word = cell_word c read; op = Load })) false
         (GoOn (with_value (get_or k.cells (read % (c + 1)) 0) (overflow_pops.MovesRead read))) Quiet
     loads_cell read some low waits s paid =
-        let g = inv.queue.good in
-        let write = g.write in
-        let old = oldest c k g (omega arith) in
+        let queue_good = inv.queue.good in
+        let write = queue_good.write in
+        let old = oldest c k queue_good (omega arith) in
         let same : words_after (layout ro k) (Some (record { word = cell_word c read; op = Load })) ≡ layout ro k =
         set-get_or (layout ro k) (cell_word c read) 0 in
         quiet en kinds.Overflow scene inv small (calm k.read) false Pop
@@ -163,9 +163,9 @@ module _ {T : Type 0} (en : Coding T) (scene : Scene T kinds.Overflow)
     moves_back : (read : ℕ) → 0 < c → read < k.read → k.read < k.write → steps ≤ 2 * backs + 3 → backs + since + k.read ≤ changes + read
         → Does (asks_move read) true (GoOn (at (overflow_pops.LoadsCell k.read))) Quiet
     moves_back read some moved waits s paid =
-        let t : (k.read == read) ≡ false = (let apart : k.read ≢ read = λ e. absurd (omega arith) in grind (arith, nat_tests)) in
+        let is_other : (k.read == read) ≡ false = (let apart : k.read ≢ read = λ e. absurd (omega arith) in grind (arith, nat_tests)) in
         quiet en kinds.Overflow scene inv small (calm k.read) true Pop (asks_move read)
-        (at (overflow_pops.LoadsCell k.read)) k refl refl refl refl inv.queue.good (rw t refl)
+        (at (overflow_pops.LoadsCell k.read)) k refl refl refl refl inv.queue.good (rw is_other refl)
         (record { span = refl; steps = omega arith; at = (holds, refl, (some, omega arith, waits)) })
         (omega arith, omega arith)
         (λ q ne st f h. (h, refl))
@@ -181,21 +181,21 @@ module _ {T : Type 0} (en : Coding T) (scene : Scene T kinds.Overflow)
         go : (here : Bool) → (k.read == read) ≡ here → Moved (overflow_pops.MovesRead read)
         go true e =
             let same : read ≡ k.read = grind (arith, nat_tests) in
-            let t : (k.read == k.read) ≡ true = grind (arith, nat_tests) in
+            let is_same : (k.read == k.read) ≡ true = grind (arith, nat_tests) in
             let last = knows.3 same in
             let more = knows.2 in
-            let g = inv.queue.good in
-            let write = g.write in
-            let old = oldest c k g (omega arith) in
+            let queue_good = inv.queue.good in
+            let write = queue_good.write in
+            let old = oldest c k queue_good (omega arith) in
             let both : get_or k.cells (k.read % (c + 1)) 0 ∷ old.0 ≡ room.0 ∷ last.0 = sym old.1 ∙ last.1 in
             let cell : get_or k.cells (k.read % (c + 1)) 0 ≡ room.0 = cc in
             let place : get_or (layout ro k) (cell_word c k.read) 0 ≡ room.0 =
             word_at k.write k.read (free ro.producer) (free ro.consumer) k.cells (cell_word c k.read) (k.read % (c + 1)) refl ∙ cell in
-            let goes : after en (at (overflow_pops.MovesRead k.read)) k.read ≡ Done (PoppedIndex room.0) = rw t refl in
-            let back : goes_back (at (overflow_pops.MovesRead k.read)) k.read ≡ false = rw t refl in
+            let goes : after en (at (overflow_pops.MovesRead k.read)) k.read ≡ Done (PoppedIndex room.0) = rw is_same refl in
+            let back : goes_back (at (overflow_pops.MovesRead k.read)) k.read ≡ false = rw is_same refl in
             let told : effect_of en (layout ro k) waits (at (overflow_pops.MovesRead k.read)) k.read
             ≡ takes_effect (Index room.0) waits =
-            rw (t, place) refl in
+            rw (is_same, place) refl in
             subst (λ r. Moved (overflow_pops.MovesRead r)) (sym same)
             (subst (λ n. MovesBy (asks_move k.read) n (after en (at (overflow_pops.MovesRead k.read)) k.read)
             (effect_of en (layout ro k) waits (at (overflow_pops.MovesRead k.read)) k.read))

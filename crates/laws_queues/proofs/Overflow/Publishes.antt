@@ -107,13 +107,13 @@ module _ {T : Type 0} (en : Coding T) (scene : Scene T kinds.Overflow)
     -- the queue is full, and the value waits as one more than the capacity
     publishes_over : read ≡ k.read → k.write ≡ read + c → Does [] next_write (GoOn (at (overflow_pushes.MovesRead read))) (Publishes (Index v))
     publishes_over here full =
-        let g = inv.queue.good in
-        let write = g.write in
+        let queue_good = inv.queue.good in
+        let write = queue_good.write in
         let change = one in
         let reached = inv.queue.reached in
-        let t : (read == k.read) ≡ true = grind (arith, nat_tests) in
+        let is_same : (read == k.read) ≡ true = grind (arith, nat_tests) in
         let hung : pending k.read ro.producer (put p (after_it next_write (GoOn (at (overflow_pushes.MovesRead read)))) latest) ≡ Some (p, v) =
-        pending_after k.read p ro.producer holds (after_it next_write (GoOn (at (overflow_pushes.MovesRead read)))) latest ∙ (rw t refl)
+        pending_after k.read p ro.producer holds (after_it next_write (GoOn (at (overflow_pushes.MovesRead read)))) latest ∙ (rw is_same refl)
         in
         let many : length k.waiting ≡ c = omega arith in (
           after_publish,
@@ -132,7 +132,12 @@ module _ {T : Type 0} (en : Coding T) (scene : Scene T kinds.Overflow)
             book = joined;
             goes = push_waits c k.waiting v many;
             answers = refl;
-            here = record { span = rw t refl; steps = omega arith; at = (holds, refl, refl, (some, omega arith, omega arith, λ same. (k.waiting, refl))) };
+            here =
+                record {
+                  span = rw is_same refl;
+                  steps = omega arith;
+                  at = (holds, refl, refl, (some, omega arith, omega arith, λ same. (k.waiting, refl)));
+                };
             knows = omega arith;
             up = record { write = omega arith; read = omega arith; paid = omega arith };
             others =
@@ -149,16 +154,16 @@ module _ {T : Type 0} (en : Coding T) (scene : Scene T kinds.Overflow)
     publishes_late : read < k.read → k.write ≡ read + c
         → Does [] next_write (GoOn (at (overflow_pushes.MovesRead read))) (PublishesAndActs (Index v))
     publishes_late moved full =
-        let g = inv.queue.good in
-        let write = g.write in
+        let queue_good = inv.queue.good in
+        let write = queue_good.write in
         let change = one in
         let reached = inv.queue.reached in
         let below : length k.waiting < c = omega arith in
         let list = push_room {T = T} c k.waiting v below in
         let longer = length-append k.waiting (v ∷ []) in
-        let t : (read == k.read) ≡ false = grind (arith, nat_tests) in
+        let is_other : (read == k.read) ≡ false = grind (arith, nat_tests) in
         let calm : pending k.read ro.producer (put p (after_it next_write (GoOn (at (overflow_pushes.MovesRead read)))) latest) ≡ None =
-        pending_after k.read p ro.producer holds (after_it next_write (GoOn (at (overflow_pushes.MovesRead read)))) latest ∙ (rw t refl)
+        pending_after k.read p ro.producer holds (after_it next_write (GoOn (at (overflow_pushes.MovesRead read)))) latest ∙ (rw is_other refl)
         in (
           after_publish,
           words_publish,
@@ -177,7 +182,12 @@ module _ {T : Type 0} (en : Coding T) (scene : Scene T kinds.Overflow)
             book = joined;
             goes = list.0;
             answers = ap (λ (o : Option (Item T)). answer_of_item o ∷ []) list.1;
-            here = record { span = rw t refl; steps = omega arith; at = (holds, refl, refl, (some, omega arith, omega arith, λ same. absurd (omega arith))) };
+            here =
+                record {
+                  span = rw is_other refl;
+                  steps = omega arith;
+                  at = (holds, refl, refl, (some, omega arith, omega arith, λ same. absurd (omega arith)));
+                };
             knows = omega arith;
             up = record { write = omega arith; read = omega arith; paid = omega arith };
             others =

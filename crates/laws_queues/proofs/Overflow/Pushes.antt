@@ -104,8 +104,8 @@ module _ {T : Type 0} (en : Coding T) (scene : Scene T kinds.Overflow)
       → Does [] (Some load_of_write) (after en (at overflow_pushes.LoadsWrite) k.write) Quiet
   loads_write fresh some s calm =
       let low = inv.queue.reached in
-      let t : (k.write == 2 ^ 64 - 1) ≡ false = grind (arith, nat_tests) in
-      let goes : after en (at overflow_pushes.LoadsWrite) k.write ≡ GoOn (at (overflow_pushes.LoadsRead k.write)) = rw t refl in
+      let not_last : (k.write == 2 ^ 64 - 1) ≡ false = grind (arith, nat_tests) in
+      let goes : after en (at overflow_pushes.LoadsWrite) k.write ≡ GoOn (at (overflow_pushes.LoadsRead k.write)) = rw not_last refl in
       subst (λ a. Does [] (Some load_of_write) a Quiet) (sym goes)
       (quiet en kinds.Overflow scene inv small calm false (PushIndex v) (Some load_of_write)
       (at (overflow_pushes.LoadsRead k.write)) k refl refl refl refl inv.queue.good refl
@@ -118,8 +118,8 @@ module _ {T : Type 0} (en : Coding T) (scene : Scene T kinds.Overflow)
       → Does [] (Some load_of_read) (GoOn (at (overflow_pushes.StoresCell k.write k.read))) Quiet
   loads_read fresh some s calm =
       let below = few calm in
-      let g = inv.queue.good in
-      let write = g.write in
+      let queue_good = inv.queue.good in
+      let write = queue_good.write in
       quiet en kinds.Overflow scene inv small calm false (PushIndex v) (Some load_of_read)
       (at (overflow_pushes.StoresCell k.write k.read)) k refl refl refl refl inv.queue.good refl
       (record { span = refl; steps = omega arith; at = (holds, refl, refl, (some, refl, omega arith, omega arith, fresh)) })
@@ -131,10 +131,10 @@ module _ {T : Type 0} (en : Coding T) (scene : Scene T kinds.Overflow)
   stores_cell : k.write < 2 ^ 64 - 1 → (read : ℕ) → 0 < c → read ≤ k.read → k.write ≤ read + c → steps ≤ 2 → IsCalm
       → Does [] (Some (record { word = cell_word c k.write; op = Store v })) (GoOn (at (overflow_pushes.StoresWrite k.write read))) Quiet
   stores_cell fresh read some low far s calm =
-      let g = inv.queue.good in
-      let write = g.write in
+      let queue_good = inv.queue.good in
+      let write = queue_good.write in
       let none : Holds 1 words_of_index (c + 1) k.cells k.write v 0 = λ i h. absurd (omega arith) in
-      let good = fills 1 words_of_index (c + 1) k 0 v (omega arith) (omega arith) g in
+      let good = fills 1 words_of_index (c + 1) k 0 v (omega arith) (omega arith) queue_good in
       let place : cell_word c k.write ≡ 4 + (1 * (k.write % (c + 1)) + 0) = omega arith in
       quiet en kinds.Overflow scene inv small calm false (PushIndex v)
       (Some (record { word = cell_word c k.write; op = Store v }))
@@ -145,7 +145,7 @@ module _ {T : Type 0} (en : Coding T) (scene : Scene T kinds.Overflow)
         span = refl;
         steps = omega arith;
         at =
-            (holds, refl, refl, (some, refl, low, far, one_filled 1 words_of_index (c + 1) k v 0 (omega arith) (omega arith) g none, fresh));
+            (holds, refl, refl, (some, refl, low, far, one_filled 1 words_of_index (c + 1) k v 0 (omega arith) (omega arith) queue_good none, fresh));
       })
       (omega arith)
       (λ q ne. kept ro ro q (λ h. h) (λ h. h) en c kinds.Overflow k
@@ -162,25 +162,25 @@ module _ {T : Type 0} (en : Coding T) (scene : Scene T kinds.Overflow)
       (Some (record { word = read_word; op = Exchange k.read (after_position k.read) }))
       (GoOn (at (overflow_pushes.LoadsCell k.read))) (TakesOut (get_or k.cells (k.read % (c + 1)) 0))
   takes_out some far others is s =
-      let g = inv.queue.good in
-      let write = g.write in
+      let queue_good = inv.queue.good in
+      let write = queue_good.write in
       let reached = inv.queue.reached in
-      let old = oldest c k g (omega arith) in
+      let old = oldest c k queue_good (omega arith) in
       let rest = old.0 in
       let first = old.1 in
       let longer = length-append others (v ∷ []) in
       let full : length others ≡ c = (let long : length k.waiting ≡ length (others ++ v ∷ []) = ap length is in omega arith) in
       let shorter : length k.waiting ≡ suc (length rest) = ap length first in
       let list = push_over {T = T} c k.waiting others (get_or k.cells (k.read % (c + 1)) 0) v rest is full first in
-      let t : (k.read == k.read) ≡ true = grind (arith, nat_tests) in
+      let is_same : (k.read == k.read) ≡ true = grind (arith, nat_tests) in
       let next : after_position k.read ≡ k.read + 1 = omega arith in
       let moved : (after_position k.read == k.read) ≡ false = grind (arith, nat_tests) in
       let ask : Option Ask = Some (record { word = read_word; op = Exchange k.read (after_position k.read) }) in
       let after : After (QueueFlight T) (Answer T) = GoOn (at (overflow_pushes.LoadsCell k.read)) in
       let words : words_after (layout ro k) (Some (record { word = read_word; op = Exchange k.read (after_position k.read) }))
       ≡ layout ro (taken 1 words_of_index (c + 1) k rest) =
-      rw t (ap (λ n. k.write ∷ n ∷ free ro.producer ∷ free ro.consumer ∷ k.cells) next) in
-      let one : change_of (layout ro k) (Some (record { word = read_word; op = Exchange k.read (after_position k.read) })) ≡ 1 = rw (t, moved) refl in (
+      rw is_same (ap (λ n. k.write ∷ n ∷ free ro.producer ∷ free ro.consumer ∷ k.cells) next) in
+      let one : change_of (layout ro k) (Some (record { word = read_word; op = Exchange k.read (after_position k.read) })) ≡ 1 = rw (is_same, moved) refl in (
         taken 1 words_of_index (c + 1) k rest,
         words,
         record {
@@ -191,7 +191,7 @@ module _ {T : Type 0} (en : Coding T) (scene : Scene T kinds.Overflow)
           consumers = refl;
           right = (tt, (tt, tt));
           lengths = (tt, (tt, tt));
-          good = takes 1 words_of_index (c + 1) k (get_or k.cells (k.read % (c + 1)) 0) rest first g;
+          good = takes 1 words_of_index (c + 1) k (get_or k.cells (k.read % (c + 1)) 0) rest first queue_good;
           hangs =
               none_hangs T kinds.Overflow c (taken 1 words_of_index (c + 1) k rest) _
               (pending_after (k.read + 1) p ro.producer holds _ latest) (omega arith);
@@ -219,10 +219,10 @@ module _ {T : Type 0} (en : Coding T) (scene : Scene T kinds.Overflow)
       (Some (record { word = read_word; op = Exchange read (after_position read) })) (Done PoppedNone) Quiet
   gives_up read some moved s calm =
       let reached = inv.queue.reached in
-      let t : (k.read == read) ≡ false = grind (arith, nat_tests) in
+      let is_other : (k.read == read) ≡ false = grind (arith, nat_tests) in
       let ask : Option Ask = Some (record { word = read_word; op = Exchange read (after_position read) }) in (
         k,
-        rw t refl,
+        rw is_other refl,
         record {
           own = (refl, tt);
           stands = ((refl, record { moments = refl; published = sym (one_passes c (Index v) some); handed_out = refl }), tt);
@@ -257,8 +257,7 @@ module _ {T : Type 0} (en : Coding T) (scene : Scene T kinds.Overflow)
   abbrev oldest_at : ℕ → ℕ
   oldest_at read = get_or k.cells (read % (c + 1)) 0
 
-  -- the load of the cell of the read position that it has moved ends the push with the oldest
-  -- value
+  -- the load of the cell of the read position that it has moved ends the push with the oldest value
   loads_cell : (read : ℕ) → 0 < c → steps ≤ 5 → IsCalm
       → Does (Published p (Index v) ∷ HandedOut p (Index (oldest_at read))
       ∷ Acted p (Queues (PushIndex v)) (PoppedIndex (oldest_at read)) ∷ [])
@@ -335,19 +334,19 @@ module _ {T : Type 0} (en : Coding T) (scene : Scene T kinds.Overflow)
       go : (here : Bool) → (k.read == read) ≡ here → Moved (overflow_pushes.MovesRead read)
       go true e =
           let same : read ≡ k.read = grind (arith, nat_tests) in
-          let t : (k.read == k.read) ≡ true = grind (arith, nat_tests) in
+          let is_same : (k.read == k.read) ≡ true = grind (arith, nat_tests) in
           let last = knows.3 same in
           let far = knows.2 in
           let place : get_or (layout ro k) (cell_word c k.read) 0 ≡ get_or k.cells (k.read % (c + 1)) 0 =
           word_at k.write k.read (free ro.producer) (free ro.consumer) k.cells (cell_word c k.read) (k.read % (c + 1)) refl in
-          let wrote : has_written {T = T} c k p (at (overflow_pushes.MovesRead k.read)) ≡ Published p (Index v) ∷ [] = rw t refl in
+          let wrote : has_written {T = T} c k p (at (overflow_pushes.MovesRead k.read)) ≡ Published p (Index v) ∷ [] = rw is_same refl in
           let goes : after en (at (overflow_pushes.MovesRead k.read)) k.read
           ≡ GoOn (at (overflow_pushes.LoadsCell k.read)) =
-          rw t refl in
+          rw is_same refl in
           let told : effect_of en (layout ro k) (pending k.read ro.producer latest)
           (at (overflow_pushes.MovesRead k.read)) k.read
           ≡ TakesOut (get_or k.cells (k.read % (c + 1)) 0) =
-          rw (t, place) refl in
+          rw (is_same, place) refl in
           let as_seen : span_of p events
           ≡ Open (Queues (PushIndex v)) (has_written c k p (at (overflow_pushes.MovesRead k.read))) =
           subst (λ r. span_of p events ≡ Open (Queues (PushIndex v)) (has_written c k p (at (overflow_pushes.MovesRead r))))
@@ -367,16 +366,16 @@ module _ {T : Type 0} (en : Coding T) (scene : Scene T kinds.Overflow)
           let other : k.read ≢ read = grind (arith, nat_tests) in
           let low = knows.1 in
           let moved : read < k.read = omega arith in
-          let t : (read == k.read) ≡ false = grind (arith, nat_tests) in
+          let is_other : (read == k.read) ≡ false = grind (arith, nat_tests) in
           let wrote : has_written {T = T} c k p (at (overflow_pushes.MovesRead read))
           ≡ Published p (Index v) ∷ Acted p (Queues (PushIndex v)) PoppedNone ∷ [] =
-          rw t refl in
+          rw is_other refl in
           let goes : after en (at (overflow_pushes.MovesRead read)) k.read ≡ Done PoppedNone = rw e refl in
           let told : effect_of en (layout ro k) (pending k.read ro.producer latest)
           (at (overflow_pushes.MovesRead read)) k.read
           ≡ Quiet =
           rw e refl in
-          let calm = calm_at (overflow_pushes.MovesRead read) found (rw t refl) in
+          let calm = calm_at (overflow_pushes.MovesRead read) found (rw is_other refl) in
           let all =
           by_itself (Published p (Index v) ∷ Acted p (Queues (PushIndex v)) PoppedNone ∷ []) (asks_move read)
           (Done PoppedNone) Quiet (seen ∙ ap (λ es. Open (Queues (PushIndex v)) es) wrote)

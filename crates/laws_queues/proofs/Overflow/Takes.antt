@@ -36,7 +36,7 @@ module _ {T : Type 0} (en : Coding T) (scene : Scene T kinds.Overflow)
   waits = beside ro (layout ro k) latest p
 
   waits_is : waits ≡ pending k.read ro.producer latest
-  waits_is = let t : (p == p) ≡ true = grind (arith, nat_tests) in rw (holds, t) refl
+  waits_is = let is_same : (p == p) ≡ true = grind (arith, nat_tests) in rw (holds, is_same) refl
 
   abbrev Does : Option Ask → Bool → After (QueueFlight T) (Answer T) → Effect T → Type 0
   Does ask back after effect = DoesStep en kinds.Overflow scene [] Pop ask back after effect
@@ -83,8 +83,8 @@ module _ {T : Type 0} (en : Coding T) (scene : Scene T kinds.Overflow)
       -- no push is pending
       takes_alone : pending k.read ro.producer latest ≡ None → Does (asks_move k.read) false (Done answer) (HandsOut (Index value))
       takes_alone none =
-          let g = inv.queue.good in
-          let write = g.write in
+          let queue_good = inv.queue.good in
+          let write = queue_good.write in
           let few = few_wait en kinds.Overflow c k (pending k.read ro.producer latest) none inv.queue.good inv.queue.hangs in
           let list = pop_front {T = T} c k.waiting value rest first few in
           let change = one in
@@ -122,7 +122,7 @@ module _ {T : Type 0} (en : Coding T) (scene : Scene T kinds.Overflow)
               up = record { write = omega arith; read = omega arith; paid = omega arith };
               others =
                   λ q ne. kept ro ro q (λ h. h) (λ h. h) en c kinds.Overflow k after_take (record {
-                    push = λ mine w stage h. take_keeps_push c k q rest g few w stage h;
+                    push = λ mine w stage h. take_keeps_push c k q rest queue_good few w stage h;
                     pop = λ mine other stage h. absurd (clash ro.consumer p q ne holds mine);
                   });
               reached = omega arith;
@@ -236,8 +236,8 @@ module _ {T : Type 0} (en : Coding T) (scene : Scene T kinds.Overflow)
           -- the move makes room, and the push that waited for it acts with the pop
           takes_for : MovesBy (asks_move k.read) false (Done answer) (MakesRoom (Index value) q w)
           takes_for =
-              let g = inv.queue.good in
-              let write = g.write in
+              let queue_good = inv.queue.good in
+              let write = queue_good.write in
               let over = subst (Hangs T kinds.Overflow c k) hung inv.queue.hangs in
               let list = pop_room {T = T} c k.waiting over.1 value w rest some over.2 over.3 first in
               let change = one in

@@ -28,8 +28,7 @@ module _ {T : Type 0} (en : Coding T) (c : ℕ) (ro : Roles) (k : Core ℕ) (pos
 abbrev pub Pushing : Type 0
 Pushing = Running overflow_push.Push ℕ OneWord
 
--- the party `q` has a push of the value `w` under way, which waits to move the read position from
--- this one
+-- the party `q` has a push of the value `w` under way, which waits to move the read position from this one
 pub record IsPending {T : Type 0} (position : ℕ) (latest : List (ℕ × Party T)) (q w : ℕ) (x : Party T) (run : Pushing) (since : ℕ) : Type 0 where
   pub waits : pending_at position (flight_of (doing_of (party_of q latest))) ≡ Some w
   pub found : party_of q latest ≡ Some x

@@ -73,8 +73,7 @@ module _ {V : Type 0} (size : ℕ) (words_of : V → List ℕ) (c : ℕ) where
   abbrev pub Holds : List ℕ → ℕ → V → ℕ → Type 0
   Holds cells position v count = (i : ℕ) → i < count → get_or cells (size * (position % c) + i) 0 ≡ get_or (words_of v) i 0
 
-  -- so many values wait as lie between the positions, no more than there are cells, and each
-  -- stands in its own
+  -- so many values wait as lie between the positions, no more than there are cells, and each stands in its own
   pub record Good (k : Core V) : Type 0 where
     pub write : k.write ≡ k.read + length k.waiting
     pub few : length k.waiting ≤ c
@@ -94,7 +93,7 @@ module _ {V : Type 0} (size : ℕ) (words_of : V → List ℕ) (c : ℕ) where
   pub at_below : (xs : List V) (i : ℕ) (v : V) → slice_get xs i ≡ Some v → i < length xs
   at_below [] i v e = cc
   at_below (x ∷ xs) zero v e = omega arith
-  at_below (x ∷ xs) (suc i) v e = let h = at_below xs i v e in omega arith
+  at_below (x ∷ xs) (suc i) v e = omega (arith, at_below xs i v e)
 
   -- a word stored in the cell of the write position
   pub fills : (k : Core V) (at word : ℕ) → length k.waiting < c → at < size → Good k → Good (filled k at word)
@@ -142,9 +141,9 @@ module _ {V : Type 0} (size : ℕ) (words_of : V → List ℕ) (c : ℕ) where
         few = omega arith;
         cells = good.cells;
         held = λ i w e j js.
-            let at : slice_get k.waiting (suc i) ≡ Some w = rw is e in
+            let stands_there : slice_get k.waiting (suc i) ≡ Some w = rw is e in
             let place : k.read + 1 + i ≡ k.read + suc i = omega arith in
-            rw place (good.held (suc i) w at j js);
+            rw place (good.held (suc i) w stands_there j js);
       }
 
   -- the front value, read word by word

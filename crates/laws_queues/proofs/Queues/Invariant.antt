@@ -32,6 +32,7 @@ pub record Queue (V : Type 0) : Type 0 where
 abbrev pub Represents : {T V : Type 0} → Registry T → List ℕ → Queue V → Type 0
 Represents kept words s = families.Represents kept words (registries.Queues s.roles) (layout s.roles s.core)
 
+-- at most so many steps a call of a queue has taken, having turned back so often
 abbrev number : {T : Type 0} → Coding T → Flight T → ℕ → ℕ
 number en (flights.Queues flight) backs = number_of en flight backs
 number en flight backs = 0

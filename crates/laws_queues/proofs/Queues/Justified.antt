@@ -42,7 +42,7 @@ use Rattle.laws_queues.proofs.Queues.Stages.{told_after}
 use Rattle.laws_queues.proofs.Queues.Values.{Val, item}
 use Rattle.laws_queues.proofs.Ring.Kinds.{Ring, of_indices, of_values, kind_of, push}
 
--- where a pop finds nothing
+-- a pop of a bounded queue finds nothing by its load of the write position
 ring_finds : (r : Ring) (c : ℕ) → finding_none (kind_of r) c ≡ Some load_of_write
 ring_finds = grind arith
 
@@ -109,6 +109,7 @@ module _ {T : Type 0} (own : QueueKind) (t : Trace T) (turn : Turn T) (p : ℕ) 
   FindsNone (GoOn flight) = Unit {0}
   FindsNone (Done answer) = answer ≡ answers.PoppedNone
 
+  -- a pop that is done with None after such a load has acted in this turn, and rightly
   pop_acts : (after : After (QueueFlight T) (Answer T)) → FindsNone after → asked ≡ finding_none own c
       → Right (told_after p Pop Acts after) → Justified (acts_if_done p Pop (answer_in after))
   pop_acts = grind arith
@@ -174,6 +175,7 @@ module _ {T : Type 0} (own : QueueKind) (t : Trace T) (turn : Turn T) (p : ℕ) 
         flight : QueueFlight T
         flight = Overflow (overflow_pop_at c room (overflow_pops.LoadsWrite read))
 
+        -- the cases are whether the queue is empty
         finds : (b : Bool) → (old == read) ≡ b → FindsNone (after en flight old)
         finds true e = rw e refl
         finds false e = rw e tt

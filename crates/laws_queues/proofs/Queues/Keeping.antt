@@ -22,8 +22,7 @@ use Rattle.laws_queues.proofs.Queues.Knows.{has_written, RoleAt, IndexAt, ValueA
 pub clash : (o : Option ℕ) (p q : ℕ) → q ≢ p → o ≡ Some p → o ≡ Some q → ⊥
 clash o p q ne a b = let same : Some p ≡ Some q = sym a ∙ b in ne (cc)
 
--- where the queue goes from `k` to `k'`, the calls of the party `q` know what they knew: in a
--- bounded queue
+-- where the queue goes from `k` to `k'`, the calls of the party `q` know what they knew: in a bounded queue
 pub record RingKeeps {V : Type 0} (en : Coding V) (c : ℕ) (ro : Roles) (k k' : Core V) (q : ℕ) : Type 0 where
   pub push : ro.producer ≡ Some q → (v : V) (stage : pushes.PushStage) → KnowsPush en c k v stage → KnowsPush en c k' v stage
   pub pop : ro.consumer ≡ Some q → (room : List ℕ) (stage : pops.PopStage) → KnowsPop en c k room stage → KnowsPop en c k' room stage
@@ -40,7 +39,7 @@ Keeps en kinds.IndexQueue c ro k k' q = RingKeeps one_word c ro k k' q
 Keeps {T = T} en kinds.Overflow c ro k k' q = OverflowKeeps T c ro k k' q
 Keeps en kinds.Queue c ro k k' q = RingKeeps en c ro k k' q
 
--- where the queue stays
+-- pushes and pops keep what they know where the queue stays
 pub keeps_same : {T : Type 0} → (en : Coding T) (kd : QueueKind) (c : ℕ) (ro : Roles) (k : Core (Val T kd)) (q : ℕ) → Keeps en kd c ro k k q
 keeps_same en kinds.IndexQueue c ro k q = record { push = λ mine v stage h. h; pop = λ mine room stage h. h }
 keeps_same en kinds.Overflow c ro k q = record { push = λ mine v stage h. (h, refl); pop = λ mine room stage h. h }

@@ -48,6 +48,7 @@ in_one room = room.0 ∷ []
 abbrev pub in_cell : Buffer 128 → List ℕ
 in_cell room = room.words
 
+-- at most so many steps a call has taken at its stage, having turned back so often
 abbrev pub number_of : {T : Type 0} → Coding T → QueueFlight T → ℕ → ℕ
 number_of en (Role call) backs = 0
 number_of en (Indices call) backs = ring_number one_word in_one call
@@ -78,6 +79,7 @@ module _ {T : Type 0} where
 
   -- ---- what a call under way has written since its begin
 
+  -- only a push into an overflowing queue writes before its end
   abbrev pub has_written : {V : Type 0} → ℕ → Core V → ℕ → QueueFlight T → List (Event T)
   has_written c k p (Role call) = []
   has_written c k p (Indices call) = []
@@ -138,6 +140,7 @@ module _ {T : Type 0} where
 
   -- ---- where a call under way stands
 
+  -- the word of the role that a role's call is about, and who has the role where it is released
   abbrev pub RoleAt : Roles → ℕ → QueueStart T → RoleCall → Type 0
   RoleAt ro p AcquireProducer (Acquire run) = run.call.word ≡ 2
   RoleAt ro p ReleaseProducer (Release run) = (run.call.word ≡ 2) × (ro.producer ≡ Some p)
@@ -162,6 +165,7 @@ module _ {T : Type 0} where
   IndexAt kinds.Overflow c ro k p start call = ⊥
   IndexAt kinds.Queue c ro k p start call = ⊥
 
+  -- calls on values are of the bounded queue of values alone
   abbrev pub ValueAt : Coding T → (kd : QueueKind) → ℕ → Roles → Core (Val T kd) → ℕ → QueueStart T → rings.RingCall T (Buffer 128) → Type 0
   ValueAt en kinds.IndexQueue c ro k p start call = ⊥
   ValueAt en kinds.Overflow c ro k p start call = ⊥
@@ -175,6 +179,7 @@ module _ {T : Type 0} where
   OverAt kinds.Overflow c ro k p start call = OverflowAt c ro k p start call
   OverAt kinds.Queue c ro k p start call = ⊥
 
+  -- where a call of the kind stands, by what it is a call on
   abbrev pub At : Coding T → (kd : QueueKind) → ℕ → Roles → Core (Val T kd) → ℕ → QueueStart T → QueueFlight T → Type 0
   At en kd c ro k p start (Role call) = RoleAt ro p start call
   At en kd c ro k p start (Indices call) = IndexAt kd c ro k p start call

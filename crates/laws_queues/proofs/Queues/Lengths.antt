@@ -41,7 +41,7 @@ module _ {T : Type 0} (en : Coding T) (kd : QueueKind) (scene : Scene T kd) (inv
   hangs : Hangs T kd c k (pending k.read ro.producer latest)
   hangs = inv.queue.hangs
 
-  -- so many values wait now
+  -- as many values wait now as lie between the positions
   waits_now : Waited c p events k.write k.read
   waits_now =
       let long : length (map {B = Item T} (item kd) k.waiting) ≡ length k.waiting = length-map k.waiting (item kd) in
@@ -67,6 +67,7 @@ module _ {T : Type 0} (en : Coding T) (kd : QueueKind) (scene : Scene T kd) (inv
     abbrev goes_on : After Len ℕ → After (QueueFlight T) (Answer T)
     goes_on after = as_call (λ r. Length which r) (length_answer which c) (went_on {M = Unit {0}} as_it_is tt tt after)
 
+    -- a step at the stage leaves the queue as it is and leads on
     abbrev StaysAt : LenStage → Type 0
     StaysAt stage =
         Stays en kd scene start (ask_of (want en (call_at which c stage)))
@@ -82,7 +83,7 @@ module _ {T : Type 0} (en : Coding T) (kd : QueueKind) (scene : Scene T kd) (inv
         (omega arith, omega arith, omega arith)
         (λ q ne st f knows. (knows, refl))
 
-    -- so does the load of the read position
+    -- the load of the read position does what a step should
     loads_read : (write : ℕ) → steps ≤ 4 * backs + 1
         → Knows (lens.LoadsRead write)
         → StaysAt (lens.LoadsRead write)
@@ -95,8 +96,7 @@ module _ {T : Type 0} (en : Coding T) (kd : QueueKind) (scene : Scene T kd) (inv
         ((omega arith, omega arith, omega arith), λ same. rw same waits_now)
         (λ q ne st f knows. (knows, refl))
 
-    -- the second load of the write position does so: it goes on where it finds the same, and else
-    -- turns back
+    -- the second load of the write position does so: it goes on where it finds the same, and else turns back
     loads_write_again : (write read : ℕ) → steps ≤ 4 * backs + 2
         → Knows (lens.LoadsWriteAgain write read)
         → StaysAt (lens.LoadsWriteAgain write read)

@@ -51,7 +51,7 @@ hangs_same T kinds.Overflow c k k' o o' same e hangs = subst (Hangs T kinds.Over
     go None hangs = rw same hangs
     go (Some push) hangs = (hangs.0, hangs.1, same ∙ hangs.2, hangs.3)
 
--- where no push is pending
+-- few values wait where no push is pending
 pub few_wait : {T : Type 0} → (en : Coding T) (kd : QueueKind) (c : ℕ) (k : Core (Val T kd)) (o : Option (ℕ × ℕ))
     → o ≡ None → Good (encoded en kd).size (encoded en kd).words_of (cells_of kd c) k → Hangs T kd c k o
     → length k.waiting ≤ c

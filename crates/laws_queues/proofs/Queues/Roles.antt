@@ -36,8 +36,7 @@ module _ {T : Type 0} (en : Coding T) (kd : QueueKind) (scene : Scene T kd) (sma
   abbrev IsQuiet : Option ℕ → Option ℕ → Type 0
   IsQuiet pr co = IsCalm en kd (with_roles scene pr co) k.read
 
-  -- the step that asks for the producer's role shows what a step should, whoever holds the two
-  -- roles
+  -- the step that asks for the producer's role shows what a step should, whoever holds the two roles
   acquire_producer : (pr co : Option ℕ) → Inv en kd (with_roles scene pr co) → IsQuiet pr co
       → StepOf en kd (with_roles scene pr co) AcquireProducer (acquire_of producer_word)
   acquire_producer None co inv before = (
@@ -70,7 +69,7 @@ module _ {T : Type 0} (en : Coding T) (kd : QueueKind) (scene : Scene T kd) (sma
         (λ q ne st f h. (h, refl)),
   )
 
-  -- so does the step that asks for the consumer's role
+  -- the step that asks for the consumer's role shows what a step should
   acquire_consumer : (pr co : Option ℕ) → Inv en kd (with_roles scene pr co) → IsQuiet pr co
       → StepOf en kd (with_roles scene pr co) AcquireConsumer (acquire_of consumer_word)
   acquire_consumer pr None inv before = (
@@ -123,7 +122,7 @@ module _ {T : Type 0} (en : Coding T) (kd : QueueKind) (scene : Scene T kd) (sma
         (λ q ne. kept _ _ q (λ h. absurd (clash pr scene.party q ne holds h)) (λ h. h) en c kd k k (keeps_same en kd c _ k q)),
   )
 
-  -- and the one that gives the consumer's role back
+  -- the step that gives the consumer's role back shows what a step should
   release_consumer : (pr co : Option ℕ) → co ≡ Some scene.party → Inv en kd (with_roles scene pr co) → IsQuiet pr co
       → StepOf en kd (with_roles scene pr co) ReleaseConsumer (release_of consumer_word)
   release_consumer pr co holds inv before = (
@@ -141,7 +140,7 @@ module _ {T : Type 0} (en : Coding T) (kd : QueueKind) (scene : Scene T kd) (sma
         (λ q ne. kept _ _ q (λ h. h) (λ h. absurd (clash co scene.party q ne holds h)) en c kd k k (keeps_same en kd c _ k q)),
   )
 
-  -- with the holders as they are
+  -- the step that asks for the producer's role shows what it should, with the holders as they are
   pub acquires_producer : Inv en kd scene → IsCalm en kd scene k.read → StepOf en kd scene AcquireProducer (acquire_of producer_word)
   acquires_producer inv before = acquire_producer scene.roles.producer scene.roles.consumer inv before
 

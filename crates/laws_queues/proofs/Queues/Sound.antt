@@ -59,8 +59,7 @@ module _ {T : Type 0} (en : Coding T) where
       in
       ap Value (ap en.value_of same ∙ law.given_back v)
 
-  -- where the cells from a position on have the values of a list, what is stored there by the
-  -- words is that list
+  -- where the cells from a position on have the values of a list, what is stored there by the words is that list
   stored_is :
       IsCoding en → (kd : QueueKind) (c : ℕ) (words : List ℕ) (position : ℕ) (xs : List (Val T kd))
       → ((i : ℕ) (v : Val T kd) → slice_get xs i ≡ Some v → item_at en kd words (cell_of en kd c (position + i)) ≡ item kd v)
@@ -131,23 +130,24 @@ module _ {T : Type 0} (en : Coding T) where
   queue_kept : IsCoding en → (kd : QueueKind) (c : ℕ) (t : Trace T) → t.world.coding ≡ en → t.world.capacity ≡ c
       → (s : frame.Sound (family en kd c) t) → IsQueue kd t
   queue_kept law kd c t same_coding same_capacity s =
-      let w = t.world in
-      let k = s.state.core in
+      let world = t.world in
+      let core_now = s.state.core in
       let good = s.holds.good in
-      let rest : waiting_in en kd c w.words ≡ map (item kd) k.waiting = ap (waiting_in en kd c) s.fit.words ∙ stored_waiting law kd c s.state.roles k good in
-      let long : length (map {B = Item T} (item kd) k.waiting) ≡ length k.waiting = length-map k.waiting (item {T = T} kd) in
+      let rest : waiting_in en kd c world.words ≡ map (item kd) core_now.waiting =
+      ap (waiting_in en kd c) s.fit.words ∙ stored_waiting law kd c s.state.roles core_now good in
+      let long : length (map {B = Item T} (item kd) core_now.waiting) ≡ length core_now.waiting = length-map core_now.waiting (item {T = T} kd) in
       let few = good.few in
-      let read : get_or w.words 1 0 ≡ k.read = ap (λ ws. get_or ws 1 0) s.fit.words in
-      let write : get_or w.words 0 0 ≡ k.write = ap (λ ws. get_or ws 0 0) s.fit.words in
+      let read : get_or world.words 1 0 ≡ core_now.read = ap (λ ws. get_or ws 1 0) s.fit.words in
+      let write : get_or world.words 0 0 ≡ core_now.write = ap (λ ws. get_or ws 0 0) s.fit.words in
       let ahead = good.write in
-      let joined : length (published t.events) ≡ length (handed_out t.events) + length k.waiting =
-      ap length s.holds.book ∙ (length-append (handed_out t.events) (map (item kd) k.waiting) ∙ ap (λ n. length (handed_out t.events) + n) long)
+      let joined : length (published t.events) ≡ length (handed_out t.events) + length core_now.waiting =
+      ap length s.holds.book ∙ (length-append (handed_out t.events) (map (item kd) core_now.waiting) ∙ ap (λ n. length (handed_out t.events) + n) long)
       in
       let out = s.holds.out in
       record {
         list =
             rw same_capacity
-            (s.holds.stand ∙ (listed_is kd c k s.holds.good ∙ ap (take c) (sym (waiting_is t.events (map (item kd) k.waiting) s.holds.book))));
+            (s.holds.stand ∙ (listed_is kd c core_now s.holds.good ∙ ap (take c) (sym (waiting_is t.events (map (item kd) core_now.waiting) s.holds.book))));
         moments = rw same_capacity s.holds.legal;
         book =
             record {
@@ -291,10 +291,11 @@ module _ {T : Type 0} (kd : QueueKind) where
     -- a queue's machine whose run is fresh is sound
     pub sound_on : frame.Sound (family t.world.coding kd t.world.capacity) t
     sound_on =
-        let w = t.world in
-        let F = family w.coding kd w.capacity in
+        let world = t.world in
+        let F = family world.coding kd world.capacity in
         subst (frame.Sound F) (sym r.is)
-        (run_sound F IsFreshTurn (fresh_laws w.coding coded kd w.capacity) r.turns (opening w.coding w.kind w.capacity w.parties) r.fresh
+        (run_sound F IsFreshTurn (fresh_laws world.coding coded kd world.capacity) r.turns
+        (opening world.coding world.kind world.capacity world.parties) r.fresh
         (laws.opening_there (outline kd) IsFreshTurn all_turns t is coded admitted))
 
     pub kept_on : IsKept t

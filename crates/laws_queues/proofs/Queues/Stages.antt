@@ -60,7 +60,7 @@ module _ {T : Type 0} (en : Coding T) (kd : QueueKind) (scene : Scene T kd) wher
   abbrev pub party : QueueStart T → Party T
   party start = record { start = Queues start; steps = scene.steps; backs = scene.backs; doing = Over 0 }
 
-  -- and after a step that does this operation
+  -- the party as it stands after a step that does this operation
   abbrev pub party_then : QueueStart T → Option Ask → Bool → After (QueueFlight T) (Answer T) → Party T
   party_then start ask back after =
       party_after (party start) scene.since scene.changes (step_count ask) (change_of words ask)
@@ -136,6 +136,7 @@ module _ {T : Type 0} (en : Coding T) (kd : QueueKind) (scene : Scene T kd) wher
 
   -- ---- what a step owes, also where it writes events of two parties
 
+  -- a step leaves some state of the queue, of which all is so that is owed
   abbrev pub Moves : QueueStart T → Option Ask → Bool → After (QueueFlight T) (Answer T) → Effect T → Type 0
   Moves start ask back after effect =
       (k' : Core (Val T kd)) × (words_after words ask ≡ layout (roles_after p start (answer_in after) ro) k')
@@ -148,8 +149,7 @@ module _ {T : Type 0} (en : Coding T) (kd : QueueKind) (scene : Scene T kd) wher
   abbrev pub MovesOf : QueueStart T → QueueFlight T → Type 0
   MovesOf start flight = Moves start (ask_of (want en flight)) (goes_back flight (old_for flight)) (after en flight (old_for flight)) (effect_for flight)
 
-  -- a step that writes events of its own party alone shows what is asked of one that may write
-  -- those of two parties
+  -- a step that writes events of its own party alone shows what is asked of one that may write those of two parties
   pub alone :
       Inv en kd scene → (wrote : List (Event T)) (start : QueueStart T) (ask : Option Ask) (back : Bool)
       (after : After (QueueFlight T) (Answer T)) (effect : Effect T)

@@ -91,12 +91,12 @@ IsFreshRing write other = Unit {0}
 -- a call of a bounded queue that is fresh as one of any kind is fresh as one of a bounded queue
 fresh_ring : {T : Type 0} (en : Coding T) (write : ℕ) (r : Ring) (call : RingCall (Val T (kind_of r)) (Room r))
     → IsFreshAt {T = T} write (ring.flight r call) → IsFreshRing write call
-fresh_ring en write of_indices (rings.Push run) is_fresh_at_holds = is_fresh_at_holds
-fresh_ring en write of_indices (rings.Pop run) is_fresh_at_holds = tt
-fresh_ring en write of_indices (rings.Peek run) is_fresh_at_holds = tt
-fresh_ring en write of_values (rings.Push run) is_fresh_at_holds = is_fresh_at_holds
-fresh_ring en write of_values (rings.Pop run) is_fresh_at_holds = tt
-fresh_ring en write of_values (rings.Peek run) is_fresh_at_holds = tt
+fresh_ring en write of_indices (rings.Push run) is_fresh = is_fresh
+fresh_ring en write of_indices (rings.Pop run) is_fresh = tt
+fresh_ring en write of_indices (rings.Peek run) is_fresh = tt
+fresh_ring en write of_values (rings.Push run) is_fresh = is_fresh
+fresh_ring en write of_values (rings.Pop run) is_fresh = tt
+fresh_ring en write of_values (rings.Peek run) is_fresh = tt
 
 -- a bounded queue of either kind
 module _ {T : Type 0} (en : Coding T) (law : IsCoding en) (r : Ring) (scene : Scene T (kind_of r))
@@ -121,7 +121,7 @@ module _ {T : Type 0} (en : Coding T) (law : IsCoding en) (r : Ring) (scene : Sc
   push_call v (rings.Pop run) at s fresh = absurd at
   push_call v (rings.Peek run) at s fresh = absurd at
 
-  -- so does a step of a pop
+  -- a step of a pop of a bounded queue shows what a step should
   pop_call : (call : RingCall (Val T (kind_of r)) (Room r))
       → PopAt (encoded en (kind_of r)) (words_in r) scene.capacity scene.roles scene.core scene.party call
       → scene.steps ≤ ring_number (encoded en (kind_of r)) (words_in r) call → RingStep Pop call
@@ -130,7 +130,7 @@ module _ {T : Type 0} (en : Coding T) (law : IsCoding en) (r : Ring) (scene : Sc
       subst (λ n. RingStep Pop (pop_at n run.room run.call.stage)) (sym at.1) (pop_step en r law scene inv small before run.room at.0 b run.call.stage at.2 s)
   pop_call (rings.Peek run) at s = absurd at
 
-  -- and a step of a peek
+  -- a step of a peek of a bounded queue shows what a step should
   peek_call : (call : RingCall (Val T (kind_of r)) (Room r))
       → PeekAt (encoded en (kind_of r)) (words_in r) scene.capacity scene.roles scene.core scene.party call
       → scene.steps ≤ ring_number (encoded en (kind_of r)) (words_in r) call → RingStep Peek call
@@ -197,8 +197,7 @@ module _ {T : Type 0} (en : Coding T) (scene : Scene T kinds.Overflow) (small : 
   overflow_step inv start call at s b fresh is = absurd at
 
 module _ {T : Type 0} (en : Coding T) (law : IsCoding en) where
-  -- a step of any call of a queue comes to what a step should, where the call stands and knows
-  -- what it should
+  -- a step of any call of a queue comes to what a step should, where the call stands and knows what it should
   pub step_moves : (kd : QueueKind) (scene : Scene T kd) → scene.core.write < 2 ^ 64 → Inv en kd scene
       → (start : QueueStart T) (flight : QueueFlight T)
       → At en kd scene.capacity scene.roles scene.core scene.party start flight
@@ -245,6 +244,7 @@ module _ {T : Type 0} (en : Coding T) (kd : QueueKind) (c : ℕ) (t : Trace T) (
   few_turns = grind arith
 
 module _ {T : Type 0} (en : Coding T) (law : IsCoding en) (kd : QueueKind) (c : ℕ) (t : Trace T) (s : frame.Sound (family en kd c) t) (p : ℕ) where
+  -- what the machine is as the party steps
   abbrev pub scene_of : Party T → ℕ → Scene T kd
   scene_of x since =
       record {
@@ -295,21 +295,21 @@ module _ {T : Type 0} (en : Coding T) (law : IsCoding en) (kd : QueueKind) (c : 
       (party_at_begin (Queues start) (flights.Queues flight) t.world.changes)
       (Begun p (Queues start) ∷ []) t.world.changes
   begins start flight first free =
-      let y : Party T = party_at_begin (Queues start) (flights.Queues flight) t.world.changes in
-      let scene = scene_of y t.world.changes in
-      let k = s.state.core in
+      let party_after : Party T = party_at_begin (Queues start) (flights.Queues flight) t.world.changes in
+      let scene = scene_of party_after t.world.changes in
+      let core_now = s.state.core in
       let pr = s.state.roles.producer in
-      let before : pending_at k.read (flight_of (doing_of (party_of p t.world.latest))) ≡ None = ap (pending_at k.read) free in
+      let before : pending_at core_now.read (flight_of (doing_of (party_of p t.world.latest))) ≡ None = ap (pending_at core_now.read) free in
       let low = s.holds.reached in
-      let shows : Shows en kd scene s.state.roles k (span_of p t.events) y (Begun p (Queues start) ∷ []) t.world.changes =
+      let shows : Shows en kd scene s.state.roles core_now (span_of p t.events) party_after (Begun p (Queues start) ∷ []) t.world.changes =
       record {
         right = (tt, tt);
         lengths = (tt, tt);
         grants = (tt, tt);
         good = s.holds.good;
         hangs =
-            hangs_same T kd c k k _ _ refl (pending_put k.read pr p y t.world.latest first.calm before) s.holds.hangs;
-        book = append-nil (map (item kd) k.waiting);
+            hangs_same T kd c core_now core_now _ _ refl (pending_put core_now.read pr p party_after t.world.latest first.calm before) s.holds.hangs;
+        book = append-nil (map (item kd) core_now.waiting);
         out = omega arith;
         producers = refl;
         consumers = refl;
@@ -329,7 +329,7 @@ module _ {T : Type 0} (en : Coding T) (law : IsCoding en) (kd : QueueKind) (c : 
         state = s.state;
         fit = record { kept = refl; words = refl };
         holds = holds_more en kd scene _ _ _ _ _ s.holds (queue_part en kd scene _ _ _ _ _ _ shows);
-        owes = owes en kd scene _ _ _ _ _ _ shows refl (inv_of y t.world.changes);
+        owes = owes en kd scene _ _ _ _ _ _ shows refl (inv_of party_after t.world.changes);
       }
 
   -- a begin that the turns admit, and that no row refuses, comes to what the frame asks of a begin

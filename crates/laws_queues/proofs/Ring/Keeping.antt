@@ -15,7 +15,7 @@ module _ {V : Type 0} (en : Coding V) (c : ℕ) (k : Core V) where
       → KnowsPop en c (filled en.size en.words_of c k at word) room stage
   fill_keeps = grind arith
 
-  -- so does the next write position
+  -- a store of the next write position keeps what a pop knows
   pub publish_keeps : (w : V) (room : List ℕ) (stage : PopStage) → KnowsPop en c k room stage
       → KnowsPop en c (published en.size en.words_of c k w) room stage
   publish_keeps w room pops.LoadsRead knows_pop = knows_pop
@@ -32,7 +32,7 @@ module _ {V : Type 0} (en : Coding V) (c : ℕ) (k : Core V) where
   )
   publish_keeps w room (pops.StoresRead read) knows_pop = (knows_pop.0 ++ w ∷ [], knows_pop.1, ap (λ xs. xs ++ w ∷ []) knows_pop.2)
 
-  -- and the next read position what a push knows
+  -- a store of the next read position keeps what a push knows
   pub take_keeps : (v : V) (rest : List V) → k.waiting ≡ v ∷ rest → (w : V) (stage : pushes.PushStage)
       → KnowsPush en c k w stage → KnowsPush en c (taken en.size en.words_of c k rest) w stage
   take_keeps = grind arith

@@ -81,6 +81,7 @@ module _ {T : Type 0} (en : Coding T) (r : Ring) where
   ring_want (rings.Pop run) = pop_want run.call
   ring_want (rings.Peek run) = peek_want run.call
 
+  -- what a call comes to on the word that it is handed
   abbrev pub ring_after : RingCall (Val T (kind_of r)) (Room r) → ℕ → After (QueueFlight T) (Answer T)
   ring_after (rings.Push run) old =
       as_call (λ x. flight r (rings.Push x)) answers.Truth
@@ -138,18 +139,18 @@ module _ {T : Type 0} where
   pub push_here : (en : Coding T) (r : Ring) (c : ℕ) (ro : Roles) (k : Core (Val T (kind_of r))) (p : ℕ)
       (v : Val T (kind_of r)) (call : RingCall (Val T (kind_of r)) (Room r))
       → PushAt (encoded en (kind_of r)) (words_in r) c ro k p v call → At en (kind_of r) c ro k p (push r v) (flight r call)
-  push_here en of_indices c ro k p v call push_at_holds = push_at_holds
-  push_here en of_values c ro k p v call push_at_holds = push_at_holds
+  push_here en of_indices c ro k p v call standing = standing
+  push_here en of_values c ro k p v call standing = standing
 
   pub pop_here : (en : Coding T) (r : Ring) (c : ℕ) (ro : Roles) (k : Core (Val T (kind_of r))) (p : ℕ) (call : RingCall (Val T (kind_of r)) (Room r))
       → PopAt (encoded en (kind_of r)) (words_in r) c ro k p call → At en (kind_of r) c ro k p Pop (flight r call)
-  pop_here en of_indices c ro k p call pop_at_holds = pop_at_holds
-  pop_here en of_values c ro k p call pop_at_holds = pop_at_holds
+  pop_here en of_indices c ro k p call standing = standing
+  pop_here en of_values c ro k p call standing = standing
 
   pub peek_here : (en : Coding T) (r : Ring) (c : ℕ) (ro : Roles) (k : Core (Val T (kind_of r))) (p : ℕ) (call : RingCall (Val T (kind_of r)) (Room r))
       → PeekAt (encoded en (kind_of r)) (words_in r) c ro k p call → At en (kind_of r) c ro k p Peek (flight r call)
-  peek_here en of_indices c ro k p call peek_at_holds = peek_at_holds
-  peek_here en of_values c ro k p call peek_at_holds = peek_at_holds
+  peek_here en of_indices c ro k p call standing = standing
+  peek_here en of_values c ro k p call standing = standing
 
   pub ring_keeps : (en : Coding T) (r : Ring) (c : ℕ) (ro : Roles) (k k' : Core (Val T (kind_of r))) (q : ℕ)
       → RingKeeps (encoded en (kind_of r)) c ro k k' q → Keeps en (kind_of r) c ro k k' q

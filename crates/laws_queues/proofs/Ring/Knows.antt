@@ -31,6 +31,7 @@ module _ {V R : Type 0} where
 -- ---- what they know
 
 module _ {V : Type 0} (en : Coding V) where
+  -- what a push knows at each stage: its position is the queue's, its cell has been free, and what it holds so far
   abbrev pub KnowsPush : ℕ → Core V → V → PushStage → Type 0
   KnowsPush c k v pushes.LoadsWrite = Unit {0}
   KnowsPush c k v (pushes.LoadsRead write) = (write ≡ k.write) × (k.write < 2 ^ 64 - 1)

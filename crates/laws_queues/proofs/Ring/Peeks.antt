@@ -96,11 +96,11 @@ module _ {T : Type 0} (en : Coding T) (r : Ring) (law : IsCoding en) (scene : Sc
   abbrev loads_cell : ℕ → PeekStage
   loads_cell i = peeks.LoadsCell (cell_word c size k.read) i
 
-  -- the load of the write position does what a step should, where the room has place for the words
-  -- of a value
+  -- the load of the write position does what a step should, where the room has place for the words of a value
   loads_write : size ≤ length (words_in r room) → steps ≤ 1 → DoesOf (peeks.LoadsWrite k.read)
   loads_write long s = go (c == 0 || k.write == k.read) refl
     where
+      -- the cases are whether the queue has nothing to read
       go : (t : Bool) → (c == 0 || k.write == k.read) ≡ t → DoesOf (peeks.LoadsWrite k.read)
       go true t =
           let goes : ring_after en r (at (peeks.LoadsWrite k.read)) k.write ≡ Done (answers.PoppedNone) = rw t refl in
@@ -132,6 +132,7 @@ module _ {T : Type 0} (en : Coding T) (r : Ring) (law : IsCoding en) (scene : Sc
       same : words_after (layout ro k) ask ≡ layout ro k
       same = set-get_or (layout ro k) (cell_asked size c k.read i) 0
 
+      -- the cases are whether a further word of the value follows
       go : (t : Bool) → nat_lt (i + 1) size ≡ t → DoesOf (loads_cell i)
       go true t =
           let goes : ring_after en r (at (loads_cell i)) old ≡ GoOn (flight r (peek_at c next (loads_cell (i + 1)))) = rw t refl in

@@ -125,11 +125,11 @@ module _ {T : Type 0} (en : Coding T) (r : Ring) (law : IsCoding en) (scene : Sc
   abbrev loads_cell : ℕ → PopStage
   loads_cell i = pops.LoadsCell k.read (cell_word c size k.read) i
 
-  -- the load of the write position does what a step should, where the room has place for the words
-  -- of a value
+  -- the load of the write position does what a step should, where the room has place for the words of a value
   loads_write : size ≤ length (words_in r room) → steps ≤ 1 → DoesOf (pops.LoadsWrite k.read)
   loads_write long s = go (c == 0 || k.write == k.read) refl
     where
+      -- the cases are whether the queue has nothing to read
       go : (t : Bool) → (c == 0 || k.write == k.read) ≡ t → DoesOf (pops.LoadsWrite k.read)
       go true t =
           let goes : ring_after en r (at (pops.LoadsWrite k.read)) k.write ≡ Done (answers.PoppedNone) = rw t refl in
@@ -158,6 +158,7 @@ module _ {T : Type 0} (en : Coding T) (r : Ring) (law : IsCoding en) (scene : Sc
       same : words_after (layout ro k) ask ≡ layout ro k
       same = set-get_or (layout ro k) (cell_asked size c k.read i) 0
 
+      -- the cases are whether a further word of the value follows
       go : (t : Bool) → nat_lt (i + 1) size ≡ t → DoesOf (loads_cell i)
       go true t =
           let goes : ring_after en r (at (loads_cell i)) old ≡ GoOn (flight r (pop_at c next (loads_cell (i + 1)))) = rw t refl in
@@ -171,8 +172,7 @@ module _ {T : Type 0} (en : Coding T) (r : Ring) (law : IsCoding en) (scene : Sc
           subst (λ a. Does ask a Quiet) (sym goes)
           (goes_on ask next (pops.StoresRead k.read) same (loads_last en r law c ro k fits g room i known last) (omega arith))
 
-  -- the store of the next read position ends the pop with the value that was loaded, which is the
-  -- oldest that waits
+  -- the store of the next read position ends the pop with the value that was loaded, which is the oldest that waits
   stores_read : (rest : List (Val T (kind_of r))) → k.waiting ≡ read_in en r room ∷ rest → steps ≤ 2 + size → DoesOf (pops.StoresRead k.read)
   stores_read rest is s =
       let v : Val T (kind_of r) = read_in en r room in

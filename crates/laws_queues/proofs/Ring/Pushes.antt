@@ -93,8 +93,8 @@ module _ {T : Type 0} (en : Coding T) (r : Ring) (law : IsCoding en) (scene : Sc
   -- the load of the write position does what a step should
   loads_write : k.write < 2 ^ 64 - 1 → steps ≤ 0 → DoesOf pushes.LoadsWrite
   loads_write fresh s =
-      let t : (k.write == 2 ^ 64 - 1) ≡ false = grind (arith, nat_tests) in
-      let goes : ring_after en r (at pushes.LoadsWrite) k.write ≡ GoOn (flight r (at (pushes.LoadsRead k.write))) = rw t refl in
+      let not_last : (k.write == 2 ^ 64 - 1) ≡ false = grind (arith, nat_tests) in
+      let goes : ring_after en r (at pushes.LoadsWrite) k.write ≡ GoOn (flight r (at (pushes.LoadsRead k.write))) = rw not_last refl in
       subst (λ a. Does (Some load_of_write) a Quiet) (sym goes)
       (goes_on (Some load_of_write) (pushes.LoadsRead k.write) k refl refl refl g refl (refl, fresh) (omega arith) (λ q ne st f h. (h, refl)))
 
@@ -109,8 +109,8 @@ module _ {T : Type 0} (en : Coding T) (r : Ring) (law : IsCoding en) (scene : Sc
   refused lap s =
       let reached = inv.queue.reached in
       let long : length (items k.waiting) ≡ length k.waiting = length-map k.waiting (item (kind_of r)) in
-      let t : nat_lt (length (items k.waiting)) c ≡ false = grind (arith, nat_tests) in
-      let none : appended c (items k.waiting) (item (kind_of r) v) ≡ items k.waiting = rw t refl in
+      let not_below : nat_lt (length (items k.waiting)) c ≡ false = grind (arith, nat_tests) in
+      let none : appended c (items k.waiting) (item (kind_of r) v) ≡ items k.waiting = rw not_below refl in
       let most = most_push en r v (backs + 0) in
       stays (Some load_of_read) (Done (answers.Truth false)) Acts (
         k,
@@ -128,7 +128,7 @@ module _ {T : Type 0} (en : Coding T) (r : Ring) (law : IsCoding en) (scene : Sc
           out = omega arith;
           book = append-nil (items k.waiting);
           goes = list_after_push r c k.waiting v ∙ (none ∙ sym (listed_is r c k.waiting));
-          answers = list_answers_push r c k.waiting v ∙ ap (λ x. answers.Truth x ∷ []) t;
+          answers = list_answers_push r c k.waiting v ∙ ap (λ x. answers.Truth x ∷ []) not_below;
           here =
               record {
                 answer = answers.Truth false;
@@ -151,6 +151,7 @@ module _ {T : Type 0} (en : Coding T) (r : Ring) (law : IsCoding en) (scene : Sc
   loads_read : k.write < 2 ^ 64 - 1 → steps ≤ 1 → DoesOf (pushes.LoadsRead k.write)
   loads_read fresh s = go (c == 0 || distance k.write k.read == c) refl
     where
+      -- the cases are whether the queue is full
       go : (t : Bool) → (c == 0 || distance k.write k.read == c) ≡ t → DoesOf (pushes.LoadsRead k.write)
       go true t =
           let goes : ring_after en r (at (pushes.LoadsRead k.write)) k.read ≡ Done (answers.Truth false) = rw t refl in
@@ -189,8 +190,7 @@ module _ {T : Type 0} (en : Coding T) (r : Ring) (law : IsCoding en) (scene : Sc
       more : Holds size words_of c next.cells next.write v (i + 1)
       more = one_filled size words_of c k v i room below g so_far
 
-      -- the calls of the other parties stand where they stood, and have written the same, once the
-      -- value waits
+      -- the calls of the other parties stand where they stood, and have written the same, once the value waits
       others : (q : ℕ) → q ≢ p → (st : QueueStart T) (f : QueueFlight T) → At en (kind_of r) c ro k q st f
           → At en (kind_of r) c ro next q st f × (has_written {T = T} c next q f ≡ has_written c k q f)
       others q ne =
@@ -199,6 +199,7 @@ module _ {T : Type 0} (en : Coding T) (r : Ring) (law : IsCoding en) (scene : Sc
             pop = λ mine other stage h. fill_keeps (encoded en (kind_of r)) c k i word other stage h;
           }))
 
+      -- the cases are whether a further word of the value follows
       go : (t : Bool) → nat_lt (i + 1) size ≡ t → DoesOf (stores_cell i)
       go true t =
           let goes : ring_after en r (at (stores_cell i)) (get_or (layout ro k) (cell_asked size c k.write i) 0)
@@ -223,12 +224,12 @@ module _ {T : Type 0} (en : Coding T) (r : Ring) (law : IsCoding en) (scene : Sc
   stores_write fresh room whole s =
       let reached = inv.queue.reached in
       let long : length (items k.waiting) ≡ length k.waiting = length-map k.waiting (item (kind_of r)) in
-      let t : nat_lt (length (items k.waiting)) c ≡ true = grind (arith, nat_tests) in
+      let is_below : nat_lt (length (items k.waiting)) c ≡ true = grind (arith, nat_tests) in
       let next : after_position k.write ≡ k.write + 1 = omega arith in
       let moved : (after_position k.write == k.write) ≡ false = grind (arith, nat_tests) in
       let one : change_of (layout ro k) (Some (record { word = write_word; op = Store (after_position k.write) })) ≡ 1 = rw moved refl in
       let joined : items k.waiting ++ item (kind_of r) v ∷ [] ≡ items (k.waiting ++ v ∷ []) = sym (map-append (item (kind_of r)) k.waiting (v ∷ [])) in
-      let all : appended c (items k.waiting) (item (kind_of r) v) ≡ items (k.waiting ++ v ∷ []) = rw t joined in
+      let all : appended c (items k.waiting) (item (kind_of r) v) ≡ items (k.waiting ++ v ∷ []) = rw is_below joined in
       let most = most_push en r v (backs + 0) in
       let after : Core (Val T (kind_of r)) = core.published size words_of c k v in
       stays (Some (record { word = write_word; op = Store (after_position k.write) }))
@@ -270,7 +271,7 @@ module _ {T : Type 0} (en : Coding T) (r : Ring) (law : IsCoding en) (scene : Sc
           out = omega arith;
           book = joined;
           goes = list_after_push r c k.waiting v ∙ (all ∙ sym (listed_is r c (k.waiting ++ v ∷ [])));
-          answers = list_answers_push r c k.waiting v ∙ ap (λ x. answers.Truth x ∷ []) t;
+          answers = list_answers_push r c k.waiting v ∙ ap (λ x. answers.Truth x ∷ []) is_below;
           here =
               record {
                 answer = answers.Truth true;

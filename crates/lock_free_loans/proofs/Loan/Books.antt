@@ -18,19 +18,19 @@ use Rattle.lock_free_loans.specs.Loan.Places.{IsBookOf, is_out, is_sent, place_a
 
 -- what is out is within
 within : (ps : List Place) (i : ℕ) → is_out (place_at ps i) ≡ true → i < length ps
-within [] i h = absurd (true≢false (sym h))
-within (p ∷ ps) zero h = omega arith
-within (p ∷ ps) (suc i) h = let lt = within ps i h in omega arith
+within [] i out = absurd (true≢false (sym out))
+within (p ∷ ps) zero out = omega arith
+within (p ∷ ps) (suc i) out = omega (arith, within ps i out)
 
 -- what is not out is free
 pub is_free : (p : Place) → is_out p ≡ false → p ≡ Free
-is_free p is_out_false = grind arith
+is_free p not_out = grind arith
 
 -- what is sent is out
 pub sent_out : (p : Place) → is_sent p ≡ true → is_out p ≡ true
-sent_out Free h = h
-sent_out Loaned h = refl
-sent_out Sent h = refl
+sent_out Free sent = sent
+sent_out Loaned sent = refl
+sent_out Sent sent = refl
 
 -- ---- the book
 
@@ -65,7 +65,7 @@ module _ {v : View ℕ} {ps : List Place} (book : IsBookOf v ps) where
   is_loaned i w same below taken =
       record {
         long = length-set ps i Loaned ∙ (book.long ∙ sym same);
-        held = tables.is_taken Free is_out v ps book.held i Loaned (let n = book.long in omega arith) w refl taken;
+        held = tables.is_taken Free is_out v ps book.held i Loaned (omega (arith, book.long)) w refl taken;
       }
 
 -- a sender that holds nothing
@@ -74,10 +74,8 @@ book_opens v n same none =
     record {
       long = length-replicate n Free ∙ same;
       held =
-          λ i. (let was = none i in
-          let out : is_out (place_at (replicate n Free) i) ≡ false = ap is_out (get_or-replicate_all n i) in
-          let z = ap as_number out in
-          omega arith);
+          λ i. (let out : is_out (place_at (replicate n Free) i) ≡ false = ap is_out (get_or-replicate_all n i) in
+          omega (arith, none i, ap as_number out));
     }
   where
     get_or-replicate_all : (n i : ℕ) → place_at (replicate n Free) i ≡ Free
@@ -99,21 +97,21 @@ at_so_far (p ∷ ps) (suc i) = at_so_far ps i
 
 -- an index that was sent is free, and with it all below the next one that were sent
 freed_one : (ps : List Place) (i : ℕ) → is_sent (place_at ps i) ≡ true → set (so_far i ps) i Free ≡ so_far (suc i) ps
-freed_one [] zero h = absurd (true≢false (sym h))
-freed_one [] (suc i) h = absurd (true≢false (sym h))
-freed_one (Free ∷ ps) zero h = refl
-freed_one (Loaned ∷ ps) zero h = absurd (true≢false (sym h))
-freed_one (Sent ∷ ps) zero h = refl
-freed_one (p ∷ ps) (suc i) h = ap (λ z. reclaimed p ∷ z) (freed_one ps i h)
+freed_one [] zero sent = absurd (true≢false (sym sent))
+freed_one [] (suc i) sent = absurd (true≢false (sym sent))
+freed_one (Free ∷ ps) zero sent = refl
+freed_one (Loaned ∷ ps) zero sent = absurd (true≢false (sym sent))
+freed_one (Sent ∷ ps) zero sent = refl
+freed_one (p ∷ ps) (suc i) sent = ap (λ z. reclaimed p ∷ z) (freed_one ps i sent)
 
 -- where an index was not sent, all below it that were sent are all below the next one
 kept_one : (ps : List Place) (i : ℕ) → is_sent (place_at ps i) ≡ false → so_far i ps ≡ so_far (suc i) ps
-kept_one [] zero h = refl
-kept_one [] (suc i) h = refl
-kept_one (Free ∷ ps) zero h = refl
-kept_one (Loaned ∷ ps) zero h = refl
-kept_one (Sent ∷ ps) zero h = absurd (true≢false h)
-kept_one (p ∷ ps) (suc i) h = ap (λ z. reclaimed p ∷ z) (kept_one ps i h)
+kept_one [] zero not_sent = refl
+kept_one [] (suc i) not_sent = refl
+kept_one (Free ∷ ps) zero not_sent = refl
+kept_one (Loaned ∷ ps) zero not_sent = refl
+kept_one (Sent ∷ ps) zero not_sent = absurd (true≢false not_sent)
+kept_one (p ∷ ps) (suc i) not_sent = ap (λ z. reclaimed p ∷ z) (kept_one ps i not_sent)
 
 -- what is not reached yet is as it was
 pub not_reached : (ps ys : List Place) (i : ℕ) (sent : Bool) → ys ≡ so_far i ps → is_sent (place_at ys i) ≡ sent → is_sent (place_at ps i) ≡ sent
@@ -121,11 +119,11 @@ not_reached ps ys i sent e h = ap is_sent (sym (at_so_far ps i) ∙ ap (λ z. pl
 
 module _ (ps ys : List Place) (i : ℕ) (e : ys ≡ so_far i ps) (lt : i < length ps) where
   pub sent_step : is_sent (place_at ys i) ≡ true → (set ys i Free ≡ so_far (i + 1) ps) × (count_by is_sent (take (i + 1) ps) ≡ count_by is_sent (take i ps) + 1)
-  sent_step is_sent_true = grind (arith, is_sent, place_at, at_so_far, set, add-one, freed_one, count_by_more_yes)
+  sent_step sent = grind (arith, is_sent, place_at, at_so_far, set, add-one, freed_one, count_by_more_yes)
 
   pub other_step : is_sent (place_at ys i) ≡ false → (ys ≡ so_far (i + 1) ps) × (count_by is_sent (take (i + 1) ps) ≡ count_by is_sent (take i ps))
-  other_step h =
-      let there = not_reached ps ys i false e h in
+  other_step not_sent =
+      let there = not_reached ps ys i false e not_sent in
       (subst (λ n. ys ≡ so_far n ps) (sym (add-one i)) (e ∙ kept_one ps i there), count_by_more_no is_sent ps i Free lt there)
 
 pub so_far_all : (ps : List Place) → so_far (length ps) ps ≡ map reclaimed ps

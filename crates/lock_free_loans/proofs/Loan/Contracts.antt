@@ -27,8 +27,8 @@ use Rattle.lock_free_sets.proofs.Bits.Cleared.{range_more}
 -- one more, behind the others
 pub in_turn_more : (Does : ℕ → View ℕ → View ℕ → Type 0) (xs : List ℕ) (x : ℕ) (old now new : View ℕ)
     → InTurn Does xs old now → Does x now new → InTurn Does (xs ++ x ∷ []) old new
-in_turn_more Does [] x old now new same h = (new, subst (λ v. Does x v new) same h, refl)
-in_turn_more Does (y ∷ xs) x old now new each h = (each.0, each.1, in_turn_more Does xs x each.0 now new each.2 h)
+in_turn_more Does [] x old now new same does = (new, subst (λ v. Does x v new) same does, refl)
+in_turn_more Does (y ∷ xs) x old now new each does = (each.0, each.1, in_turn_more Does xs x each.0 now new each.2 does)
 
 -- ---- the set
 
@@ -41,8 +41,7 @@ begins_before p start answer wrote old new called =
       is = called.is ∙ append_assoc old.seen called.others (Begun p start ∷ (called.during ++ Finished p start answer ∷ []));
     }
 
--- what a call on the set leaves of a pass, together with what the pass has seen since, is a view
--- that goes on
+-- what a call on the set leaves of a pass, together with what the pass has seen since, is a view that goes on
 pub set_goes : (old new : Pass) → SamePass old new → IsBeginning (view old).seen (view new).seen → Goes (view old) (view new)
 set_goes old new goes since =
     record {
@@ -66,23 +65,16 @@ has_freed old new index state goes unlocked given =
 pub claims_in_turn : (is : List ℕ) (old new : View ℕ) → InTurn HasFreed is old new → (i : ℕ) → sum_by (claims i) new.made ≡ sum_by (claims i) old.made
 claims_in_turn [] old new same i = ap (λ (v : View ℕ). sum_by (claims i) v.made) same
 claims_in_turn (x ∷ xs) old new each i =
-    let here = (given_moves old each.0 i x Unlocked each.1.given).claimed in
-    let more = claims_in_turn xs each.0 new each.2 i in
-    omega arith
+    omega (arith, (given_moves old each.0 i x Unlocked each.1.given).claimed, claims_in_turn xs each.0 new each.2 i)
 
 -- an index is freed as often as it stands in the list of those that are freed in turn
 pub freed_in_turn : (is : List ℕ) (old new : View ℕ) → InTurn HasFreed is old new → (i : ℕ)
     → sum_by (frees i) new.made ≡ sum_by (frees i) old.made + times i is
 freed_in_turn [] old new same i =
     let none : times i [] ≡ 0 = refl in
-    let here = ap (λ (v : View ℕ). sum_by (frees i) v.made) same in
-    omega arith
+    omega (arith, ap (λ (v : View ℕ). sum_by (frees i) v.made) same)
 freed_in_turn (x ∷ xs) old new each i =
-    let here = (given_moves old each.0 i x Unlocked each.1.given).freed in
-    let more = freed_in_turn xs each.0 new each.2 i in
-    let all = times_both i (x ∷ []) xs in
-    let one = times_one x i in
-    omega arith
+    omega (arith, (given_moves old each.0 i x Unlocked each.1.given).freed, freed_in_turn xs each.0 new each.2 i, times_both i (x ∷ []) xs, times_one x i)
 
 -- ---- a value that came back
 
@@ -91,8 +83,7 @@ past_the_end [] y h = refl
 past_the_end (p ∷ ps) zero h = absurd (omega arith)
 past_the_end (p ∷ ps) (suc y) h = past_the_end ps y (omega arith)
 
--- ps is the table, y the value that came back; v and w are what the pass knew before that and
--- after it
+-- ps is the table, y the value that came back; v and w are what the pass knew before that and after it
 module _ (ps : List Place) (y : ℕ) (v w : View ℕ) where
   pub frees_none : is_sent (place_at ps y) ≡ false → w ≡ v → InTurn HasFreed (sent_back y ps) v w
   frees_none off same =
@@ -109,8 +100,7 @@ abbrev pub sent_below : ℕ → List Place → List ℕ
 sent_below i ps = filter (λ j. is_sent (place_at ps j)) (range_with_len 0 i)
 
 module _ (ps : List Place) (i : ℕ) where
-  -- the indices below the next one that were sent are those below this one, and this one if it was
-  -- sent
+  -- the indices below the next one that were sent are those below this one, and this one if it was sent
   next : sent_below (i + 1) ps ≡ sent_below i ps ++ cond (is_sent (place_at ps i)) (i ∷ []) []
   next =
       let same : 0 + i ≡ i = omega arith in
@@ -171,7 +161,7 @@ module _ (old now new : View ℕ) (before : Popping old now) (goes : Goes now ne
         first = first_further old.turns now.turns new.turns before.first goes.first;
         numbers = before.numbers ++ x ∷ [];
         popped = in_turn_more HasPoppedOne before.numbers x old now new before.popped popped;
-        aside = (let so_far = before.aside in let one = length-append before.numbers (x ∷ []) in omega arith);
+        aside = omega (arith, before.aside, length-append before.numbers (x ∷ []));
       }
 
 module _ (old now new : View ℕ) (before : Popping old now) where
@@ -185,7 +175,7 @@ module _ (old now new : View ℕ) (before : Popping old now) where
         popped = before.popped;
         none = popped;
         empty = found;
-        aside = (let so_far = before.aside in omega arith);
+        aside = omega (arith, before.aside);
       }
   is_emptied (Some x) none is on popped found once = absurd (true≢false (is ∙ ap not on))
 
@@ -196,14 +186,14 @@ in_turn_since (x ∷ xs) old new each =
 
 -- a queue that was emptied had nothing waiting since
 pub emptied_once : (old new : View ℕ) → HasEmptied old new → FoundNone old new
-emptied_once old new h =
-    let found = h.empty in
+emptied_once old new emptied =
+    let found = emptied.empty in
     record {
       by = found.by;
       before = found.before;
       after = found.after;
       is = found.is;
-      since = begins_further old.seen h.last.seen found.before (in_turn_since h.numbers old h.last h.popped) found.since;
+      since = begins_further old.seen emptied.last.seen found.before (in_turn_since emptied.numbers old emptied.last emptied.popped) found.since;
       empty = found.empty;
     }
 

@@ -17,7 +17,7 @@ use Rattle.history.proofs.OneRun.{first_all, first_further}
 use Rattle.lock_free_sets.specs.Driven.{HasMade}
 use Rattle.lock_free_loans.specs.Loan.Contracts.{InTurn, HasFreed, HasFreedInRun}
 
--- of such a call its begin and its end
+-- these are the begin and the end of such a call
 abbrev starts_so : ℕ → ℕ → Event ℕ
 starts_so by index = Begun by (Indices (Release index modes.Default))
 
@@ -36,8 +36,7 @@ alike : (v : View ℕ) → AreAlike v v
 alike v = record { seen = refl; made = refl; party = refl; share = refl; aside = refl }
 
 module _ {old old' new new' : View ℕ} (a : AreAlike old old') (b : AreAlike new new') where
-  -- a call from one view to another is one between views that differ from them at most in the run
-  -- that they know
+  -- a call from one view to another is one between views that differ from them at most in the run that they know
   called_alike : (p : ℕ) (start : Start ℕ) (answer : Answer ℕ) (wrote : List (Event ℕ)) → Called p start answer wrote old new
       → Called p start answer wrote old' new'
   called_alike p start answer wrote h =
@@ -52,36 +51,34 @@ module _ {old old' new new' : View ℕ} (a : AreAlike old old') (b : AreAlike ne
       }
 
   made_alike : (start : Start ℕ) (answer : Answer ℕ) (wrote : ℕ → List (Event ℕ)) → HasMade start answer wrote old new → HasMade start answer wrote old' new'
-  made_alike start answer wrote h =
-      record { by = h.by; mine = b.party ∙ h.mine; called = called_alike h.by start answer (wrote h.by) h.called }
+  made_alike start answer wrote has_made =
+      record { by = has_made.by; mine = b.party ∙ has_made.mine; called = called_alike has_made.by start answer (wrote has_made.by) has_made.called }
 
-  -- with the run that was known then
+  -- an index was freed in a run that is a beginning of the one known in the end
   freed_so : {capacity index : ℕ} (now : View ℕ) → HasFreed index old new → AreFirst old'.turns now.turns → AreFirst new'.turns now.turns
       → Knows one_word kinds.Indices capacity old' → Knows one_word kinds.Indices capacity new' → HasFreedInRun capacity index old' new'
-  freed_so {capacity} {index} now h first then before after =
+  freed_so {capacity} {index} now freed first then before after =
       record {
-        given = made_alike (Indices (Release index modes.Default)) (State Unlocked) (λ by. Freed by index ∷ []) h.given;
+        given = made_alike (Indices (Release index modes.Default)) (State Unlocked) (λ by. Freed by index ∷ []) freed.given;
         goes =
             record {
-              share = b.share ∙ (h.goes.share ∙ sym a.share);
-              since = subst (λ es. IsBeginning es new'.seen) (sym a.seen) (subst (λ es. IsBeginning old.seen es) (sym b.seen) h.goes.since);
+              share = b.share ∙ (freed.goes.share ∙ sym a.share);
+              since = subst (λ es. IsBeginning es new'.seen) (sym a.seen) (subst (λ es. IsBeginning old.seen es) (sym b.seen) freed.goes.since);
               first = less_first one_word kinds.Indices capacity old'.turns new'.turns old'.seen new'.seen now.turns first then before.is after.is less;
-              all = λ whole f. ap (sum_by f) b.seen ∙ (h.goes.all (subst IsAll b.share whole) f ∙ ap (sum_by f) (sym b.made));
+              all = λ whole f. ap (sum_by f) b.seen ∙ (freed.goes.all (subst IsAll b.share whole) f ∙ ap (sum_by f) (sym b.made));
             };
-        aside = (let here = h.aside in let was = a.aside in let now_is = b.aside in omega arith);
+        aside = omega (arith, freed.aside, a.aside, b.aside);
         knows = after;
       }
     where
       -- a free adds to what was seen
       less : length old'.seen < length new'.seen
       less =
-          let c = h.given.called in
-          let all : length new'.seen ≡ length ((old.seen ++ c.others) ++ starts_so h.given.by index ∷ (c.during ++ ends_so h.given.by index ∷ [])) =
+          let c = freed.given.called in
+          let all : length new'.seen ≡ length ((old.seen ++ c.others) ++ starts_so freed.given.by index ∷ (c.during ++ ends_so freed.given.by index ∷ [])) =
           ap length (b.seen ∙ c.is) in
-          let was = ap length a.seen in
-          let one = length-append (old.seen ++ c.others) (starts_so h.given.by index ∷ (c.during ++ ends_so h.given.by index ∷ [])) in
-          let two = length-append old.seen c.others in
-          omega arith
+          let one = length-append (old.seen ++ c.others) (starts_so freed.given.by index ∷ (c.during ++ ends_so freed.given.by index ∷ [])) in
+          omega (arith, ap length a.seen, length-append old.seen c.others)
 
 begins_in_turn : (is : List ℕ) (old new : View ℕ) → InTurn HasFreed is old new → IsBeginning old.seen new.seen
 begins_in_turn [] old new same = subst (λ (v : View ℕ). IsBeginning old.seen v.seen) (sym same) (itself old.seen)
@@ -97,23 +94,22 @@ module _ (x : ℕ) (old new : View ℕ) (h : HasFreed x old new) where
       ∙ sym (append_assoc (old.seen ++ h.given.called.others) (starts_so h.given.by x ∷ h.given.called.during) (ends_so h.given.by x ∷ []))
 
 module _ (capacity : ℕ) where
-  -- indices that are freed in turn are freed each with a run that was known then, from a view on
-  -- that knows a run
+  -- indices that are freed in turn are freed each with a run that was known then, from a view on that knows a run
   from_there : (x : ℕ) (xs : List ℕ) (old old' new : View ℕ) → AreAlike old old' → InTurn HasFreed (x ∷ xs) old new → AreFirst old'.turns new.turns
       → Knows one_word kinds.Indices capacity old' → Knows one_word kinds.Indices capacity new → InTurn (HasFreedInRun capacity) (x ∷ xs) old' new
-  from_there x [] old old' new a each first before after =
-      (new, freed_so a (alike new) new (subst (λ v. HasFreed x old v) (sym each.2) each.1) first (first_all new.turns) before after, refl)
-  from_there x (y ∷ ys) old old' new a each first before after =
+  from_there x [] old old' new are_alike each first before after =
+      (new, freed_so are_alike (alike new) new (subst (λ v. HasFreed x old v) (sym each.2) each.1) first (first_all new.turns) before after, refl)
+  from_there x (y ∷ ys) old old' new are_alike each first before after =
       let k =
       known_then one_word kinds.Indices capacity each.0 new (until_end x old each.0 each.1) each.1.given.by
       (Indices (Release x modes.Default)) (State Unlocked) after
-      (subst IsPart (a.share ∙ sym each.1.goes.share) before.asked.share)
+      (subst IsPart (are_alike.share ∙ sym each.1.goes.share) before.asked.share)
       (seen_is x old each.0 each.1) (begins_in_turn (y ∷ ys) each.0 new each.2) in
       let now : View ℕ = then_view one_word kinds.Indices capacity each.0 k.0 in
-      let b : AreAlike each.0 now = record { seen = refl; made = refl; party = refl; share = refl; aside = refl } in (
+      let alike_now : AreAlike each.0 now = record { seen = refl; made = refl; party = refl; share = refl; aside = refl } in (
         now,
-        freed_so a b new each.1 first k.1 before k.2,
-        from_there y ys each.0 now new b each.2 k.1 k.2 after,
+        freed_so are_alike alike_now new each.1 first k.1 before k.2,
+        from_there y ys each.0 now new alike_now each.2 k.1 k.2 after,
       )
 
 first_in_turn : (is : List ℕ) (old new : View ℕ) → InTurn HasFreed is old new → AreFirst old.turns new.turns

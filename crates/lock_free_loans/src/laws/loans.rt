@@ -27,7 +27,7 @@ pub fn frees_are_known()
 {}
 
 /// In a queue that was emptied nothing waited at one moment behind what its guard had seen. The lemma is `emptied_once`
-/// there.
+/// of `proofs/Loan/Contracts.antt`.
 pub fn emptied_queues_were_empty()
     ensures { (old new : View ℕ) → HasEmptied old new → FoundNone old new }
 {}

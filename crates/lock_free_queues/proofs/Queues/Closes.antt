@@ -33,8 +33,7 @@ use Rattle.lock_free_queues.proofs.Queues.Whole.{none_more}
 
 -- ---- lists by their elements
 
--- two lists of the same length are the same where each element of the first stands at its place in
--- the second
+-- two lists of the same length are the same where each element of the first stands at its place in the second
 same_list : {A : Type 0} (xs ys : List A) → length xs ≡ length ys → ((k : ℕ) (x : A) → slice_get xs k ≡ Some x → slice_get ys k ≡ Some x) → xs ≡ ys
 same_list [] [] long same = refl
 same_list [] (y ∷ ys) long same = absurd (omega arith)
@@ -92,8 +91,7 @@ coded code law IndexQueue = is_coding
 coded code law Overflow = is_coding
 coded code law Queue = law
 
--- v is what the pass knew before it read the words, l says how they were read; kd is the kind of
--- the queue
+-- v is what the pass knew before it read the words, l says how they were read; kd is the kind of the queue
 module _ {T : Type 0} (code : Coding T) (law : IsCoding code) (kd : QueueKind) (capacity : ℕ) (v : View T)
     (words : List ℕ)
     (l : LastWords code (machine_kind kd) (words_in_cells code.size kd capacity) capacity v words) where
@@ -156,29 +154,25 @@ module _ {T : Type 0} (code : Coding T) (law : IsCoding code) (kd : QueueKind) (
   pub number : taken + length (waiting moment) ≡ write
   number =
       let book = ap length list.book in
-      let both = length-append (handed_out moment) (waiting moment) in
-      let same = ap length quiet in
-      let low = write_is in
-      let out = taken_is in
-      omega arith
+      omega (arith, length-append (handed_out moment) (waiting moment), ap length quiet, write_is, taken_is)
 
   near : write ≤ taken + cells
-  near = (let all = number in let few = list.few in omega arith)
+  near = omega (arith, number, list.few)
 
   behind : taken ≤ write
-  behind = (let all = number in omega arith)
+  behind = omega (arith, number)
 
   long : length words ≡ 4 + z.size * cells
   long = l.long ∙ ap (λ n. 4 + n) (cells_are_words code kd capacity)
 
-  -- of a queue with as many cells as its capacity
+  -- the words of a queue with as many cells as its capacity represent a list
   pub fits : cells ≡ capacity → Represents z.size capacity words
   fits same =
       record {
         long = long ∙ ap (λ n. 4 + z.size * n) same;
         small = l.small;
         behind = behind;
-        near = (let n = near in omega arith);
+        near = omega (arith, near);
         fits = l.fits;
       }
 
@@ -192,10 +186,10 @@ module _ {T : Type 0} (code : Coding T) (law : IsCoding code) (kd : QueueKind) (
   module _ (i : ℕ) (x : Item T) (at : slice_get (published moment) i ≡ Some x) (high : taken ≤ i) where
     low_one : i < write
     low_one =
-        (let inside = slice_get_within (published moment) i x at in let same = ap length quiet in let low = write_is in omega arith)
+        omega (arith, slice_get_within (published moment) i x at, ap length quiet, write_is)
 
     some : 0 < cells
-    some = (let low = low_one in let n = near in omega arith)
+    some = omega (arith, low_one, near)
 
     abbrev place : ℕ → ℕ
     place k = 4 + (z.size * (i % cells) + k)
@@ -218,7 +212,7 @@ module _ {T : Type 0} (code : Coding T) (law : IsCoding code) (kd : QueueKind) (
 
     -- it has a word
     one : 0 < z.size
-    one = (let a = (coded code law kd).some in omega arith)
+    one = omega (arith, (coded code law kd).some)
 
     abbrev first_one : V
     first_one = (stood 0 one).value
@@ -229,8 +223,7 @@ module _ {T : Type 0} (code : Coding T) (law : IsCoding code) (kd : QueueKind) (
         let same : s.value ≡ first_one = item_same kd s.value first_one (sym s.is ∙ (stood 0 one).is) in
         (read_at k below).found_is ∙ (s.words k below ∙ ap (λ y. get_or (z.words_of y) k 0) same)
 
-    -- an item that was published at a position from which nobody had taken is a value that the
-    -- words have there
+    -- an item that was published at a position from which nobody had taken is a value that the words have there
     waits : Waits i x
     waits =
         let y = first_one in
@@ -250,8 +243,7 @@ module _ {T : Type 0} (code : Coding T) (law : IsCoding code) (kd : QueueKind) (
 
   -- ---- the list: these words, but that it may begin later
 
-  -- ws are words with the same cells and the same write position, and a read position that is no
-  -- lower
+  -- ws are words with the same cells and the same write position, and a read position that is no lower
   module _ (ws : List ℕ) (alike : (word : ℕ) → 4 ≤ word → slice_index ws word ≡ slice_index words word)
       (end : slice_index ws 0 ≡ write) (from : taken ≤ slice_index ws 1) (to : slice_index ws 1 ≤ write) where
     abbrev first : ℕ
@@ -270,11 +262,13 @@ module _ {T : Type 0} (code : Coding T) (law : IsCoding code) (kd : QueueKind) (
     -- before the list lie as many that wait as its read position lies above the one that was read
     pub older_are : length older ≡ first - taken
     older_are =
-        (let all = number in
-        let left = length-drop (first - taken) (waiting moment) in
-        let both = ap length (take-append-drop (first - taken) (waiting moment)) in
-        let sum = length-append older (drop (first - taken) (waiting moment)) in
-        omega arith)
+        omega (
+          arith,
+          number,
+          length-drop (first - taken) (waiting moment),
+          ap length (take-append-drop (first - taken) (waiting moment)),
+          length-append older (drop (first - taken) (waiting moment)),
+        )
 
     same_value : (i : ℕ) → value_at z.value_of z.size cells ws i ≡ value_at z.value_of z.size cells words i
     same_value i = grind (arith, words_alike)
@@ -286,19 +280,14 @@ module _ {T : Type 0} (code : Coding T) (law : IsCoding code) (kd : QueueKind) (
     rest_is : drop (first - taken) (waiting moment) ≡ map named values
     rest_is =
         same_list (drop (first - taken) (waiting moment)) (map named values)
-        (let all = number in
-        let left = length-drop (first - taken) (waiting moment) in
-        let many = values_length z.value_of z.size cells ws first count in
-        let named_many = length-map values named in
-        omega arith)
+        (omega (arith, number, length-drop (first - taken) (waiting moment), values_length z.value_of z.size cells ws first count, length-map values named))
         each
       where
-        -- an item that waits at a place behind those before the list is the list's value at that
-        -- place
+        -- an item that waits at a place behind those before the list is the list's value at that place
         each : (k : ℕ) (x : Item T) → slice_get (drop (first - taken) (waiting moment)) k ≡ Some x → slice_get (map named values) k ≡ Some x
         each k x e =
             let i : ℕ = first + k in
-            let place : i ≡ length (handed_out moment) + ((first - taken) + k) = (let out = taken_is in omega arith) in
+            let place : i ≡ length (handed_out moment) + ((first - taken) + k) = (omega (arith, taken_is)) in
             let at : slice_get (published moment) i ≡ Some x =
             ap (slice_get (published moment)) place
             ∙ (ap (λ xs. slice_get xs (length (handed_out moment) + ((first - taken) + k))) list.book
@@ -313,8 +302,7 @@ module _ {T : Type 0} (code : Coding T) (law : IsCoding code) (kd : QueueKind) (
     pub waiting_is : waiting moment ≡ older ++ map named values
     waiting_is = sym (take-append-drop (first - taken) (waiting moment)) ∙ ap (λ xs. older ++ xs) rest_is
 
-    -- the list says what a close promises of it, if with the whole share it begins at the read
-    -- position that was read
+    -- the list says what a close promises of it, if with the whole share it begins at the read position that was read
     pub closes_later : (IsAll v.share → first ≡ taken)
         → Closes named capacity v (record { capacity = capacity; first = first; values = values })
     closes_later exact =
@@ -330,13 +318,13 @@ module _ {T : Type 0} (code : Coding T) (law : IsCoding code) (kd : QueueKind) (
               let same : w.value ≡ x = item_same kd w.value x (sym w.is) in
               inr (after, value_there i (omega arith) w.low ∙ ap Some (w.there ∙ same)))
               (cases_lt i first);
-          taken = (let low = hits_grow hands_out v.seen moment since in let out = taken_is in omega arith);
+          taken = omega (arith, hits_grow hands_out v.seen moment since, taken_is);
           whole = λ all. (
             exact all ∙ (taken_is ∙ ap (λ es. length (handed_out es)) (whole_seen all)),
             subst (λ es. published es ≡ handed_out es ++ map named values) (whole_seen all)
                 (list.book
                 ∙ ap (λ xs. handed_out moment ++ xs) (waiting_is
-                ∙ ap (λ xs. xs ++ map named values) (no_element older (let none = exact all in let are = older_are in omega arith)))),
+                ∙ ap (λ xs. xs ++ map named values) (no_element older (omega (arith, exact all, older_are))))),
           );
         }
 
@@ -353,7 +341,7 @@ module _ {T : Type 0} (code : Coding T) (law : IsCoding code) (kd : QueueKind) (
   pub closes : Closes named capacity v closed
   closes = closes_later words (λ word high. refl) refl (omega arith) behind (λ all. refl)
 
-  -- as the pass stood when it had seen just that
+  -- the pass as it stood when it had seen just that shows what waits
   pub what_waits : {E : Type 0} {k : kinds.Ghosts E} {ws : Ghosts T} (pass at : Pass E T k ws) → view pass ≡ v → queue_of at ≡ queue_of pass
       → view at ≡ l.new → IsWhatWaits named pass closed
   what_waits pass at is queue there =
@@ -375,8 +363,7 @@ module _ {E T : Type 0} {k : kinds.Ghosts E} {ws : Ghosts T} (pass : Pass E T k 
   pub made_then : (token_view l.then).made ≡ (view pass).made
   made_then = ap (λ (x : View T). x.made) l.view ∙ (l.last.reading.made ∙ l.last.opening.made)
 
-  -- the pass with the seat as it stood when it had seen just what it had read up to the read
-  -- position
+  -- the pass with the seat as it stood when it had seen just what it had read up to the read position
   abbrev pub as_stood : Pass E T k ws
   as_stood =
       record {
@@ -387,5 +374,5 @@ module _ {E T : Type 0} {k : kinds.Ghosts E} {ws : Ghosts T} (pass : Pass E T k 
 -- nothing is lost until then
 pub closed_book : {T V : Type 0} (named : V → Item T) (code : Coding T) (kind : QueueKind) (capacity : ℕ) (at : List (Event T)) (q : Bounded V)
     → IsHistory code (machine_kind kind) capacity at → waiting at ≡ map named q.values → published at ≡ handed_out at ++ map named q.values
-closed_book named code kind capacity at q h waits =
-    (listed_always code capacity at kind h at [] (sym (append-nil at))).book ∙ ap (λ xs. handed_out at ++ xs) waits
+closed_book named code kind capacity at q is_history waits =
+    (listed_always code capacity at kind is_history at [] (sym (append-nil at))).book ∙ ap (λ xs. handed_out at ++ xs) waits

@@ -41,7 +41,7 @@ pushes_alone Queue = tt
 
 module _ {T : Type 0} where
   of_one : (role : Role) (before : List (Event T)) (e : Event T) → ByHolder before e → ByHolderOf role before e
-  of_one role before e by_holder_holds = grind arith
+  of_one role before e rightly_done = grind arith
 
 module _ {T : Type 0} (code : Coding T) (kd : QueueKind) where
   abbrev pub kind_here : Kind
@@ -55,37 +55,37 @@ module _ {T : Type 0} (code : Coding T) (kd : QueueKind) where
   promised capacity seen h = queue_goes_on code kd (first_view capacity) h.trace h.run
 
   pub grants : (capacity : ℕ) (seen : List (Event T)) → IsSeen capacity seen → Each GrantsRight seen
-  grants capacity seen h = subst (Each GrantsRight) (sym h.is) (promised capacity seen h).roles
+  grants capacity seen is_seen = subst (Each GrantsRight) (sym is_seen.is) (promised capacity seen is_seen).roles
 
   pub answers_right : (capacity : ℕ) (seen : List (Event T)) → IsSeen capacity seen → Each (AnswersRight capacity) seen
-  answers_right capacity seen h =
-      subst (λ es. Each (AnswersRight capacity) es) (sym h.is)
-      (subst (λ n. Each (AnswersRight n) h.trace.events) h.run.sized (promised capacity seen h).answers)
+  answers_right capacity seen is_seen =
+      subst (λ es. Each (AnswersRight capacity) es) (sym is_seen.is)
+      (subst (λ n. Each (AnswersRight n) is_seen.trace.events) is_seen.run.sized (promised capacity seen is_seen).answers)
 
   pub tells_lengths : (capacity : ℕ) (seen : List (Event T)) → IsSeen capacity seen → Each (TellsLength capacity) seen
-  tells_lengths capacity seen h =
-      subst (λ es. Each (TellsLength capacity) es) (sym h.is)
-      (subst (λ n. Each (TellsLength n) h.trace.events) h.run.sized (promised capacity seen h).lengths)
+  tells_lengths capacity seen is_seen =
+      subst (λ es. Each (TellsLength capacity) es) (sym is_seen.is)
+      (subst (λ n. Each (TellsLength n) is_seen.trace.events) is_seen.run.sized (promised capacity seen is_seen).lengths)
 
 pub by_holder : {T : Type 0} (code : Coding T) (r : Ring) (capacity : ℕ) (seen : List (Event T)) → IsSeen code (kind_of r) capacity seen → Each ByHolder seen
-by_holder code r capacity seen h = history_by_holders code r capacity seen h
+by_holder code r capacity seen is_seen = history_by_holders code r capacity seen is_seen
 
 module _ {T : Type 0} (code : Coding T) (capacity : ℕ) (seen : List (Event T)) where
   ring_marked : (r : Ring) (role : Role) → IsSeen code (kind_of r) capacity seen → Each (ByHolderOf role) seen
   ring_marked r role h before after e is = of_one role before e (by_holder code r capacity seen h before after e is)
 
   pub by_its_holder : (kd : QueueKind) (role : Role) → IsAlone kd role → IsSeen code kd capacity seen → Each (ByHolderOf role) seen
-  by_its_holder IndexQueue role alone h = ring_marked of_indices role h
-  by_its_holder Queue role alone h = ring_marked of_values role h
-  by_its_holder Overflow Producer alone h = history_by_producers code capacity seen h
-  by_its_holder Overflow Consumer alone h = absurd alone
+  by_its_holder IndexQueue role alone is_seen = ring_marked of_indices role is_seen
+  by_its_holder Queue role alone is_seen = ring_marked of_values role is_seen
+  by_its_holder Overflow Producer alone is_seen = history_by_producers code capacity seen is_seen
+  by_its_holder Overflow Consumer alone is_seen = absurd alone
 
   -- at any time what was taken out is a beginning of what was published, and so many wait at most
   pub listed_always : (kd : QueueKind) → IsSeen code kd capacity seen → (part rest : List (Event T))
       → seen ≡ part ++ rest → IsListed (most_waiting kd capacity) part
-  listed_always IndexQueue h part rest is = always_listed capacity code of_indices seen h part rest is
-  listed_always Queue h part rest is = always_listed capacity code of_values seen h part rest is
-  listed_always Overflow h part rest is = over_listed code capacity seen h part rest is
+  listed_always IndexQueue is_seen part rest is = always_listed capacity code of_indices seen is_seen part rest is
+  listed_always Queue is_seen part rest is = always_listed capacity code of_values seen is_seen part rest is
+  listed_always Overflow is_seen part rest is = over_listed code capacity seen is_seen part rest is
 
 -- ---- pushes
 
@@ -112,42 +112,41 @@ pub published_by : {T : Type 0} (code : Coding T) (kd : QueueKind) (capacity : �
     → IsSeen code kd capacity w.seen → IsAlone kd Producer
     → Called p (Queues (push_of item)) answer (Published p item ∷ rest) base w
     → ArePlain (queue_role Producer) p (rest ++ Finished p (Queues (push_of item)) answer ∷ []) → HasPublished item base w
-published_by code kd capacity base w item p answer rest h alone call plain =
-    let at = first_wrote p (Queues (push_of item)) answer (Published p item) rest base w call in
-    let all = by_its_holder code capacity w.seen kd Producer alone h in
-    let holds = all at.before at.after (Published p item) at.is in
+published_by code kd capacity base w item p answer rest is_seen alone call plain =
+    let wrote_first = first_wrote p (Queues (push_of item)) answer (Published p item) rest base w call in
+    let all = by_its_holder code capacity w.seen kd Producer alone is_seen in
+    let holds = all wrote_first.before wrote_first.after (Published p item) wrote_first.is in
     record {
       by = p;
-      before = at.before;
-      after = at.after;
-      is = at.is;
-      since = at.since;
-      next = none_since (queue_role Producer) (one_holder Producer) at all holds;
-      list = listed (queue_role Producer) (one_holder Producer) at all holds (grants code kd capacity w.seen h) refl plain;
+      before = wrote_first.before;
+      after = wrote_first.after;
+      is = wrote_first.is;
+      since = wrote_first.since;
+      next = none_since (queue_role Producer) (one_holder Producer) wrote_first all holds;
+      list = listed (queue_role Producer) (one_holder Producer) wrote_first all holds (grants code kd capacity w.seen is_seen) refl plain;
     }
 
 -- where a pop answers None nothing waited as it acted
 pub found_none : {T : Type 0} (code : Coding T) (kd : QueueKind) (capacity : ℕ) (base w : View T)
     → IsSeen code kd capacity w.seen → HasPopped None base w → FoundNone base w
-found_none code kd capacity base w h popping =
-    let p = popping.by in
-    let act = Acted p (Queues Pop) (popped_item None) in
-    let at = first_wrote p (Queues Pop) (popped_item None) act [] base w popping.called in
+found_none code kd capacity base w is_seen popping =
+    let party_there = popping.by in
+    let act = Acted party_there (Queues Pop) (popped_item None) in
+    let wrote_first = first_wrote party_there (Queues Pop) (popped_item None) act [] base w popping.called in
     record {
-      by = p;
-      before = at.before;
-      after = at.after;
-      is = at.is;
-      since = at.since;
-      empty = answers_right code kd capacity w.seen h at.before at.after act at.is;
+      by = party_there;
+      before = wrote_first.before;
+      after = wrote_first.after;
+      is = wrote_first.is;
+      since = wrote_first.since;
+      empty = answers_right code kd capacity w.seen is_seen wrote_first.before wrote_first.after act wrote_first.is;
     }
 
 pub role_alone : (r : Ring) (role : Role) → IsAlone (kind_of r) role
 role_alone of_indices role = tt
 role_alone of_values role = tt
 
--- r says whether the queue is of indices or of values; base and w are what the pass knew before a
--- call and after it
+-- r says whether the queue is of indices or of values; base and w are what the pass knew before a call and after it
 module _ {T : Type 0} (code : Coding T) (r : Ring) (capacity : ℕ) (base w : View T) (h : IsSeen code (kind_of r) capacity w.seen) where
   marked : (role : Role) → Each (ByHolderOf role) w.seen
   marked role = ring_marked code capacity w.seen r role h
@@ -156,53 +155,55 @@ module _ {T : Type 0} (code : Coding T) (r : Ring) (capacity : ℕ) (base w : Vi
     -- a push that was refused found the capacity waiting, and nobody published meanwhile
     pub was_full : HasPushed item false base w → WasFull capacity item base w
     was_full pushing =
-        let p = pushing.by in
-        let act : Event T = Acted p (Queues (push_of item)) (Truth false) in
-        let at = first_wrote p (Queues (push_of item)) (Truth false) act [] base w pushing.called in
+        let party_there = pushing.by in
+        let act : Event T = Acted party_there (Queues (push_of item)) (Truth false) in
+        let wrote_first = first_wrote party_there (Queues (push_of item)) (Truth false) act [] base w pushing.called in
         let all = by_holder code r capacity w.seen h in
-        let holds = acted_by item p false at.before (all at.before at.after act at.is) in
+        let holds = acted_by item party_there false wrote_first.before (all wrote_first.before wrote_first.after act wrote_first.is) in
         record {
-          by = p;
-          before = at.before;
-          after = at.after;
-          is = at.is;
-          since = at.since;
-          next = none_since (queue_role Producer) (one_holder Producer) at (marked Producer) holds;
-          full = full_by item p capacity at.before (answers_right code (kind_of r) capacity w.seen h at.before at.after act at.is);
+          by = party_there;
+          before = wrote_first.before;
+          after = wrote_first.after;
+          is = wrote_first.is;
+          since = wrote_first.since;
+          next = none_since (queue_role Producer) (one_holder Producer) wrote_first (marked Producer) holds;
+          full =
+              full_by item party_there capacity wrote_first.before
+              (answers_right code (kind_of r) capacity w.seen h wrote_first.before wrote_first.after act wrote_first.is);
           list =
-              listed (queue_role Producer) (one_holder Producer) at (marked Producer) holds
-              (grants code (kind_of r) capacity w.seen h) refl (plain_end item p false, tt)
+              listed (queue_role Producer) (one_holder Producer) wrote_first (marked Producer) holds
+              (grants code (kind_of r) capacity w.seen h) refl (plain_end item party_there false, tt)
               ∙ append-nil (published base.seen);
         }
 
     -- a push that was taken published its item right after all that was seen to be published
     pub has_published : HasPushed item true base w → HasPublished item base w
     has_published pushing =
-        (let p = pushing.by in
-        published_by code (kind_of r) capacity base w item p (Truth true)
-        (Acted p (Queues (push_of item)) (Truth true) ∷ []) h (role_alone r Producer) pushing.called
-        ((refl, refl), (plain_end item p true, tt)))
+        (let party_there = pushing.by in
+        published_by code (kind_of r) capacity base w item party_there (Truth true)
+        (Acted party_there (Queues (push_of item)) (Truth true) ∷ []) h (role_alone r Producer) pushing.called
+        ((refl, refl), (plain_end item party_there true, tt)))
 
   -- ---- pops
 
   -- a pop that answered None found nothing waiting, and nobody took anything out meanwhile
   pub was_empty : HasPopped None base w → WasEmpty base w
   was_empty popping =
-      let p = popping.by in
-      let act : Event T = Acted p (Queues Pop) (popped_item None) in
-      let at = first_wrote p (Queues Pop) (popped_item None) act [] base w popping.called in
+      let party_there = popping.by in
+      let act : Event T = Acted party_there (Queues Pop) (popped_item None) in
+      let wrote_first = first_wrote party_there (Queues Pop) (popped_item None) act [] base w popping.called in
       let all = by_holder code r capacity w.seen h in
-      let holds = all at.before at.after act at.is in
+      let holds = all wrote_first.before wrote_first.after act wrote_first.is in
       record {
-        by = p;
-        before = at.before;
-        after = at.after;
-        is = at.is;
-        since = at.since;
-        next = none_since (queue_role Consumer) (one_holder Consumer) at (marked Consumer) holds;
-        empty = answers_right code (kind_of r) capacity w.seen h at.before at.after act at.is;
+        by = party_there;
+        before = wrote_first.before;
+        after = wrote_first.after;
+        is = wrote_first.is;
+        since = wrote_first.since;
+        next = none_since (queue_role Consumer) (one_holder Consumer) wrote_first (marked Consumer) holds;
+        empty = answers_right code (kind_of r) capacity w.seen h wrote_first.before wrote_first.after act wrote_first.is;
         list =
-            listed (queue_role Consumer) (one_holder Consumer) at (marked Consumer) holds
+            listed (queue_role Consumer) (one_holder Consumer) wrote_first (marked Consumer) holds
             (grants code (kind_of r) capacity w.seen h) refl ((refl, refl), tt)
             ∙ append-nil (handed_out base.seen);
       }
@@ -210,20 +211,20 @@ module _ {T : Type 0} (code : Coding T) (r : Ring) (capacity : ℕ) (base w : Vi
   -- a pop that answered an item took it out right after all that was seen to be taken out
   pub has_taken_out : (item : Item T) → HasPopped (Some item) base w → HasTakenOut item base w
   has_taken_out item popping =
-      let p = popping.by in
-      let act : Event T = Acted p (Queues Pop) (popped_item (Some item)) in
-      let at = first_wrote p (Queues Pop) (popped_item (Some item)) (HandedOut p item) (act ∷ []) base w popping.called in
+      let party_there = popping.by in
+      let act : Event T = Acted party_there (Queues Pop) (popped_item (Some item)) in
+      let wrote_first = first_wrote party_there (Queues Pop) (popped_item (Some item)) (HandedOut party_there item) (act ∷ []) base w popping.called in
       let all = by_holder code r capacity w.seen h in
-      let holds = all at.before at.after (HandedOut p item) at.is in
+      let holds = all wrote_first.before wrote_first.after (HandedOut party_there item) wrote_first.is in
       record {
-        by = p;
-        before = at.before;
-        after = at.after;
-        is = at.is;
-        since = at.since;
-        next = none_since (queue_role Consumer) (one_holder Consumer) at (marked Consumer) holds;
+        by = party_there;
+        before = wrote_first.before;
+        after = wrote_first.after;
+        is = wrote_first.is;
+        since = wrote_first.since;
+        next = none_since (queue_role Consumer) (one_holder Consumer) wrote_first (marked Consumer) holds;
         list =
-            listed (queue_role Consumer) (one_holder Consumer) at (marked Consumer) holds
+            listed (queue_role Consumer) (one_holder Consumer) wrote_first (marked Consumer) holds
             (grants code (kind_of r) capacity w.seen h) refl ((refl, refl), ((refl, refl), tt));
       }
 
@@ -235,9 +236,11 @@ module _ {T : Type 0} (code : Coding T) (kd : QueueKind) where
   looked_alone role only base w looks alone some has =
       let q = looks.parties in
       let h = looks.history in
-      let by = role_by q.owner q.seat role w.seen base.made (grants code kd base.capacity w.seen h) (λ f. ap (sum_by f) (sym looks.made) ∙ q.sums f) has in
-      none_looked (queue_role role) (one_holder role) by.0 base.seen looks.mine.rest w.seen looks.mine.is
-      (by_its_holder code base.capacity w.seen kd role only h) (looks.apart alone some by.0 by.1) by.2
+      let by_this_party =
+      role_by q.owner q.seat role w.seen base.made (grants code kd base.capacity w.seen h)
+      (λ f. ap (sum_by f) (sym looks.made) ∙ q.sums f) has in
+      none_looked (queue_role role) (one_holder role) by_this_party.0 base.seen looks.mine.rest w.seen looks.mine.is
+      (by_its_holder code base.capacity w.seen kd role only h) (looks.apart alone some by_this_party.0 by_this_party.1) by_this_party.2
 
   module _ (base w : View T) (idle : base.going ≡ None) where
     -- ---- lengths
@@ -247,24 +250,31 @@ module _ {T : Type 0} (code : Coding T) (kd : QueueKind) where
         → HeldSometime p (λ part. answer ≡ length_answer which c (length (waiting part))) xs
     stood_as which p c answer xs tells_length = grind arith
 
-    -- a call on lengths that has ended answers that of the number that waited at one moment of the
-    -- call
+    -- a call on lengths that has ended answers that of the number that waited at one moment of the call
     pub measured : (which : LengthOf) (n : ℕ) (m : Unit {0})
         → Ends code (machine_kind kd) (counts_waiting which base.capacity) base n m w
         → HasMeasured which base.capacity (length_answer which base.capacity n) base w
     measured which n m ends =
-        let p = ends.party in
+        let party_now = ends.party in
         let start : Start T = Queues (length_start which) in
         let answer : Answer T = length_answer which base.capacity n in
-        let c = called code (machine_kind kd) (counts_waiting which base.capacity) base w n m idle ends in
-        let it : Called p start answer [] base w = subst (λ es. Called p start answer es base w) ends.tells c in
-        let xs : List (Event T) = (base.seen ++ it.others) ++ Begun p start ∷ it.during in
-        let last : Event T = Finished p start answer in
-        let is : w.seen ≡ xs ++ last ∷ [] = it.is ∙ sym (append_assoc (base.seen ++ it.others) (Begun p start ∷ it.during) (last ∷ [])) in
+        let called_once = called code (machine_kind kd) (counts_waiting which base.capacity) base w n m idle ends in
+        let its_call : Called party_now start answer [] base w = subst (λ es. Called party_now start answer es base w) ends.tells called_once in
+        let events_then : List (Event T) = (base.seen ++ its_call.others) ++ Begun party_now start ∷ its_call.during in
+        let last : Event T = Finished party_now start answer in
+        let is : w.seen ≡ events_then ++ last ∷ [] =
+        its_call.is ∙ sym (append_assoc (base.seen ++ its_call.others) (Begun party_now start ∷ its_call.during) (last ∷ [])) in
         let h = ends.history in
-        let told : TellsLength base.capacity xs last =
-        subst (λ k. TellsLength k xs last) h.run.sized ((promised code kd base.capacity w.seen h).lengths xs [] last (sym h.is ∙ is)) in
-        record { by = p; mine = ends.mine; called = it; before = xs; is = is; stood = stood_as which p base.capacity answer xs told }
+        let told : TellsLength base.capacity events_then last =
+        subst (λ k. TellsLength k events_then last) h.run.sized ((promised code kd base.capacity w.seen h).lengths events_then [] last (sym h.is ∙ is)) in
+        record {
+          by = party_now;
+          mine = ends.mine;
+          called = its_call;
+          before = events_then;
+          is = is;
+          stood = stood_as which party_now base.capacity answer events_then told;
+        }
 
     -- the length that a call answers is at most as many values as can wait
     pub few : (which : LengthOf) → which ≡ measures.Len → (n : ℕ) (m : Unit {0})
@@ -279,8 +289,7 @@ module _ {T : Type 0} (code : Coding T) (kd : QueueKind) where
         let last : Event T = Finished told.by (Queues (length_start measures.Len)) (length_answer measures.Len base.capacity n) in
         let is : w.seen ≡ stood.part ++ (stood.rest ++ last ∷ []) =
         told.is ∙ (ap (λ xs. xs ++ last ∷ []) stood.is ∙ append_assoc stood.part stood.rest (last ∷ [])) in
-        let low = (listed_always code base.capacity w.seen kd ends.history stood.part (stood.rest ++ last ∷ []) is).few in
-        omega arith
+        omega (arith, (listed_always code base.capacity w.seen kd ends.history stood.part (stood.rest ++ last ∷ []) is).few)
 
     pub acquired : (role : Role) (taken : Bool) (m : Unit {0}) → Ends code (machine_kind kd) (takes_role role) base taken m w → HasAcquired role taken base w
     acquired role taken m ends = grind (arith, called)
@@ -300,16 +309,16 @@ module _ {T : Type 0} (code : Coding T) (kd : QueueKind) where
         let c = left.called in
         let xs : List (Event T) = (base.seen ++ c.others) ++ Begun p start ∷ c.during in
         let last : Event T = Finished p start Done in
-        let is : w.seen ≡ xs ++ last ∷ [] = c.is ∙ sym (append_assoc (base.seen ++ c.others) (Begun p start ∷ c.during) (last ∷ [])) in
-        let holds : held role xs ≡ Some p = held_at role p xs (grants code kd base.capacity w.seen h xs [] last is) in
-        ap (flat_map (marks role)) is
+        let seen_is : w.seen ≡ xs ++ last ∷ [] = c.is ∙ sym (append_assoc (base.seen ++ c.others) (Begun p start ∷ c.during) (last ∷ [])) in
+        let holds : held role xs ≡ Some p = held_at role p xs (grants code kd base.capacity w.seen h xs [] last seen_is) in
+        ap (flat_map (marks role)) seen_is
         ∙ none_to_end (queue_role role) (one_holder role) p start base.seen c.others c.during
-        (Each-less (ByHolderOf role) xs (last ∷ []) (subst (Each (ByHolderOf role)) is (by_its_holder code base.capacity w.seen kd role only h)))
+        (Each-less (ByHolderOf role) xs (last ∷ []) (subst (Each (ByHolderOf role)) seen_is (by_its_holder code base.capacity w.seen kd role only h)))
         c.others_own c.during_own holds last (no_mark role p)
       where
         held_at : (r : Role) (p : ℕ) (xs : List (Event T)) → GrantsRight xs (Finished p (Queues (release_start r)) Done) → held r xs ≡ Some p
-        held_at Producer p xs h = h.1
-        held_at Consumer p xs h = h.1
+        held_at Producer p xs grants_right = grants_right.1
+        held_at Consumer p xs grants_right = grants_right.1
 
         no_mark : (r : Role) (p : ℕ) → marks {T = T} r (Finished p (Queues (release_start r)) Done) ≡ []
         no_mark Producer p = refl
@@ -343,8 +352,7 @@ module _ {T : Type 0} (code : Coding T) (kind : Kind) where
     later_than : (p : ℕ) (wrote last : List (Event T)) → Since p call.start wrote last base w → IsBeginning base.seen w.seen
     later_than p wrote last since = grind (arith, opened, append_assoc)
 
-    -- a call that has ended leaves the share, and a history and a run that go on from those that
-    -- were known
+    -- a call that has ended leaves the share, and a history and a run that go on from those that were known
     pub goes_on : (e : E) (m : M) → Ends code kind call base e m w → Goes base w
     goes_on e m ends =
         record {
@@ -370,14 +378,14 @@ module _ {T : Type 0} (code : Coding T) (kind : Kind) where
 
     pub aside_over : Over code kind call base e m w → w.aside ≤ base.aside + 1
     aside_over (inl ends) = aside_on call base w e m ends
-    aside_over (inr left) = (let once = left.asked in let all = left.looked.aside in omega arith)
+    aside_over (inr left) = omega (arith, left.asked, left.looked.aside)
 
-    -- and what it has seen then is a history
+    -- what the pass has seen when the call is over is a history
     pub seen_over : Over code kind call base e m w → IsHistory code kind base.capacity w.seen
     seen_over (inl ends) = ends.history
     seen_over (inr left) = left.looked.history
 
-    -- of the run that it knows
+    -- the pass knows the run when the call is over
     pub knows_over : Over code kind call base e m w → Knows code kind base.capacity w
     knows_over (inl ends) = ends.ran.knows
     knows_over (inr left) = left.looked.ran.knows

@@ -31,7 +31,7 @@ module _ (ws : List ℕ) (size capacity : ℕ) where
       ∙ (get_or-set_same (filled n) n (get_or ws (n % size) 0) 0 (omega arith) ∙ ap (λ k. get_or ws (k % size) 0) (sym same)))
       (cases_lt j n)
 
-  -- and is written again
+  -- words that are filled stay so when one of them is written again
   pub filled_again : (j : ℕ) → j < size * capacity → set (filled (size * capacity)) j (get_or ws (j % size) 0) ≡ filled (size * capacity)
   filled_again j j_below = grind (arith, set, filled_there, set_same)
 

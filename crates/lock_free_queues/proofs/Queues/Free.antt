@@ -15,8 +15,8 @@ one None = 0
 one (Some p) = 1
 
 nobody : (o : Option ℕ) → one o ≡ 0 → o ≡ None
-nobody None e = refl
-nobody (Some p) e = absurd (omega arith)
+nobody None counts_none = refl
+nobody (Some p) counts_none = absurd (omega arith)
 
 module _ {T : Type 0} where
   moves : (role : Role) (before : List (Event T)) (e : Event T) → GrantsRight before e
@@ -31,15 +31,17 @@ module _ {T : Type 0} where
       (let same : one (held role (before ++ [])) ≡ one (held role before) = ap (λ xs. one (held role xs)) (append-nil before) in
       omega arith)
   adds_up role before (e ∷ es) each =
-      let here = moves role before e (each before es e refl) in
       let longer : (before ++ e ∷ []) ++ es ≡ before ++ e ∷ es = append_assoc before (e ∷ []) es in
-      let more = adds_up role (before ++ e ∷ []) es (subst (Each GrantsRight) (sym longer) each) in
       let last : one (held role ((before ++ e ∷ []) ++ es)) ≡ one (held role (before ++ e ∷ es)) = ap (λ xs. one (held role xs)) longer in
       let next : one (held role (before ++ e ∷ [])) ≡ one (role_after role (held role before) e) =
       ap one (fold-append (role_after role) None before (e ∷ [])) in
-      let a = sum_first (takes role) e es in
-      let b = sum_first (gives role) e es in
-      omega arith
+      omega (
+        arith,
+        moves role before e (each before es e refl),
+        adds_up role (before ++ e ∷ []) es (subst (Each GrantsRight) (sym longer) each),
+        sum_first (takes role) e es,
+        sum_first (gives role) e es,
+      )
 
   pub is_free : (role : Role) (events : List (Event T)) → Each GrantsRight events
       → sum_by (takes role) events ≡ sum_by (gives role) events → held role events ≡ None
@@ -49,11 +51,10 @@ module _ {T : Type 0} where
 pub few_when_free : {T : Type 0} (code : Coding T) (capacity : ℕ) (t : Trace T)
     → IsRun code kinds.Overflow capacity t → producer_of t.events ≡ None → length (waiting t.events) ≤ capacity
 few_when_free {T} code capacity t run free =
-    let s = sound_of code capacity Overflow t run in
-    let nobody_has : s.state.roles.producer ≡ None = sym s.holds.producers ∙ free in
-    let few : length s.state.core.waiting ≤ t.world.capacity =
-    subst (λ o. Hangs T Overflow t.world.capacity s.state.core (pending s.state.core.read o t.world.latest)) nobody_has s.holds.hangs in
-    let long : length (waiting t.events) ≡ length s.state.core.waiting =
-    ap length (waiting_is t.events (map Index s.state.core.waiting) s.holds.book) ∙ length-map s.state.core.waiting Index in
-    let size = run.sized in
-    omega arith
+    let is_sound = sound_of code capacity Overflow t run in
+    let nobody_has : is_sound.state.roles.producer ≡ None = sym is_sound.holds.producers ∙ free in
+    let few : length is_sound.state.core.waiting ≤ t.world.capacity =
+    subst (λ o. Hangs T Overflow t.world.capacity is_sound.state.core (pending is_sound.state.core.read o t.world.latest)) nobody_has is_sound.holds.hangs in
+    let long : length (waiting t.events) ≡ length is_sound.state.core.waiting =
+    ap length (waiting_is t.events (map Index is_sound.state.core.waiting) is_sound.holds.book) ∙ length-map is_sound.state.core.waiting Index in
+    omega (arith, run.sized)

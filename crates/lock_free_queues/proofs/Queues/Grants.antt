@@ -9,11 +9,11 @@ module _ {T : Type 0} where
   -- what moves no role leaves it
   pub still_has : (role : Role) (es more : List (Event T)) → sum_by (takes role) more ≡ 0
       → sum_by (gives role) more ≡ 0 → HasRole role es → HasRole role (es ++ more)
-  still_has role es more takes_is_zero gives_is_zero has_role = grind (arith, sum_by-append, takes, gives)
+  still_has role es more takes_none gives_none has_role = grind (arith, sum_by-append, takes, gives)
 
   lacks_after : (role : Role) (es more : List (Event T)) → sum_by (takes role) more ≡ 0
       → sum_by (gives role) more ≡ 1 → HasRole role es → LacksRole role (es ++ more)
-  lacks_after role es more takes_is_zero gives_is_one has_role = grind (arith, sum_by-append, takes, gives)
+  lacks_after role es more takes_none gives_is_one has_role = grind (arith, sum_by-append, takes, gives)
 
   pub after_pop : (role : Role) (x : Item T) (es : List (Event T)) → HasRole role es → HasRole role (es ++ popped_once x)
   after_pop role x es has_role = grind (arith, still_has)

@@ -16,7 +16,7 @@ is_coding = grind arith
 -- a push is left out where its first load finds the last position
 pub ends_at : {V : Type 0} (words_of : V → List ℕ) (value : V) (n : ℕ) (a : Ask) (stage : pushes.PushStage)
     → push_skips stage n ≡ true → push_asks words_of stage value ≡ wants.Ask a → (a.word ≡ 0) × (n ≡ 2 ^ 64 - 1)
-ends_at words_of value n a stage push_skips_true push_asks_is = grind (arith, nat_tests)
+ends_at words_of value n a stage skips push_asks_is = grind (arith, nat_tests)
 
 abbrev pub index_of : ℕ → Item ℕ
 index_of v = Index v

@@ -20,16 +20,15 @@ use Rattle.lock_free_queues.proofs.Queues.TakenOut.{item, same_list, no_longer, 
 -- ---- all that was taken out is a merge of both
 
 one_of_two : (es : List (Event ℕ)) → by_pop es ≡ true → by_push es ≡ false
-one_of_two [] t = refl
-one_of_two (Acted p (Queues Pop) answer ∷ es) t = refl
-one_of_two (e ∷ es) t = absurd (true≢false (sym t))
+one_of_two [] is_pop = refl
+one_of_two (Acted p (Queues Pop) answer ∷ es) is_pop = refl
+one_of_two (e ∷ es) is_pop = absurd (true≢false (sym is_pop))
 
 pub few_taken : (es : List (Event ℕ)) → length (taken by_pop es) + length (taken by_push es) ≤ length (handed_out es)
 few_taken [] = omega arith
 few_taken (HandedOut p x ∷ es) = go (by_pop (events_by p es)) (by_push (events_by p es)) refl refl (few_taken es)
   where
-    -- with the next event, which takes out x, the pops and the pushes took out no more together
-    -- than was taken out
+    -- with the next event, which takes out x, the pops and the pushes took out no more together than was taken out
     go : (a b : Bool) → by_pop (events_by p es) ≡ a → by_push (events_by p es) ≡ b
         → length (taken by_pop es) + length (taken by_push es) ≤ length (handed_out es)
         → length (if a then x ∷ taken by_pop es else taken by_pop es) + length (if b then x ∷ taken by_push es else taken by_push es)
@@ -66,8 +65,8 @@ merged (e ∷ es) k = merged es k
 
 -- numbers for items
 none_of : (xs : List ℕ) → map item xs ≡ [] → xs ≡ []
-none_of [] e = refl
-none_of (x ∷ xs) e = absurd (cc)
+none_of [] no_items = refl
+none_of (x ∷ xs) no_items = absurd (cc)
 
 -- where a list of numbers as items begins with the item of z, the list of numbers begins with z
 first_of_items : (xs : List ℕ) (z : ℕ) (rest : List (Item ℕ)) → map item xs ≡ item z ∷ rest → (ws : List ℕ) × (xs ≡ z ∷ ws) × (rest ≡ map item ws)
@@ -80,13 +79,13 @@ first_of_items (x ∷ xs) z rest e =
 
 -- a merge of lists of numbers as items is one of the numbers
 pub numbers_merge : (xs ys zs : List ℕ) → Merges (map item xs) (map item ys) (map item zs) → Merges xs ys zs
-numbers_merge xs ys [] h = (none_of xs h.0, none_of ys h.1)
+numbers_merge xs ys [] merges = (none_of xs merges.0, none_of ys merges.1)
 numbers_merge xs ys (z ∷ zs) (inl h) =
-    let it = first_of_items xs z h.0 h.1 in
-    inl (it.0, it.1, numbers_merge it.0 ys zs (subst (λ rest. Merges rest (map item ys) (map item zs)) it.2 h.2))
+    let first_item = first_of_items xs z h.0 h.1 in
+    inl (first_item.0, first_item.1, numbers_merge first_item.0 ys zs (subst (λ rest. Merges rest (map item ys) (map item zs)) first_item.2 h.2))
 numbers_merge xs ys (z ∷ zs) (inr h) =
-    let it = first_of_items ys z h.0 h.1 in
-    inr (it.0, it.1, numbers_merge xs it.0 zs (subst (λ rest. Merges (map item xs) rest (map item zs)) it.2 h.2))
+    let first_item = first_of_items ys z h.0 h.1 in
+    inr (first_item.0, first_item.1, numbers_merge xs first_item.0 zs (subst (λ rest. Merges (map item xs) rest (map item zs)) first_item.2 h.2))
 
 -- ---- both joined, and what waited is popped
 
@@ -121,23 +120,20 @@ module _ (n : ℕ) (role : Role) (all back came new : List ℕ) (v left right a 
   -- how much was pushed, and taken out
   puts_all : sum_by puts u.made ≡ sum_by puts a.made
   puts_all =
-      let drains = drain.popped.done.puts_more in
-      let takes = (done_acquired z k role true acquired).puts_more in
       let both : sum_by puts z.made ≡ sum_by puts a.made + sum_by puts b.made = ap (sum_by puts) h.made ∙ sum_by-append puts a.made b.made in
       let theirs : sum_by puts right.made ≡ 0 = ap (sum_by puts) cut.right_made in
-      let pops = r.done.puts_more in
-      omega arith
+      omega (arith, drain.popped.done.puts_more, (done_acquired z k role true acquired).puts_more, r.done.puts_more)
 
   mine : sum_by puts left.made ≡ 0
   mine = ap (sum_by puts) cut.made ∙ ap (λ (t : View ℕ). sum_by puts t.made) opens
 
   pushed : HasPushedAll all back left a
-  pushed = s.all (let low = seen_later a u since in let size = counted.0 in let few = s.few in let one = puts_all in let start = mine in omega arith)
+  pushed = s.all (let low = seen_later a u since in omega (arith, counted.0, s.few, puts_all, mine))
 
   all_published : published u.seen ≡ map Index all
   all_published =
       only_these publishes Index all (length all) (length back) left a u.seen (ap published fresh_left) pushed.added since
-      (let size = counted.0 in let one = puts_all in let start = mine in let put = pushed.added.done.puts_more in omega arith)
+      (omega (arith, counted.0, puts_all, mine, pushed.added.done.puts_more))
 
   emptied : handed_out u.seen ≡ published u.seen
   emptied = drain.emptied whole goes.all
@@ -146,14 +142,10 @@ module _ (n : ℕ) (role : Role) (all back came new : List ℕ) (v left right a 
   gets_all : length (handed_out u.seen) ≡ length back + (length came + length drain.more)
   gets_all =
       let size = counted.1 in
-      let drains = drain.popped.done.gets_more in
-      let takes = (done_acquired z k role true acquired).gets_more in
       let both : sum_by gets z.made ≡ sum_by gets a.made + sum_by gets b.made = ap (sum_by gets) h.made ∙ sum_by-append gets a.made b.made in
       let ours : sum_by gets left.made ≡ 0 = ap (sum_by gets) cut.made ∙ ap (λ (t : View ℕ). sum_by gets t.made) opens in
       let theirs : sum_by gets right.made ≡ 0 = ap (sum_by gets) cut.right_made in
-      let pushes = pushed.added.done.gets_more in
-      let pops = r.done.gets_more in
-      omega arith
+      omega (arith, drain.popped.done.gets_more, (done_acquired z k role true acquired).gets_more, pushed.added.done.gets_more, r.done.gets_more)
 
   -- what each had stands in what its calls took out
   in_pushes : StandIn (map Index back) (taken by_push u.seen)
@@ -161,8 +153,7 @@ module _ (n : ℕ) (role : Role) (all back came new : List ℕ) (v left right a 
       subst (λ es. StandIn (map Index back) (taken by_push es)) (sym since.is)
       (grows by_push push_lasts (map Index back) a.seen since.rest (pushed.returned [] tt))
 
-  -- the numbers that were popped, before and after both were joined, stand in their order in what
-  -- pops took out
+  -- the numbers that were popped, before and after both were joined, stand in their order in what pops took out
   in_pops : StandIn (map Index came ++ map Index drain.more) (taken by_pop u.seen)
   in_pops =
       let on = begins_further _ _ _ h.others goes.since in
@@ -175,44 +166,33 @@ module _ (n : ℕ) (role : Role) (all back came new : List ℕ) (v left right a 
       × (length (map {B = Item ℕ} Index came ++ map Index drain.more) ≡ length came + length drain.more)
   sizes = (
     length_named item back,
-    (let e = length-append (map {B = Item ℕ} Index came) (map Index drain.more) in
-        let x = length_named item came in
-        let y = length_named item drain.more in
-        omega arith),
+    (omega (arith, length-append (map {B = Item ℕ} Index came) (map Index drain.more), length_named item came, length_named item drain.more)),
   )
 
   -- the numbers that pushes handed back are all that pushes took out
   all_pushes : map Index back ≡ taken by_push u.seen
   all_pushes =
       same_list (map Index back) (taken by_push u.seen) in_pushes
-      (let x = sizes.0 in
-      let y = sizes.1 in
-      let low = no_longer _ _ in_pops in
+      (let low = no_longer _ _ in_pops in
       let few = few_taken u.seen in
       let all = gets_all in
-      omega arith)
+      omega (arith, sizes.0, sizes.1))
 
   -- the numbers that were popped, before and after both were joined, are all that pops took out
   all_pops : map Index came ++ map Index drain.more ≡ taken by_pop u.seen
   all_pops =
       same_list (map Index came ++ map Index drain.more) (taken by_pop u.seen) in_pops
-      (let x = sizes.0 in
-      let y = sizes.1 in
-      let low = no_longer _ _ in_pushes in
+      (let low = no_longer _ _ in_pushes in
       let few = few_taken u.seen in
       let all = gets_all in
-      omega arith)
+      omega (arith, sizes.0, sizes.1))
 
-  -- so what was pushed is a merge of both
+  -- what was pushed is a merge of what came and what was handed back
   pub overflowed : Merges new back all
   overflowed =
       let both =
-      merged u.seen (let x = sizes.0 in
-      let y = sizes.1 in
-      let p = ap length all_pops in
-      let q = ap length all_pushes in
-      let all = gets_all in
-      omega arith) in
+      merged u.seen (let all = gets_all in
+      omega (arith, sizes.0, sizes.1, ap length all_pops, ap length all_pushes)) in
       let pops : taken by_pop u.seen ≡ map item new = sym all_pops ∙ (sym (map-append Index came drain.more) ∙ ap (map item) (sym drain.numbers)) in
       numbers_merge new back all
       (subst (λ zs. Merges (map item new) (map item back) zs) (emptied ∙ all_published)

@@ -19,8 +19,7 @@ module _ (capacity : ℕ) (small : capacity < 2 ^ 32) (position : ℕ) (fits : p
   zeros : (words : List ℕ) → words ≡ words_with (replicate capacity 0) → words ≡ words_with (filled (0 ∷ []) 1 capacity (1 * min position capacity))
   zeros words same = same ∙ ap words_with (sym (zeros_stay capacity (1 * min position capacity)))
 
-  -- a queue of numbers of any kind opens as its machine, with zeros in its cells and both
-  -- positions at a position
+  -- a queue of numbers of any kind opens as its machine, with zeros in its cells and both positions at a position
   opens : (kd : QueueKind) (words : List ℕ) → words ≡ words_with (replicate (words_in_cells 1 kd capacity) 0)
       → IsMachine one_word (machine_kind kd) capacity (opening words [] (opened_by one_word kd capacity position))
   opens IndexQueue words same = queue_opens one_word is_coding of_indices 0 capacity small position fits words (zeros words same)
@@ -29,7 +28,7 @@ module _ (capacity : ℕ) (small : capacity < 2 ^ 32) (position : ℕ) (fits : p
       let one : 1 * capacity ≡ capacity = omega arith in
       queue_opens one_word is_coding of_values 0 capacity small position fits words (zeros words (same ∙ ap (λ n. words_with (replicate n 0)) one))
 
-  -- and its first pass knows the run that led there
+  -- the first pass of the queue knows the run that led there
   pub numbers_know : (kd : QueueKind) → Knows one_word (machine_kind kd) capacity (opened_by one_word kd capacity position)
   numbers_know IndexQueue = queue_knows one_word is_coding of_indices 0 capacity small position fits
   numbers_know Overflow = over_knows one_word is_coding capacity small position fits

@@ -43,8 +43,7 @@ use Rattle.lock_free_queues.proofs.Queues.Single.{wide_is, fresh_long}
 
 -- ---- the calls of the one party
 
--- r says whether it is a queue of indices or of values, v is the value that is pushed and popped
--- again and again
+-- r says whether it is a queue of indices or of values, v is the value that is pushed and popped again and again
 module _ {T : Type 0} (code : Coding T) (law : IsCoding code) (r : Ring) (v : Val T (kind_of r)) (capacity : ℕ) (small : capacity < 2 ^ 32) where
   abbrev size : ℕ
   size = words_of_cell code.size (kind_of r)
@@ -56,10 +55,10 @@ module _ {T : Type 0} (code : Coding T) (law : IsCoding code) (r : Ring) (v : Va
   ws = (encoded code (kind_of r)).words_of v
 
   some : 1 ≤ size
-  some = (let a = (are_words code r law).some in let b = wide_is code r in omega arith)
+  some = omega (arith, (are_words code r law).some, wide_is code r)
 
   few : size ≤ 128
-  few = (let a = (are_words code r law).few in let b = wide_is code r in omega arith)
+  few = omega (arith, (are_words code r law).few, wide_is code r)
 
   ws_long : length ws ≡ size
   ws_long = (are_words code r law).sized v ∙ wide_is code r
@@ -131,8 +130,8 @@ module _ {T : Type 0} (code : Coding T) (law : IsCoding code) (r : Ring) (v : Va
       → IsFreshCall (slice_index words a.word) flight → (words' : List ℕ)
       → slice_set words a.word (written a.op (slice_index words a.word)) ≡ words'
       → GoesOn code capacity flight next (slice_index words a.word) → Here words' (ts ++ Next 0 ∷ []) es (Some (start, next))
-  step words ts es start flight next a h low asks finds words' same goes =
-      alone.goes_on machine words ts es start flight h a low asks finds
+  step words ts es start flight next a here low asks finds words' same goes =
+      alone.goes_on machine words ts es start flight here a low asks finds
       words' next same goes.comes goes.quiet
 
   -- n is the position of the next push and pop, ts are the turns so far, es the events so far
@@ -172,28 +171,28 @@ module _ {T : Type 0} (code : Coding T) (law : IsCoding code) (r : Ring) (v : Va
       stored k k_below_size = grind (arith, place_low, word_at, place_is, set_left)
 
       word_low : (k : ℕ) → k < size → word_at cell k < 4 + size * capacity
-      word_low k below = (let is = place_is k below in let inside = place_low k below in omega arith)
+      word_low k below = omega (arith, place_is k below, place_low k below)
 
       -- the push stores the words of its value from word k of the cell on, one turn for each, and
       -- then stands at its last store
       fills : (us : List (Turn T)) (xs : List (Event T)) (rest k : ℕ) → k + suc rest ≡ size → Here (now k) us xs (Some (name, storing k))
           → Here (now size) (then_next us (suc rest)) xs (Some (name, pushing r v capacity (pushes.StoresWrite n)))
-      fills us xs zero k sum h =
+      fills us xs zero k sum here =
           let t = at_last k size (omega arith) in
           let same : suc k ≡ size = omega arith in
           subst (λ m. Here (now m) (us ++ Next 0 ∷ []) xs (Some (name, pushing r v capacity (pushes.StoresWrite n)))) same
           (step (now k) us xs name (storing k) (pushing r v capacity (pushes.StoresWrite n))
-          (record { word = word_at cell k; op = Store (get_or ws k 0) }) h (word_low k (omega arith))
+          (record { word = word_at cell k; op = Store (get_or ws k 0) }) here (word_low k (omega arith))
           (push_wants code capacity r v (pushes.StoresCell n cell k))
           (push_fresh code capacity r v (slice_index (now k) (word_at cell k)) (pushes.StoresCell n cell k) tt)
           (now (suc k)) (stored k (omega arith))
           (push_stores_last code capacity r v n cell k (slice_index (now k) (word_at cell k)) t))
-      fills us xs (suc rest) k sum h =
+      fills us xs (suc rest) k sum here =
           let t = before_last k size (omega arith) in
           let same : k + 1 ≡ suc k = omega arith in
           fills (us ++ Next 0 ∷ []) xs rest (suc k) (omega arith) (subst (λ m. Here (now (suc k)) (us ++ Next 0 ∷ []) xs (Some (name, storing m))) same
           (step (now k) us xs name (storing k) (storing (k + 1))
-          (record { word = word_at cell k; op = Store (get_or ws k 0) }) h (word_low k (omega arith))
+          (record { word = word_at cell k; op = Store (get_or ws k 0) }) here (word_low k (omega arith))
           (push_wants code capacity r v (pushes.StoresCell n cell k))
           (push_fresh code capacity r v (slice_index (now k) (word_at cell k)) (pushes.StoresCell n cell k) tt)
           (now (suc k)) (stored k (omega arith))
@@ -203,21 +202,21 @@ module _ {T : Type 0} (code : Coding T) (law : IsCoding code) (r : Ring) (v : Va
       -- n, moves the write position on, and publishes the value
       pushed : HasRole Producer es → Here (now 0) ts es None
           → Here (words_at (n + 1) n 0 0 (cells size)) (moved_turns size name ts) (es ++ pushed_once (Truth true) it) None
-      pushed has h =
+      pushed has here =
           let xs = es ++ Begun 0 name ∷ [] in
           let ts1 = ts ++ Begin 0 name ∷ [] in
           let ts2 = ts1 ++ Next 0 ∷ [] in
           let ts3 = ts2 ++ Next 0 ∷ [] in
-          let a =
+          let begun_so =
           alone.begins machine push_call (first_push capacity) tt
-          (now 0) ts es h
+          (now 0) ts es here
           (role_starts code (kind_of r) (maker ts es) push_call (push_of it) (first_push capacity) tt refl
           (λ kept. push_named code capacity r v kept) Producer (λ o p. tt)
-          (λ roles p is. push_lacks code capacity r v roles p is) has h.u same_seat 0 h.between.run refl refl
-          (sums (now 0) ts es h)) in
+          (λ roles p is. push_lacks code capacity r v roles p is) has here.u same_seat 0 here.between.run refl refl
+          (sums (now 0) ts es here)) in
           let b =
           step (now 0) ts1 xs name (pushing r v capacity pushes.LoadsWrite)
-          (pushing r v capacity (pushes.LoadsRead n)) (record { word = 0; op = Load }) a (omega arith)
+          (pushing r v capacity (pushes.LoadsRead n)) (record { word = 0; op = Load }) begun_so (omega arith)
           (push_wants code capacity r v pushes.LoadsWrite)
           (push_fresh code capacity r v n pushes.LoadsWrite below_end) (now 0) refl
           (push_loads_write code capacity r v n (not_last n below_end)) in
@@ -227,7 +226,7 @@ module _ {T : Type 0} (code : Coding T) (law : IsCoding code) (r : Ring) (v : Va
           (push_wants code capacity r v (pushes.LoadsRead n))
           (push_fresh code capacity r v n (pushes.LoadsRead n) tt) (now 0) refl
           (push_loads_read code capacity r v n none (not_full n capacity (omega arith) room)) in
-          let d = fills ts3 xs (size - 1) 0 (let one = some in omega arith) c in
+          let d = fills ts3 xs (size - 1) 0 (omega (arith, some)) c in
           let e =
           alone.ends machine (now size) (then_next ts3 (suc (size - 1))) xs name
           (pushing r v capacity (pushes.StoresWrite n)) d
@@ -247,8 +246,7 @@ module _ {T : Type 0} (code : Coding T) (law : IsCoding code) (r : Ring) (v : Va
     room_at zero = fresh r
     room_at (suc k) = with_word r (room_at k) k (get_or ws k 0)
 
-    -- a room into which the first k words were read has these words first, and behind them what it
-    -- had
+    -- a room into which the first k words were read has these words first, and behind them what it had
     room_is : (k : ℕ) → k ≤ size → words_in r (room_at k) ≡ mix k ws (words_in r (fresh r))
     room_is zero low = refl
     room_is (suc k) low =
@@ -290,13 +288,13 @@ module _ {T : Type 0} (code : Coding T) (law : IsCoding code) (r : Ring) (v : Va
           ∙ (get_or_append_left cells (0 ∷ []) 0 (place k) (omega arith) ∙ has k below)
 
       then_low : (k : ℕ) → k < size → word_at cell k < 4 + size * capacity
-      then_low k below = (let is = place_is k below in let inside = place_low k below in omega arith)
+      then_low k below = omega (arith, place_is k below, place_low k below)
 
       -- the pop loads the words of the cell from word k on, one turn for each, and then stands at
       -- its store of the read position
       loads : (us : List (Turn T)) (xs : List (Event T)) (rest k : ℕ) → k + suc rest ≡ size → Here then us xs (Some (Queues Pop, loading k))
           → Here then (then_next us (suc rest)) xs (Some (Queues Pop, last_of))
-      loads us xs zero k sum h =
+      loads us xs zero k sum here =
           let t = at_last k size (omega arith) in
           let same : suc k ≡ size = omega arith in
           let below : k < size = omega arith in
@@ -306,12 +304,12 @@ module _ {T : Type 0} (code : Coding T) (law : IsCoding code) (r : Ring) (v : Va
           (found_is k below)
           (step then us xs (Queues Pop) (loading k)
           (popping r capacity (pops.StoresRead n) (with_word r (room_at k) k (slice_index then (word_at cell k))))
-          (record { word = word_at cell k; op = Load }) h (then_low k below)
+          (record { word = word_at cell k; op = Load }) here (then_low k below)
           (pop_wants code capacity r (pops.LoadsCell n cell k) (room_at k))
           (pop_fresh code capacity r (slice_index then (word_at cell k)) (pops.LoadsCell n cell k) (room_at k))
           then (set_same then (word_at cell k))
           (pop_loads_last code capacity r n cell k (slice_index then (word_at cell k)) (room_at k) t)))
-      loads us xs (suc rest) k sum h =
+      loads us xs (suc rest) k sum here =
           let t = before_last k size (omega arith) in
           let same : k + 1 ≡ suc k = omega arith in
           let below : k < size = omega arith in
@@ -323,7 +321,7 @@ module _ {T : Type 0} (code : Coding T) (law : IsCoding code) (r : Ring) (v : Va
           (step then us xs (Queues Pop) (loading k)
           (popping r capacity (pops.LoadsCell n cell (k + 1))
           (with_word r (room_at k) k (slice_index then (word_at cell k))))
-          (record { word = word_at cell k; op = Load }) h (then_low k below)
+          (record { word = word_at cell k; op = Load }) here (then_low k below)
           (pop_wants code capacity r (pops.LoadsCell n cell k) (room_at k))
           (pop_fresh code capacity r (slice_index then (word_at cell k)) (pops.LoadsCell n cell k) (room_at k))
           then (set_same then (word_at cell k))
@@ -333,20 +331,20 @@ module _ {T : Type 0} (code : Coding T) (law : IsCoding code) (r : Ring) (v : Va
       -- the cell, moves the read position on, and takes the value out
       popped : HasRole Consumer es → Here then ts es None
           → Here (words_at (n + 1) (n + 1) 0 0 cells) (moved_turns size (Queues Pop) ts) (es ++ popped_once it) None
-      popped role h =
+      popped role here =
           let xs = es ++ Begun 0 (Queues Pop) ∷ [] in
           let ts1 = ts ++ Begin 0 (Queues Pop) ∷ [] in
           let ts2 = ts1 ++ Next 0 ∷ [] in
           let ts3 = ts2 ++ Next 0 ∷ [] in
-          let a =
+          let begun_so =
           alone.begins machine pop_call (first_pop capacity) (fresh r)
-          then ts es h
+          then ts es here
           (role_starts code (kind_of r) (maker ts es) pop_call Pop (first_pop capacity) (fresh r) refl
           (λ kept. pop_named code capacity r kept) Consumer (λ o p. tt) (λ roles p is. holds_it roles.consumer p is)
-          role h.u same_seat 0 h.between.run refl refl (sums then ts es h)) in
+          role here.u same_seat 0 here.between.run refl refl (sums then ts es here)) in
           let b =
           step then ts1 xs (Queues Pop) (popping r capacity pops.LoadsRead (room_at 0))
-          (popping r capacity (pops.LoadsWrite n) (room_at 0)) (record { word = 1; op = Load }) a
+          (popping r capacity (pops.LoadsWrite n) (room_at 0)) (record { word = 1; op = Load }) begun_so
           (omega arith) (pop_wants code capacity r pops.LoadsRead (room_at 0))
           (pop_fresh code capacity r n pops.LoadsRead (room_at 0)) then refl
           (pop_loads_read code capacity r n (room_at 0)) in
@@ -356,7 +354,7 @@ module _ {T : Type 0} (code : Coding T) (law : IsCoding code) (r : Ring) (v : Va
           (pop_wants code capacity r (pops.LoadsWrite n) (room_at 0))
           (pop_fresh code capacity r (n + 1) (pops.LoadsWrite n) (room_at 0)) then refl
           (pop_loads_write code capacity r n (n + 1) (room_at 0) none (one_apart n)) in
-          let d = loads ts3 xs (size - 1) 0 (let one = some in omega arith) c in
+          let d = loads ts3 xs (size - 1) 0 (omega (arith, some)) c in
           let e =
           alone.ends machine then (then_next ts3 (suc (size - 1))) xs (Queues Pop) last_of d
           (record { word = 1; op = Store (after_position n) }) (omega arith)
@@ -386,8 +384,8 @@ module _ {T : Type 0} (code : Coding T) (law : IsCoding code) (r : Ring) (v : Va
       → ((k : ℕ) → k < size → get_or (cells size) (size * (n % capacity) + k) 0 ≡ get_or ws k 0)
       → Here (words_at n n 0 0 (cells 0)) (took n) (rounds (Truth true) it n) None
       → Here (words_at (suc n) (suc n) 0 0 (cells size)) (took (suc n)) (rounds (Truth true) it (suc n)) None
-  round n room low cells long put has h =
-      let a = pushed room n low (took n) (rounds (Truth true) it n) cells long put (has_it (Truth true) quiet_true it n Producer) h in
+  round n room low cells long put has here =
+      let a = pushed room n low (took n) (rounds (Truth true) it n) cells long put (has_it (Truth true) quiet_true it n Producer) here in
       let b =
       popped room n low (moved_turns size (Queues (push_of it)) (took n)) (rounds (Truth true) it n ++ pushed_once (Truth true) it) (cells size) (long size) has
       (after_push (Truth true) quiet_true Consumer it (rounds (Truth true) it n) (has_it (Truth true) quiet_true it n Consumer))
@@ -408,7 +406,7 @@ module _ {T : Type 0} (code : Coding T) (law : IsCoding code) (r : Ring) (v : Va
       (replicate (size * capacity) 0 ++ 0 ∷ []) starts in
       subst (λ m. Here (words_at 0 0 0 0 (filled ws size capacity m)) (took zero) (rounds (Truth true) it zero) None) (sym (none_used size capacity)) a
   driven (suc n) room low =
-      let h = driven n room (omega arith) in
+      let driven_so = driven n room (omega arith) in
       ⊎_elim (λ (early : n < capacity).
       let here : n % capacity ≡ n = mod-eq_of_lt early in
       let as_many : min n capacity ≡ n = omega arith in
@@ -429,7 +427,7 @@ module _ {T : Type 0} (code : Coding T) (law : IsCoding code) (r : Ring) (v : Va
       ∙ (ap (λ i. set (cells k) (size * n + k) (get_or ws i 0)) (sym (rank n k below)) ∙ ap (filled ws size capacity) next))
       (λ k below. ap (λ q. get_or (cells size) (size * q + k) 0) here
       ∙ (filled_there ws size capacity (size * n + size) (size * n + k) (omega arith) up_to ∙ ap (λ i. get_or ws i 0) (rank n k below)))
-      (subst (λ m. Here (words_at n n 0 0 (filled ws size capacity m)) (took n) (rounds (Truth true) it n) None) start h)))
+      (subst (λ m. Here (words_at n n 0 0 (filled ws size capacity m)) (took n) (rounds (Truth true) it n) None) start driven_so)))
       (λ (late : capacity ≤ n).
       let all : min n capacity ≡ capacity = omega arith in
       let all_later : min (suc n) capacity ≡ capacity = omega arith in
@@ -441,7 +439,7 @@ module _ {T : Type 0} (code : Coding T) (law : IsCoding code) (r : Ring) (v : Va
       (λ k below. filled_there ws size capacity (size * capacity) (size * (n % capacity) + k)
       (cell_within size capacity n k room below) (omega arith)
       ∙ ap (λ i. get_or ws i 0) (rank (n % capacity) k below))
-      (subst (λ m. Here (words_at n n 0 0 (filled ws size capacity (size * m))) (took n) (rounds (Truth true) it n) None) all h)))
+      (subst (λ m. Here (words_at n n 0 0 (filled ws size capacity (size * m))) (took n) (rounds (Truth true) it n) None) all driven_so)))
       (cases_lt n capacity)
 
   -- after n rounds, with both roles given back, both positions are n, and the roles are free
@@ -479,17 +477,17 @@ module _ {T : Type 0} (code : Coding T) (law : IsCoding code) (r : Ring) (v : Va
       → words ≡ position_at capacity position ∷ position_at capacity position ∷ 1 ∷ 1 ∷ (cells_at position ++ 0 ∷ [])
       → IsMachine code kind capacity (opening words [] (opened_view size it capacity position))
   queue_opens position low words same =
-      let p = position_at capacity position in
+      let position_now = position_at capacity position in
       subst (λ ys. IsMachine code kind capacity (opening ys [] (opened_view size it capacity position))) (sym same)
-      (alone.opens_so machine (words_at p p 1 1 (cells_at position))
-      (opened_turns size it p) (opened (Truth true) it p) (rests position low))
+      (alone.opens_so machine (words_at position_now position_now 1 1 (cells_at position))
+      (opened_turns size it position_now) (opened (Truth true) it position_now) (rests position low))
 
-  -- and its first pass knows the run that led there
+  -- the first pass of the queue knows the run that led there
   pub queue_knows : (position : ℕ) → position < 2 ^ 64 → Knows code kind capacity (opened_view size it capacity position)
   queue_knows position low =
-      let p = position_at capacity position in
-      alone.knows_so machine (words_at p p 1 1 (cells_at position))
-      (opened_turns size it p) (opened (Truth true) it p) (rests position low)
+      let position_now = position_at capacity position in
+      alone.knows_so machine (words_at position_now position_now 1 1 (cells_at position))
+      (opened_turns size it position_now) (opened (Truth true) it position_now) (rests position low)
 
 -- at position 0 nothing was done
 pub opens_at_first : {T : Type 0} (words : ℕ) (answer : Answer T) (x : Item T) (capacity : ℕ) → opened_with words answer x capacity 0 ≡ first_view capacity

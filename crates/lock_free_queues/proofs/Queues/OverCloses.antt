@@ -35,10 +35,10 @@ module _ (capacity : ℕ) (v : View ℕ) (words : List ℕ)
   later = set words 1 first
 
   long : length words ≡ 5 + capacity
-  long = (let all = l.long in omega arith)
+  long = omega (arith, l.long)
 
   first_is : slice_index later 1 ≡ first
-  first_is = get_or-set_same words 1 first 0 (let all = long in omega arith)
+  first_is = get_or-set_same words 1 first 0 (omega (arith, long))
 
   other : (word : ℕ) → word < 1 → slice_index later word ≡ slice_index words word
   other word low = get_or-set_other words 1 word first 0 (λ e. absurd (omega arith))
@@ -47,10 +47,10 @@ module _ (capacity : ℕ) (v : View ℕ) (words : List ℕ)
   above word high = get_or-set_other words 1 word first 0 (λ e. absurd (omega arith))
 
   from : slice_index words 1 ≤ slice_index later 1
-  from = (let one = first_is in omega arith)
+  from = omega (arith, first_is)
 
   to : slice_index later 1 ≤ slice_index words 0
-  to = (let one = first_is in let all = closing.number one_word is_coding Overflow capacity v words l in omega arith)
+  to = omega (arith, first_is, closing.number one_word is_coding Overflow capacity v words l)
 
   end : slice_index later 0 ≡ slice_index words 0
   end = other 0 (omega arith)
@@ -61,8 +61,8 @@ module _ (capacity : ℕ) (v : View ℕ) (words : List ℕ)
       record {
         long = length-set words 1 first ∙ long;
         small = l.small;
-        behind = (let last = to in let same = end in omega arith);
-        near = (let one = first_is in let same = end in omega arith);
+        behind = omega (arith, to, end);
+        near = omega (arith, first_is, end);
         fits = subst (λ n. n < 2 ^ 64) (sym end) l.fits;
       }
 
@@ -77,15 +77,13 @@ module _ (capacity : ℕ) (v : View ℕ) (words : List ℕ)
       read_here one_word Overflow capacity l.new 1 (slice_index words 1) l.taken_read
       ∙ closing.whole_seen one_word is_coding Overflow capacity v words l all in
       let made : (f : Event ℕ → ℕ) → sum_by f t.events ≡ sum_by f v.made = λ f. ap (sum_by f) same ∙ seen_made all f in
-      let h : IsHistory one_word kinds.Overflow capacity t.events = record { trace = t; run = l.taken_read.run; is = refl } in
+      let history_now : IsHistory one_word kinds.Overflow capacity t.events = record { trace = t; run = l.taken_read.run; is = refl } in
       let few : length (waiting t.events) ≤ capacity =
       few_when_free one_word capacity t l.taken_read.run
-      (is_free Producer t.events (grants one_word Overflow capacity t.events h) (made (takes Producer) ∙ (lacks ∙ sym (made (gives Producer))))) in
+      (is_free Producer t.events (grants one_word Overflow capacity t.events history_now) (made (takes Producer) ∙ (lacks ∙ sym (made (gives Producer))))) in
       let here : length (waiting t.events) ≡ length (waiting moment) =
       ap (λ es. length (waiting es)) (read_here one_word Overflow capacity l.new 1 (slice_index words 1) l.taken_read) in
-      let number = closing.number one_word is_coding Overflow capacity v words l in
-      let one = first_is in
-      omega arith
+      omega (arith, closing.number one_word is_coding Overflow capacity v words l, first_is)
     where
       seen_made : IsAll v.share → (f : Event ℕ → ℕ) → sum_by f v.seen ≡ sum_by f v.made
       seen_made all f =
@@ -121,5 +119,5 @@ module _ (capacity : ℕ) (v : View ℕ) (words : List ℕ)
 -- nothing is lost until then
 pub over_closed_book : (capacity : ℕ) (at : List (Event ℕ)) (older : List (Item ℕ)) (q : Bounded ℕ) → IsHistory one_word kinds.Overflow capacity at
     → waiting at ≡ older ++ map Index q.values → published at ≡ handed_out at ++ (older ++ map Index q.values)
-over_closed_book capacity at older q h waits =
-    (listed_always one_word capacity at Overflow h at [] (sym (append-nil at))).book ∙ ap (λ xs. handed_out at ++ xs) waits
+over_closed_book capacity at older q history waits =
+    (listed_always one_word capacity at Overflow history at [] (sym (append-nil at))).book ∙ ap (λ xs. handed_out at ++ xs) waits

@@ -36,40 +36,40 @@ module _ {T : Type 0} (code : Coding T) (base w : View T) (h : IsHistory code ki
   -- before, whatever it handed back
   pub over_published : (value : ℕ) (back : Option ℕ) → HasOverflowed value back base w → HasPublished (Index value) base w
   over_published value None push =
-      (let p = push.by in
-      published_by code Overflow base.capacity base w (Index value) p PoppedNone
-      (Acted p (Queues (PushIndex value)) PoppedNone ∷ []) h tt push.called ((refl, refl), ((refl, refl), tt)))
+      (let party_there = push.by in
+      published_by code Overflow base.capacity base w (Index value) party_there PoppedNone
+      (Acted party_there (Queues (PushIndex value)) PoppedNone ∷ []) h tt push.called ((refl, refl), ((refl, refl), tt)))
   over_published value (Some oldest) push =
-      (let p = push.by in
-      published_by code Overflow base.capacity base w (Index value) p (PoppedIndex oldest)
-      (HandedOut p (Index oldest) ∷ Acted p (Queues (PushIndex value)) (PoppedIndex oldest) ∷ []) h tt push.called
+      (let party_there = push.by in
+      published_by code Overflow base.capacity base w (Index value) party_there (PoppedIndex oldest)
+      (HandedOut party_there (Index oldest) ∷ Acted party_there (Queues (PushIndex value)) (PoppedIndex oldest) ∷ []) h tt push.called
       ((refl, refl), ((refl, refl), ((refl, refl), tt))))
 
   -- a push that handed back a number has taken it out as the oldest that waited
   pub over_took : (value oldest : ℕ) → HasOverflowed value (Some oldest) base w → HasTakenFirst (Index oldest) base w
   over_took value oldest push =
-      let p = push.by in
+      let party_there = push.by in
       let start = Queues (PushIndex value) in
-      let act : Event T = Acted p start (PoppedIndex oldest) in
-      let out : Event T = HandedOut p (Index oldest) in
-      let at = first_wrote p start (PoppedIndex oldest) (Published p (Index value)) (out ∷ act ∷ []) base w push.called in
-      let then = first_own p at.after (act ∷ Finished p start (PoppedIndex oldest) ∷ []) out at.mine in
-      let before : List (Event T) = at.before ++ Published p (Index value) ∷ then.0 in
+      let act : Event T = Acted party_there start (PoppedIndex oldest) in
+      let out : Event T = HandedOut party_there (Index oldest) in
+      let wrote_first = first_wrote party_there start (PoppedIndex oldest) (Published party_there (Index value)) (out ∷ act ∷ []) base w push.called in
+      let then = first_own party_there wrote_first.after (act ∷ Finished party_there start (PoppedIndex oldest) ∷ []) out wrote_first.mine in
+      let before : List (Event T) = wrote_first.before ++ Published party_there (Index value) ∷ then.0 in
       let is : w.seen ≡ before ++ out ∷ then.1 =
-      at.is ∙ (ap (λ zs. at.before ++ Published p (Index value) ∷ zs) then.2
-      ∙ sym (append_assoc at.before (Published p (Index value) ∷ then.0) (out ∷ then.1))) in
-      let first = first_of_all p (Index oldest) before then.1 is in
+      wrote_first.is ∙ (ap (λ zs. wrote_first.before ++ Published party_there (Index value) ∷ zs) then.2
+      ∙ sym (append_assoc wrote_first.before (Published party_there (Index value) ∷ then.0) (out ∷ then.1))) in
+      let first = first_of_all party_there (Index oldest) before then.1 is in
       record {
-        by = p;
+        by = party_there;
         before = before;
         after = then.1;
         is = is;
         since =
             record {
-              rest = at.since.rest ++ Published p (Index value) ∷ then.0;
+              rest = wrote_first.since.rest ++ Published party_there (Index value) ∷ then.0;
               is =
-                  ap (λ zs. zs ++ Published p (Index value) ∷ then.0) at.since.is
-                  ∙ append_assoc base.seen at.since.rest (Published p (Index value) ∷ then.0);
+                  ap (λ zs. zs ++ Published party_there (Index value) ∷ then.0) wrote_first.since.is
+                  ∙ append_assoc base.seen wrote_first.since.rest (Published party_there (Index value) ∷ then.0);
             };
         rest = first.0;
         oldest = first.1;
@@ -80,11 +80,19 @@ module _ {T : Type 0} (code : Coding T) (base w : View T) (h : IsHistory code ki
   -- a pop that answered a number has taken it out as the oldest that waited
   pub over_taken : (x : ℕ) → HasPopped (Some (Index x)) base w → HasTakenFirst (Index x) base w
   over_taken x popping =
-      let p = popping.by in
-      let act : Event T = Acted p (Queues Pop) (PoppedIndex x) in
-      let at = first_wrote p (Queues Pop) (PoppedIndex x) (HandedOut p (Index x)) (act ∷ []) base w popping.called in
-      let first = first_of_all p (Index x) at.before at.after at.is in
-      record { by = p; before = at.before; after = at.after; is = at.is; since = at.since; rest = first.0; oldest = first.1 }
+      let party_there = popping.by in
+      let act : Event T = Acted party_there (Queues Pop) (PoppedIndex x) in
+      let wrote_first = first_wrote party_there (Queues Pop) (PoppedIndex x) (HandedOut party_there (Index x)) (act ∷ []) base w popping.called in
+      let first = first_of_all party_there (Index x) wrote_first.before wrote_first.after wrote_first.is in
+      record {
+        by = party_there;
+        before = wrote_first.before;
+        after = wrote_first.after;
+        is = wrote_first.is;
+        since = wrote_first.since;
+        rest = first.0;
+        oldest = first.1;
+      }
 
   pub over_taken_if : (o : Option ℕ) → HasPopped (option_map Index o) base w → IfSome o (λ x. PopOldest (Index x) base w)
   over_taken_if None popping = tt
@@ -99,7 +107,7 @@ module _ {T : Type 0} (code : Coding T) (base w : View T) (h : IsHistory code ki
 -- a push is left out where its first load finds the last position
 over_ends_at : (capacity value n : ℕ) (a : Ask) (stage : pushes.PushStage) → over_push_skips stage n ≡ true
     → push_asks capacity stage value ≡ wants.Ask a → (a.word ≡ 0) × (n ≡ 2 ^ 64 - 1)
-over_ends_at capacity value n a stage over_push_skips_true push_asks_is = grind (arith, nat_tests)
+over_ends_at capacity value n a stage skips push_asks_is = grind (arith, nat_tests)
 
 module _ {T : Type 0} (code : Coding T) (base w : View T) (idle : base.going ≡ None) where
   module _ (value : ℕ) (alone : base.other ≡ []) (some : 0 < base.share.part) (has : HasRole Producer base.made) where

@@ -105,7 +105,7 @@ module _ {T : Type 0} (code : Coding T) (capacity n : ℕ) where
       → beside_of w.words w.kept w.latest 0 ≡ None
       → over_effects w 0 (popping capacity (pops.MovesRead n)) n
       ≡ HandedOut 0 it ∷ Acted 0 pop_name (answers.PoppedIndex 0) ∷ []
-  pop_tells same_n w slice_index_is_zero beside_of_is = grind arith
+  pop_tells same_n w cell_is_zero beside_of_is = grind arith
 
 moved_on : (n to : ℕ) → (n == n) ≡ true → written (Exchange n to) n ≡ to
 moved_on n to t = rw t refl
@@ -148,8 +148,7 @@ module _ {T : Type 0} (code : Coding T) (law : IsCoding code) (capacity : ℕ) (
 
   -- ---- a step that goes on, and tells nothing
 
-  -- a turn of the one party whose step goes on and writes no event leads from each such moment to
-  -- the next
+  -- a turn of the one party whose step goes on and writes no event leads from each such moment to the next
   step : (words : List ℕ) (ts : List (Turn T)) (es : List (Event T)) (start : Start T) (flight next : Flight T) (a : Ask)
       → Here words ts es (Some (start, flight)) → a.word < size → want_of code flight ≡ wants.Ask a
       → IsFreshCall (slice_index words a.word) flight → (words' : List ℕ)
@@ -157,9 +156,9 @@ module _ {T : Type 0} (code : Coding T) (law : IsCoding code) (capacity : ℕ) (
       → after_of code flight (slice_index words a.word) ≡ GoOn next
       → ((w : World T) → over_effects w 0 flight (slice_index words a.word) ≡ [])
       → Here words' (ts ++ Next 0 ∷ []) es (Some (start, next))
-  step words ts es start flight next a h low asks finds words' same comes quiet =
-      alone.goes_on machine words ts es start flight h
-      a low asks finds words' next same comes (quiet h.u.world)
+  step words ts es start flight next a here low asks finds words' same comes quiet =
+      alone.goes_on machine words ts es start flight here
+      a low asks finds words' next same comes (quiet here.u.world)
 
   -- n is the position of the next push and pop, ts are the turns so far, es the events so far
   module _ (room : 0 < capacity) (n : ℕ) (below_end : n < 2 ^ 64 - 1) (ts : List (Turn T)) (es : List (Event T)) where
@@ -196,7 +195,7 @@ module _ {T : Type 0} (code : Coding T) (law : IsCoding code) (capacity : ℕ) (
     -- are n, moves the write position on, and hands nothing back
     pushed : HasRole Producer es → Here (at n n 0 0) ts es None
         → Here (at (n + 1) n 0 0) (moved_turns 1 push_name ts) (es ++ pushed_once answers.PoppedNone it) None
-    pushed has h =
+    pushed has here =
         let xs = es ++ Begun 0 push_name ∷ [] in
         let ts1 = ts ++ Begin 0 push_name ∷ [] in
         let ts2 = ts1 ++ Next 0 ∷ [] in
@@ -206,15 +205,15 @@ module _ {T : Type 0} (code : Coding T) (law : IsCoding code) (capacity : ℕ) (
         let apart = not_full n capacity (omega arith) room in
         let a₀ =
         alone.begins machine (pushes_over 0)
-        (first_push capacity) (record { 0 = 0 }) (at n n 0 0) ts es h
+        (first_push capacity) (record { 0 = 0 }) (at n n 0 0) ts es here
         (role_starts code Overflow (maker ts es) (pushes_over 0) (PushIndex 0) (first_push capacity) (record { 0 = 0 })
-        refl (λ kept. refl) Producer (λ o p. tt) (λ roles p is. holds_it roles.producer p is) has h.u same_seat 0
-        h.between.run refl refl (sums (at n n 0 0) ts es h)) in
-        let a : Here (at n n 0 0) ts1 xs (Some (push_name, pushing capacity pushes.LoadsWrite)) =
+        refl (λ kept. refl) Producer (λ o p. tt) (λ roles p is. holds_it roles.producer p is) has here.u same_seat 0
+        here.between.run refl refl (sums (at n n 0 0) ts es here)) in
+        let stands_here : Here (at n n 0 0) ts1 xs (Some (push_name, pushing capacity pushes.LoadsWrite)) =
         subst (λ f. Here (at n n 0 0) ts1 xs (Some (push_name, f))) (first_pushing capacity some) a₀ in
         let b =
         step (at n n 0 0) ts1 xs push_name (pushing capacity pushes.LoadsWrite)
-        (pushing capacity (pushes.LoadsRead n)) (record { word = 0; op = Load }) a (omega arith) refl
+        (pushing capacity (pushes.LoadsRead n)) (record { word = 0; op = Load }) stands_here (omega arith) refl
         below_end (at n n 0 0) refl (push_loads_write code capacity n last) (λ w. refl) in
         let c =
         step (at n n 0 0) ts2 xs push_name (pushing capacity (pushes.LoadsRead n))
@@ -246,10 +245,10 @@ module _ {T : Type 0} (code : Coding T) (law : IsCoding code) (capacity : ℕ) (
     none_beside us xs flight h None e = refl
     none_beside us xs flight h (Some push) e =
         let t = h.u in
-        let s = sound_of code capacity Overflow t h.between.run in
+        let is_sound = sound_of code capacity Overflow t h.between.run in
         let waits =
-        beside_waits code capacity t t.world.coding t.world.capacity s t.world.kept 0 push.0 push.1 e
-        s.fit.kept in
+        beside_waits code capacity t t.world.coding t.world.capacity is_sound t.world.kept 0 push.0 push.1 e
+        is_sound.fit.kept in
         ⊎_elim (λ (mine : push.0 ≡ 0).
         (let no : pop_name ≡ Queues (PushIndex push.1) = ap name_in (sym h.there ∙ (ap (call_in t.world) (sym mine) ∙ waits.there)) in
         absurd (cc)))
@@ -273,7 +272,7 @@ module _ {T : Type 0} (code : Coding T) (law : IsCoding code) (capacity : ℕ) (
     -- a pop by the party that has the consumer's role, while it is alone and 0 waits at position
     -- n, moves the read position on, and takes 0 out
     popped : HasRole Consumer es → Here then ts es None → Here (at (n + 1) (n + 1) 0 0) (moved_turns 1 pop_name ts) (es ++ popped_once it) None
-    popped role h =
+    popped role here =
         let xs = es ++ Begun 0 pop_name ∷ [] in
         let ts1 = ts ++ Begin 0 pop_name ∷ [] in
         let ts2 = ts1 ++ Next 0 ∷ [] in
@@ -283,15 +282,15 @@ module _ {T : Type 0} (code : Coding T) (law : IsCoding code) (capacity : ℕ) (
         let equal = same_number n in
         let a₀ =
         alone.begins machine pops_over
-        (first_pop capacity) (record { 0 = 0 }) then ts es h
+        (first_pop capacity) (record { 0 = 0 }) then ts es here
         (role_starts code Overflow (maker ts es) pops_over Pop (first_pop capacity) (record { 0 = 0 }) refl
-        (λ kept. refl) Consumer (λ o p. tt) (λ roles p is. holds_it roles.consumer p is) role h.u same_seat 0
-        h.between.run refl refl (sums then ts es h)) in
-        let a : Here then ts1 xs (Some (pop_name, popping capacity pops.LoadsRead)) =
+        (λ kept. refl) Consumer (λ o p. tt) (λ roles p is. holds_it roles.consumer p is) role here.u same_seat 0
+        here.between.run refl refl (sums then ts es here)) in
+        let stands_here : Here then ts1 xs (Some (pop_name, popping capacity pops.LoadsRead)) =
         subst (λ f. Here then ts1 xs (Some (pop_name, f))) (first_popping capacity some) a₀ in
         let b =
         step then ts1 xs pop_name (popping capacity pops.LoadsRead)
-        (popping capacity (pops.LoadsWrite n)) (record { word = 1; op = Load }) a (omega arith) refl tt
+        (popping capacity (pops.LoadsWrite n)) (record { word = 1; op = Load }) stands_here (omega arith) refl tt
         then refl refl (λ w. refl) in
         let c =
         step then ts2 xs pop_name (popping capacity (pops.LoadsWrite n))
@@ -338,8 +337,8 @@ module _ {T : Type 0} (code : Coding T) (law : IsCoding code) (capacity : ℕ) (
       takes_both code Overflow capacity size over_effects (overflow_owes code capacity) (omega arith) quiet_roles 0 0
       (replicate (capacity + 1) 0 ++ 0 ∷ []) starts
   driven (suc n) room low =
-      let h = driven n room (omega arith) in
-      let a = pushed room n (omega arith) (took n) (turns n) (has_role n Producer) h in
+      let driven_so = driven n room (omega arith) in
+      let a = pushed room n (omega arith) (took n) (turns n) (has_role n Producer) driven_so in
       let b =
       popped room n (omega arith) (moved_turns 1 push_name (took n)) (turns n ++ pushed_once answers.PoppedNone it)
       (after_push answers.PoppedNone quiet_none Consumer it (turns n) (has_role n Consumer)) a in
@@ -378,14 +377,14 @@ module _ {T : Type 0} (code : Coding T) (law : IsCoding code) (capacity : ℕ) (
       → words ≡ at (position_at capacity position) (position_at capacity position) 1 1
       → IsMachine code kinds.Overflow capacity (opening words [] (over_opened_view capacity position))
   over_opens position low words same =
-      let p = position_at capacity position in
+      let position_now = position_at capacity position in
       subst (λ ys. IsMachine code kinds.Overflow capacity (opening ys [] (over_opened_view capacity position))) (sym same)
-      (alone.opens_so machine (at p p 1 1)
-      (opened_turns 1 it p) (opened answers.PoppedNone it p) (rests position low))
+      (alone.opens_so machine (at position_now position_now 1 1)
+      (opened_turns 1 it position_now) (opened answers.PoppedNone it position_now) (rests position low))
 
-  -- and its first pass knows the run that led there
+  -- the first pass of the queue knows the run that led there
   pub over_knows : (position : ℕ) → position < 2 ^ 64 → Knows code kinds.Overflow capacity (over_opened_view capacity position)
   over_knows position low =
-      let p = position_at capacity position in
-      alone.knows_so machine (at p p 1 1)
-      (opened_turns 1 it p) (opened answers.PoppedNone it p) (rests position low)
+      let position_now = position_at capacity position in
+      alone.knows_so machine (at position_now position_now 1 1)
+      (opened_turns 1 it position_now) (opened answers.PoppedNone it position_now) (rests position low)

@@ -13,7 +13,7 @@ use Rattle.history.proofs.Queues.{queue_pays}
 use Rattle.history.specs.Overflow.{pushes_over}
 
 module _ {T : Type 0} (code : Coding T) (kd : QueueKind) (base w : View T) (idle : base.going ≡ None) where
-  -- as many as the model says of the call
+  -- the call takes as many steps as the model says of it
   takes_here : {C M E : Type 0} (call : Calling T C M E) (e : E) (m : M)
       → AllowsOne (guarantee_of (machine_kind kd) base.capacity code.size call.start) → Ends code (machine_kind kd) call base e m w
       → TakesBy code (machine_kind kd) base.capacity (guarantee_of (machine_kind kd) base.capacity code.size call.start) base w
@@ -52,8 +52,7 @@ module _ {T : Type 0} (code : Coding T) (base w : View T) (idle : base.going ≡
   abbrev Counts : QueueKind → LengthOf → ℕ → Unit {0} → Type 0
   Counts kd which n m = Ends code (machine_kind kd) (counts_waiting which base.capacity) base n m w
 
-  -- a call on lengths takes at most four operations, and four more for each change of a word that
-  -- others make meanwhile
+  -- a call on lengths takes at most four operations, and four more for each change of a word that others make meanwhile
   pub length_takes : (kd : QueueKind) (which : LengthOf) (n : ℕ) (m : Unit {0}) → Counts kd which n m
       → TakesAlone 4 4 base w
   length_takes IndexQueue measures.Len n m ends = takes_here code IndexQueue base w idle (counts_waiting measures.Len base.capacity) n m (omega arith) ends

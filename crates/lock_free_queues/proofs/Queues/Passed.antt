@@ -58,7 +58,7 @@ pub both_passed : {T V : Type 0} (named : V → Item T) (sent received : List V)
     → (left.seen ≡ []) × (left.made ≡ []) → (right.seen ≡ []) × (right.made ≡ []) → HasSent named sent left a → HasReceived named received right b
     → ((f : Event T → ℕ) → sum_by f z.made ≡ sum_by f a.made + sum_by f b.made) → IsBeginning a.seen z.seen → IsBeginning b.seen z.seen
     → HasPassed named sent received z
-both_passed {T} named sent received left right a b z whole all mine theirs s r both ours others =
+both_passed {T} named sent received left right a b z whole all mine theirs has_sent has_received both ours others =
     let counted = whole_counted z whole all in
     let none : (f : Event T → ℕ) → (sum_by f left.made ≡ 0) × (sum_by f right.made ≡ 0) = λ f. (ap (sum_by f) mine.1, ap (sum_by f) theirs.1) in
     let put = none puts in
@@ -69,30 +69,30 @@ both_passed {T} named sent received left right a b z whole all mine theirs s r b
       whole = whole;
       all = all;
       published_these =
-          only_these publishes named sent (length sent) 0 left a z.seen (ap published mine.0) s ours
-          (let n = counted.0 in let p = put.0 in let q = put.1 in let x = s.done.puts_more in let y = r.done.puts_more in omega arith);
+          only_these publishes named sent (length sent) 0 left a z.seen (ap published mine.0) has_sent ours
+          (omega (arith, counted.0, put.0, put.1, has_sent.done.puts_more, has_received.done.puts_more));
       taken_these =
-          only_these hands_out named received 0 (length received) right b z.seen (ap handed_out theirs.0) r others
-          (let n = counted.1 in let p = got.0 in let q = got.1 in let x = s.done.gets_more in let y = r.done.gets_more in omega arith);
+          only_these hands_out named received 0 (length received) right b z.seen (ap handed_out theirs.0) has_received others
+          (omega (arith, counted.1, got.0, got.1, has_sent.done.gets_more, has_received.done.gets_more));
     }
 
--- of the two halves of a first pass
+-- what the two halves of a first pass sent and received has passed through the queue
 pub passed : {T V : Type 0} {named : V → Item T} {sent received : List V} {n : ℕ} {first left right a b z : View T}
     → first ≡ first_view n → HasSplit first left right → HasSent named sent left a → HasReceived named received right b
     → HasJoined a b z → MissesNothing z → HasPassed named sent received z
-passed {T} {V} {named} {sent} {received} {n} {first} {left} {right} {a} {b} {z} opens cut s r h none =
+passed {T} {V} {named} {sent} {received} {n} {first} {left} {right} {a} {b} {z} opens cut has_sent has_received joined none =
     both_passed named sent received left right a b z whole none
     (cut.seen ∙ ap (λ (t : View T). t.seen) opens, cut.made ∙ ap (λ (t : View T). t.made) opens)
-    (cut.right_seen ∙ ap (λ (t : View T). t.seen) opens, cut.right_made) s r
-    (λ f. ap (sum_by f) h.made ∙ sum_by-append f a.made b.made) h.ours h.others
+    (cut.right_seen ∙ ap (λ (t : View T). t.seen) opens, cut.right_made) has_sent has_received
+    (λ f. ap (sum_by f) joined.made ∙ sum_by-append f a.made b.made) joined.ours joined.others
   where
     -- the pass to which both halves are joined has the whole share
     whole : IsAll z.share
     whole =
         let start : first.share ≡ all_shares = ap (λ (t : View T). t.share) opens in
-        subst IsAll (sym (h.share ∙ ap (λ (t : Share × Share). both_of t.0 t.1) (λ i. (
-          (s.share ∙ (cut.share ∙ ap half_of start)) i,
-          (r.share ∙ (cut.right_share ∙ ap half_of start)) i,
+        subst IsAll (sym (joined.share ∙ ap (λ (t : Share × Share). both_of t.0 t.1) (λ i. (
+          (has_sent.share ∙ (cut.share ∙ ap half_of start)) i,
+          (has_received.share ∙ (cut.right_share ∙ ap half_of start)) i,
         )))) refl
 
 -- ---- what the whole says
@@ -101,33 +101,35 @@ module _ {T V : Type 0} {named : V → Item T} {sent received : List V} {v : Vie
   -- what came is a beginning of what was sent
   book : (code : Coding T) (kind : QueueKind) (capacity : ℕ) → IsHistory code (machine_kind kind) capacity v.seen
       → HasPassed named sent received v → map named sent ≡ map named received ++ waiting v.seen
-  book code kind capacity history k =
-      sym k.published_these
+  book code kind capacity history has_passed =
+      sym has_passed.published_these
       ∙ ((listed_always code capacity v.seen kind history v.seen [] (sym (append-nil v.seen))).book
-      ∙ ap (λ ys. ys ++ waiting v.seen) k.taken_these)
+      ∙ ap (λ ys. ys ++ waiting v.seen) has_passed.taken_these)
 
   pub in_order : (code : Coding T) (kind : QueueKind) (capacity : ℕ) → TellsApart named → IsHistory code (machine_kind kind) capacity v.seen
       → HasPassed named sent received v → received ≡ take (length received) sent
-  in_order code kind capacity tells history k = begins_with named tells received sent (waiting v.seen) (book code kind capacity history k)
+  in_order code kind capacity tells history has_passed = begins_with named tells received sent (waiting v.seen) (book code kind capacity history has_passed)
 
-  -- and no more is left than the queue has room for
+  -- no more values are left than the queue has room for
   pub few_left : (code : Coding T) (kind : QueueKind) (capacity : ℕ) → IsBounded kind → IsHistory code (machine_kind kind) capacity v.seen
       → HasPassed named sent received v → length sent ≤ length received + capacity
-  few_left code kind capacity bounded history k =
+  few_left code kind capacity bounded history has_passed =
       let most = (sound code kind capacity v bounded history).few v.seen [] (sym (append-nil v.seen)) in
-      let long = ap length (book code kind capacity history k) in
-      let one = length-append (map named received) (waiting v.seen) in
-      let two = length_named named received in
-      let three = length_named named sent in
-      omega arith
+      omega (
+        arith,
+        ap length (book code kind capacity history has_passed),
+        length-append (map named received) (waiting v.seen),
+        length_named named received,
+        length_named named sent,
+      )
 
   -- a queue that is closed has the rest
   pub rest_waits : (capacity : ℕ) (q : Bounded V) → TellsApart named → HasPassed named sent received v → Closes named capacity v q → sent ≡ received ++ q.values
-  rest_waits capacity q tells k closed =
+  rest_waits capacity q tells has_passed closed =
       same_values named tells sent (received ++ q.values)
-      (sym k.published_these
-      ∙ ((closed.whole k.whole).1
-      ∙ (ap (λ ys. ys ++ map named q.values) k.taken_these ∙ sym (map-append named received q.values))))
+      (sym has_passed.published_these
+      ∙ ((closed.whole has_passed.whole).1
+      ∙ (ap (λ ys. ys ++ map named q.values) has_passed.taken_these ∙ sym (map-append named received q.values))))
 
 -- ---- calls of who has the whole share
 
@@ -135,65 +137,67 @@ module _ {T V : Type 0} {named : V → Item T} {sent received : List V} {v w : V
   -- taking a role changes nothing
   pub still_passed : {role : Role} → HasPassed named sent received v → Goes v w
       → HasAcquired role true v w → HasPassed named sent received w
-  still_passed k goes h =
+  still_passed has_passed goes acquired =
       record {
-        whole = subst IsAll (sym goes.share) k.whole;
+        whole = subst IsAll (sym goes.share) has_passed.whole;
         all = goes.all;
-        published_these = nothing_more publishes v w _ k.whole k.all goes h.called.made refl ∙ k.published_these;
-        taken_these = nothing_more hands_out v w _ k.whole k.all goes h.called.made refl ∙ k.taken_these;
+        published_these = nothing_more publishes v w _ has_passed.whole has_passed.all goes acquired.called.made refl ∙ has_passed.published_these;
+        taken_these = nothing_more hands_out v w _ has_passed.whole has_passed.all goes acquired.called.made refl ∙ has_passed.taken_these;
       }
 
   -- a pop takes out one more
   pub one_passed : (value : V) → HasPassed named sent received v → Goes v w
       → PopDone (named value) v w → HasPassed named sent (received ++ value ∷ []) w
-  one_passed value k goes h =
+  one_passed value has_passed goes pop_done =
       record {
-        whole = subst IsAll (sym goes.share) k.whole;
+        whole = subst IsAll (sym goes.share) has_passed.whole;
         all = goes.all;
-        published_these = nothing_more publishes v w _ k.whole k.all goes h.0.called.made refl ∙ k.published_these;
-        taken_these = h.1.list ∙ (ap (λ ys. ys ++ named value ∷ []) k.taken_these ∙ sym (map-append named received (value ∷ [])));
+        published_these = nothing_more publishes v w _ has_passed.whole has_passed.all goes pop_done.0.called.made refl ∙ has_passed.published_these;
+        taken_these = pop_done.1.list ∙ (ap (λ ys. ys ++ named value ∷ []) has_passed.taken_these ∙ sym (map-append named received (value ∷ [])));
       }
 
-  -- and where it finds none, all came
+  -- where the pop finds none, all values came
   pub all_passed : (code : Coding T) (kind : QueueKind) (capacity : ℕ) → TellsApart named → HasPassed named sent received v → Goes v w
       → IsHistory code (machine_kind kind) capacity w.seen → HasPopped None v w → received ≡ sent
-  all_passed code kind capacity tells k goes history h =
-      let it = all_taken code kind capacity v w k.whole k.all goes history h in
-      let still = nothing_more hands_out v w _ k.whole k.all goes h.called.made refl in
-      same_values named tells received sent (sym k.taken_these ∙ (sym still ∙ (it.1 ∙ (it.0 ∙ k.published_these))))
+  all_passed code kind capacity tells has_passed goes history popped =
+      let all_out = all_taken code kind capacity v w has_passed.whole has_passed.all goes history popped in
+      let still = nothing_more hands_out v w _ has_passed.whole has_passed.all goes popped.called.made refl in
+      same_values named tells received sent (sym has_passed.taken_these ∙ (sym still ∙ (all_out.1 ∙ (all_out.0 ∙ has_passed.published_these))))
 
--- by what the pop answered: it finds none just where all came
+-- the pop answers that it finds none just where all values came
 pub emptied_is_all : {T V : Type 0} {named : V → Item T} {sent received : List V} {v w : View T} (code : Coding T) (kind : QueueKind) (capacity : ℕ)
     → TellsApart named → HasPassed named sent received v → Goes v w
     → IsHistory code (machine_kind kind) capacity w.seen → (answer : Option V) (none : Bool)
     → IfSome answer (λ x. PopDone (named x) v w) → IfNone answer (PopEmpty v w) → is_some answer ≡ not none
     → (none ≡ true) ↔ (received ≡ sent)
-emptied_is_all code kind capacity tells k goes history None true popped empty is = (λ t. all_passed code kind capacity tells k goes history empty.0, λ e. refl)
-emptied_is_all code kind capacity tells k goes history None false popped empty is = absurd (true≢false (sym is))
-emptied_is_all code kind capacity tells k goes history (Some x) true popped empty is = absurd (true≢false is)
-emptied_is_all {T} {V} {named} {sent} {received} {v} {w} code kind capacity tells k goes history (Some x) false popped empty is =
-    let more : HasPassed named sent (received ++ x ∷ []) w = one_passed x k goes popped in
+emptied_is_all code kind capacity tells has_passed goes history None true popped empty is =
+    (λ t. all_passed code kind capacity tells has_passed goes history empty.0, λ e. refl)
+emptied_is_all code kind capacity tells has_passed goes history None false popped empty is = absurd (true≢false (sym is))
+emptied_is_all code kind capacity tells has_passed goes history (Some x) true popped empty is = absurd (true≢false is)
+emptied_is_all {T} {V} {named} {sent} {received} {v} {w} code kind capacity tells has_passed goes history (Some x) false popped empty is =
+    let more : HasPassed named sent (received ++ x ∷ []) w = one_passed x has_passed goes popped in
     let whole = ap length (book code kind capacity history more) in
     let one = length-append (map named (received ++ x ∷ [])) (waiting w.seen) in
     let two = length_named named (received ++ x ∷ []) in
     let three = length_named named sent in
     let four = length-append received (x ∷ []) in
-    (λ t. absurd (true≢false (sym t)), λ e. (let same = ap length e in absurd (omega arith)))
+    (λ t. absurd (true≢false (sym t)), λ e. (absurd (omega (arith, ap length e))))
 
 -- ---- calls that succeed
 
--- where fewer were seen to wait than the capacity, and the last position was not reached, no push
--- is refused
+-- where fewer were seen to wait than the capacity, and the last position was not reached, no push is refused
 not_full : {T : Type 0} (capacity : ℕ) (item : Item T) (old new : View T) → length (waiting old.seen) < capacity
     → length (published old.seen) < 2 ^ 64 - 1 → PushRefused capacity item old new → ⊥
 not_full capacity item old new room early (inl (pushed, f)) =
     let more = hits_grow hands_out old.seen f.before f.since in
-    let was = length-drop (length (handed_out old.seen)) (published old.seen) in
-    let now = length-drop (length (handed_out f.before)) (published f.before) in
-    let same = ap length f.next in
-    let full = f.full in
-    omega arith
-not_full capacity item old new room early (inr e) = (let same = ap length e.list in let end = e.end in omega arith)
+    omega (
+      arith,
+      length-drop (length (handed_out old.seen)) (published old.seen),
+      length-drop (length (handed_out f.before)) (published f.before),
+      ap length f.next,
+      f.full,
+    )
+not_full capacity item old new room early (inr e) = omega (arith, ap length e.list, e.end)
 
 -- a push succeeds where fewer were seen to wait than the queue has room for
 pub push_succeeds : {T : Type 0} {capacity : ℕ} {item : Item T} {old new : View T} (taken : Bool) → length (waiting old.seen) < capacity
@@ -216,13 +220,15 @@ counted_push_succeeds {T} {item} {old} {new} code kind capacity taken history wh
 
 -- where something was seen to wait, no pop of the one that alone takes out finds the queue empty
 none_waited : {T : Type 0} (old new : View T) → 0 < length (waiting old.seen) → WasEmpty old new → ⊥
-none_waited old new some h =
-    let more = hits_grow publishes old.seen h.before h.since in
-    let was = length-drop (length (handed_out old.seen)) (published old.seen) in
-    let now = length-drop (length (handed_out h.before)) (published h.before) in
-    let same = ap length h.next in
-    let empty = ap length h.empty in
-    omega arith
+none_waited old new some was_empty =
+    let more = hits_grow publishes old.seen was_empty.before was_empty.since in
+    omega (
+      arith,
+      length-drop (length (handed_out old.seen)) (published old.seen),
+      length-drop (length (handed_out was_empty.before)) (published was_empty.before),
+      ap length was_empty.next,
+      ap length was_empty.empty,
+    )
 
 -- a pop succeeds where something was seen to wait
 pub pop_succeeds : {T V : Type 0} (old new : View T) (answer : Option V) → 0 < length (waiting old.seen)

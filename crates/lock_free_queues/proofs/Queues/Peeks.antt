@@ -63,24 +63,24 @@ module _ {T : Type 0} (code : Coding T) (kd : QueueKind) (base w : View T) where
       → Called p (Queues Peek) (popped_item answer) [] base w → IsSeen code kd base.capacity w.seen
       → LastStep code (machine_kind kd) base.capacity p (Finished p (Queues Peek) (popped_item answer)) w.seen
       → HasPeeked answer base w
-  peeked_by alone p answer mine c h step =
+  peeked_by alone p answer mine c is_seen step =
       let last : Event T = Finished p (Queues Peek) (popped_item answer) in
-      let xs : List (Event T) = before_end c in
-      let is : w.seen ≡ xs ++ last ∷ [] = ends_so p (Queues Peek) (popped_item answer) [] base w c in
-      let told : TellsLength base.capacity xs last = tells_lengths code kd base.capacity w.seen h xs [] last is in
-      let holds : held Consumer xs ≡ Some p = peeker code kd base.capacity p (popped_item answer) w.seen xs step is in
-      let each = subst (Each (ByHolderOf Consumer)) is (by_its_holder code base.capacity w.seen kd Consumer alone h) in
+      let events_then : List (Event T) = before_end c in
+      let seen_is : w.seen ≡ events_then ++ last ∷ [] = ends_so p (Queues Peek) (popped_item answer) [] base w c in
+      let told : TellsLength base.capacity events_then last = tells_lengths code kd base.capacity w.seen is_seen events_then [] last seen_is in
+      let holds : held Consumer events_then ≡ Some p = peeker code kd base.capacity p (popped_item answer) w.seen events_then step seen_is in
+      let each = subst (Each (ByHolderOf Consumer)) seen_is (by_its_holder code base.capacity w.seen kd Consumer alone is_seen) in
       record {
         by = p;
         mine = mine;
         called = c;
         oldest =
-            same_item answer (slice_get (waiting xs) 0) told
-            ∙ ap (λ ws. slice_get ws 0) (sym (ap waiting is ∙ still_waits p (Queues Peek) (popped_item answer) xs));
+            same_item answer (slice_get (waiting events_then) 0) told
+            ∙ ap (λ ws. slice_get ws 0) (sym (ap waiting seen_is ∙ still_waits p (Queues Peek) (popped_item answer) events_then));
         list =
-            ap handed_out is
+            ap handed_out seen_is
             ∙ none_to_end (queue_role Consumer) (one_holder Consumer) p (Queues Peek) base.seen c.others c.during
-            (Each-less (ByHolderOf Consumer) xs (last ∷ []) each) c.others_own c.during_own holds last refl;
+            (Each-less (ByHolderOf Consumer) events_then (last ∷ []) each) c.others_own c.during_own holds last refl;
       }
 
   module _ (idle : base.going ≡ None) where
@@ -89,18 +89,18 @@ module _ {T : Type 0} (code : Coding T) (kd : QueueKind) (base w : View T) where
         → IsPeek named value call → (e : Bool) (m : M) → Ends code (machine_kind kd) call base e m w
         → HasPeeked (option_map named (pop_answer (value m) e)) base w
     has_peeked alone named value call is e m ends =
-        let p = ends.party in
+        let party_now = ends.party in
         let o = option_map named (pop_answer (value m) e) in
-        let c = called code (machine_kind kd) call base w e m idle ends in
-        let none : ends.wrote ≡ [] = is.tells base.capacity p base.going e m ends.wrote ends.tells in
-        let it : Called p (Queues Peek) (popped_item o) [] base w =
-        subst (λ es. Called p (Queues Peek) (popped_item o) es base w) none
-        (subst (λ a. Called p (Queues Peek) a ends.wrote base w) (is.answer e m)
-        (subst (λ st. Called p st (call.answer e m) ends.wrote base w) is.start c)) in
-        let step : LastStep code (machine_kind kd) base.capacity p (Finished p (Queues Peek) (popped_item o)) w.seen =
-        subst (λ a. LastStep code (machine_kind kd) base.capacity p (Finished p (Queues Peek) a) w.seen) (is.answer e m)
-        (subst (λ st. LastStep code (machine_kind kd) base.capacity p (Finished p st (call.answer e m)) w.seen) is.start ends.last) in
-        peeked_by alone p o ends.mine it ends.history step
+        let called_once = called code (machine_kind kd) call base w e m idle ends in
+        let none : ends.wrote ≡ [] = is.tells base.capacity party_now base.going e m ends.wrote ends.tells in
+        let its_call : Called party_now (Queues Peek) (popped_item o) [] base w =
+        subst (λ es. Called party_now (Queues Peek) (popped_item o) es base w) none
+        (subst (λ a. Called party_now (Queues Peek) a ends.wrote base w) (is.answer e m)
+        (subst (λ st. Called party_now st (call.answer e m) ends.wrote base w) is.start called_once)) in
+        let step : LastStep code (machine_kind kd) base.capacity party_now (Finished party_now (Queues Peek) (popped_item o)) w.seen =
+        subst (λ a. LastStep code (machine_kind kd) base.capacity party_now (Finished party_now (Queues Peek) a) w.seen) (is.answer e m)
+        (subst (λ st. LastStep code (machine_kind kd) base.capacity party_now (Finished party_now st (call.answer e m)) w.seen) is.start ends.last) in
+        peeked_by alone party_now o ends.mine its_call ends.history step
 
     -- ---- roles
 
@@ -110,17 +110,17 @@ module _ {T : Type 0} (code : Coding T) (kd : QueueKind) (base w : View T) where
     seen_role role taken m ends =
         let p = ends.party in
         let start : Start T = Queues (look_start role) in
-        let c = called code (machine_kind kd) (looks_role role) base w taken m idle ends in
-        let it : Called p start (Truth taken) [] base w = subst (λ es. Called p start (Truth taken) es base w) ends.tells c in
+        let called_once = called code (machine_kind kd) (looks_role role) base w taken m idle ends in
+        let its_call : Called p start (Truth taken) [] base w = subst (λ es. Called p start (Truth taken) es base w) ends.tells called_once in
         let last : Event T = Finished p start (Truth taken) in
-        let is : w.seen ≡ before_end it ++ last ∷ [] = ends_so p start (Truth taken) [] base w it in
+        let seen_is : w.seen ≡ before_end its_call ++ last ∷ [] = ends_so p start (Truth taken) [] base w its_call in
         record {
           by = p;
           mine = ends.mine;
-          called = it;
+          called = its_call;
           holder =
-              held_is role p (before_end it) (grants code kd base.capacity w.seen ends.history (before_end it) [] last is)
-              ∙ ap (λ es. not (is_none (holder_by role es))) (sym is);
+              held_is role p (before_end its_call) (grants code kd base.capacity w.seen ends.history (before_end its_call) [] last seen_is)
+              ∙ ap (λ es. not (is_none (holder_by role es))) (sym seen_is);
         }
       where
         told : (b : Bool) → ◌≡◌ {A = Answer T} (Truth taken) (Truth b) → taken ≡ b
@@ -129,11 +129,11 @@ module _ {T : Type 0} (code : Coding T) (kd : QueueKind) (base w : View T) where
         -- the look's end leaves the role to who has it
         held_is : (r : Role) (p : ℕ) (xs : List (Event T)) → GrantsRight xs (Finished p (Queues (look_start r)) (Truth taken))
             → taken ≡ not (is_none (holder_by r (xs ++ Finished p (Queues (look_start r)) (Truth taken) ∷ [])))
-        held_is Producer p xs h =
-            told (not (is_none (producer_of xs))) h
+        held_is Producer p xs grants_right =
+            told (not (is_none (producer_of xs))) grants_right
             ∙ ap (λ o. not (is_none o)) (sym (fold-append producer_after None xs (Finished p (Queues (look_start Producer)) (Truth taken) ∷ [])))
-        held_is Consumer p xs h =
-            told (not (is_none (consumer_of xs))) h
+        held_is Consumer p xs grants_right =
+            told (not (is_none (consumer_of xs))) grants_right
             ∙ ap (λ o. not (is_none o)) (sym (fold-append consumer_after None xs (Finished p (Queues (look_start Consumer)) (Truth taken) ∷ [])))
 
 -- ---- a pop after a peek
@@ -159,13 +159,13 @@ module _ {T : Type 0} where
   -- what is taken out waited first
   taken_waited : (c : ℕ) (before : List (Event T)) (p : ℕ) (x : Item T) → IsListed c (before ++ HandedOut p x ∷ [])
       → slice_get (waiting before) 0 ≡ Some x
-  taken_waited c before p x l =
+  taken_waited c before p x listed =
       let rest = waiting (before ++ HandedOut p x ∷ []) in
       let same : published (before ++ HandedOut p x ∷ []) ≡ published before =
       flat_map-append publishes before (HandedOut p x ∷ []) ∙ append-nil (published before) in
       let out : handed_out (before ++ HandedOut p x ∷ []) ≡ handed_out before ++ x ∷ [] = flat_map-append hands_out before (HandedOut p x ∷ []) in
       let book : published before ≡ handed_out before ++ x ∷ rest =
-      sym same ∙ (l.book ∙ (ap (λ xs. xs ++ rest) out ∙ append_assoc (handed_out before) (x ∷ []) rest)) in
+      sym same ∙ (listed.book ∙ (ap (λ xs. xs ++ rest) out ∙ append_assoc (handed_out before) (x ∷ []) rest)) in
       ap (λ xs. slice_get xs 0) (waiting_is before (x ∷ rest) book)
 
 module _ {T : Type 0} (code : Coding T) (kd : QueueKind) (capacity : ℕ) (item : Item T) (old was new : View T)
@@ -173,12 +173,12 @@ module _ {T : Type 0} (code : Coding T) (kd : QueueKind) (capacity : ℕ) (item 
   -- a pop that goes on from there answers it
   pub pop_answers_it : IsSeen code kd capacity new.seen → (answer : Option (Item T)) → IfSome answer (λ x. HasTakenOut x was new)
       → IfNone answer (WasEmpty was new) → answer ≡ Some item
-  pop_answers_it h None taken empty =
+  pop_answers_it is_seen None taken empty =
       let none : slice_get (waiting empty.before) 0 ≡ None = ap (λ xs. slice_get xs 0) empty.empty in
       sym none ∙ still_oldest was.seen empty.before item empty.since empty.next peek.oldest
-  pop_answers_it h (Some x) taken empty =
+  pop_answers_it is_seen (Some x) taken empty =
       let split : new.seen ≡ (taken.before ++ HandedOut taken.by x ∷ []) ++ taken.after =
       taken.is ∙ sym (append_assoc taken.before (HandedOut taken.by x ∷ []) taken.after) in
-      let listed = listed_always code capacity new.seen kd h (taken.before ++ HandedOut taken.by x ∷ []) taken.after split in
+      let listed = listed_always code capacity new.seen kd is_seen (taken.before ++ HandedOut taken.by x ∷ []) taken.after split in
       sym (taken_waited (most_waiting kd capacity) taken.before taken.by x listed)
       ∙ still_oldest was.seen taken.before item taken.since taken.next peek.oldest

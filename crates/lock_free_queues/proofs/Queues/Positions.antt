@@ -28,41 +28,43 @@ at_rank hit before after e x = grind (arith, length, flat_map-append, get_here)
 module _ {T : Type 0} (events : List (Event T)) (q j : ℕ) (y : Item T) where
   -- each position is below their number
   pub published_low : IsPublished q j y events → j < length (published events)
-  published_low a = (let low = rank_low publishes events a.before a.after (Published q y) y refl a.is in let rank = a.rank in omega arith)
+  published_low is_published =
+      omega (arith, rank_low publishes events is_published.before is_published.after (Published q y) y refl is_published.is, is_published.rank)
 
   pub taken_low : IsTaken q j y events → j < length (handed_out events)
-  taken_low a = (let low = rank_low hands_out events a.before a.after (HandedOut q y) y refl a.is in let rank = a.rank in omega arith)
+  taken_low taken = omega (arith, rank_low hands_out events taken.before taken.after (HandedOut q y) y refl taken.is, taken.rank)
 
 -- p and q are parties, i is a position, x and y are items
 module _ {T : Type 0} (p q i : ℕ) (x y : Item T) (events : List (Event T)) where
   -- one party at most published at a position, and one item
   pub published_once : IsPublished p i x events → IsPublished q i y events → (p ≡ q) × (x ≡ y)
-  published_once a b =
+  published_once first_published second_published =
       let same : ◌≡◌ {A = Event T} (Published p x) (Published q y) =
-      same_place publishes a.before b.before a.after b.after (Published p x) (Published q y) x y refl refl
-      (sym a.is ∙ b.is) (sym a.rank ∙ b.rank) in
+      same_place publishes first_published.before second_published.before first_published.after
+      second_published.after (Published p x) (Published q y) x y refl refl
+      (sym first_published.is ∙ second_published.is) (sym first_published.rank ∙ second_published.rank) in
       (let l : p ≡ q = cc in l, let r : x ≡ y = cc in r)
 
   -- one party at most took from a position, and one item
   pub taken_once : IsTaken p i x events → IsTaken q i y events → (p ≡ q) × (x ≡ y)
-  taken_once a b =
+  taken_once first_taken second_taken =
       let same : ◌≡◌ {A = Event T} (HandedOut p x) (HandedOut q y) =
-      same_place hands_out a.before b.before a.after b.after (HandedOut p x) (HandedOut q y) x y refl refl
-      (sym a.is ∙ b.is) (sym a.rank ∙ b.rank) in
+      same_place hands_out first_taken.before second_taken.before first_taken.after second_taken.after (HandedOut p x) (HandedOut q y) x y refl refl
+      (sym first_taken.is ∙ second_taken.is) (sym first_taken.rank ∙ second_taken.rank) in
       (let l : p ≡ q = cc in l, let r : x ≡ y = cc in r)
 
   -- where what was taken out is a beginning of what was published, what was taken from a position
   -- is what was published there
   pub values_agree : published events ≡ handed_out events ++ waiting events → IsPublished p i x events → IsTaken q i y events → x ≡ y
-  values_agree book a b =
+  values_agree book is_published taken =
       let one : slice_get (published events) i ≡ Some x =
-      ap (λ es. slice_get (published es) i) a.is
-      ∙ (ap (slice_get (published (a.before ++ Published p x ∷ a.after))) a.rank
-      ∙ at_rank publishes a.before a.after (Published p x) x refl) in
+      ap (λ es. slice_get (published es) i) is_published.is
+      ∙ (ap (slice_get (published (is_published.before ++ Published p x ∷ is_published.after))) is_published.rank
+      ∙ at_rank publishes is_published.before is_published.after (Published p x) x refl) in
       let two : slice_get (handed_out events) i ≡ Some y =
-      ap (λ es. slice_get (handed_out es) i) b.is
-      ∙ (ap (slice_get (handed_out (b.before ++ HandedOut q y ∷ b.after))) b.rank
-      ∙ at_rank hands_out b.before b.after (HandedOut q y) y refl) in
+      ap (λ es. slice_get (handed_out es) i) taken.is
+      ∙ (ap (slice_get (handed_out (taken.before ++ HandedOut q y ∷ taken.after))) taken.rank
+      ∙ at_rank hands_out taken.before taken.after (HandedOut q y) y refl) in
       let both : Some x ≡ Some y = sym one ∙ (ap (λ xs. slice_get xs i) book ∙ get_left (handed_out events) (waiting events) i y two) in
       cc
 
@@ -76,14 +78,14 @@ module _ {T : Type 0} (p q i : ℕ) (x y : Item T) (events : List (Event T)) whe
 -- a history of a bounded queue says of itself what is promised of each
 pub sound_history : {T : Type 0} (code : Coding T) (r : Ring) (capacity : ℕ) (events : List (Event T))
     → IsHistory code (machine_kind (kind_of r)) capacity events → IsSound capacity events
-sound_history code r capacity events h =
+sound_history code r capacity events history =
     record {
-      book = λ part rest is. (always_listed capacity code r events h part rest is).book;
-      few = λ part rest is. (always_listed capacity code r events h part rest is).few;
-      answers = answers_right code (kind_of r) capacity events h;
-      lengths = tells_lengths code (kind_of r) capacity events h;
-      roles = grants code (kind_of r) capacity events h;
-      holders = by_holder code r capacity events h;
+      book = λ part rest is. (always_listed capacity code r events history part rest is).book;
+      few = λ part rest is. (always_listed capacity code r events history part rest is).few;
+      answers = answers_right code (kind_of r) capacity events history;
+      lengths = tells_lengths code (kind_of r) capacity events history;
+      roles = grants code (kind_of r) capacity events history;
+      holders = by_holder code r capacity events history;
     }
 
 -- ---- what the calls say of positions
@@ -98,25 +100,25 @@ module _ {T : Type 0} (old new : View T) where
 
   -- where a pop found nothing, each position that was known to be published had been taken
   pub found_later : (h : FoundNone old new) (q j : ℕ) (y : Item T) → IsPublished q j y old.seen → j < length (handed_out h.before)
-  found_later h q j y a =
-      let low = rank_low publishes old.seen a.before a.after (Published q y) y refl a.is in
-      let grown = hits_grow publishes old.seen h.before h.since in
-      let rank = a.rank in
+  found_later h q j y is_published =
+      let low = rank_low publishes old.seen is_published.before is_published.after (Published q y) y refl is_published.is in
       let none : length (drop (length (handed_out h.before)) (published h.before)) ≡ 0 = ap length h.empty in
-      let left = length-drop (length (handed_out h.before)) (published h.before) in
-      omega arith
+      omega (arith, hits_grow publishes old.seen h.before h.since, is_published.rank, length-drop (length (handed_out h.before)) (published h.before))
 
   pub none_later : (h : WasEmpty old new) (q j : ℕ) (y : Item T) → IsPublished q j y old.seen → j < length (handed_out h.before)
-  none_later h q j y a = found_later (record { by = h.by; before = h.before; after = h.after; is = h.is; since = h.since; empty = h.empty }) q j y a
+  none_later h q j y is_published =
+      found_later (record { by = h.by; before = h.before; after = h.after; is = h.is; since = h.since; empty = h.empty }) q j y is_published
 
   -- where a push found the queue full, each position that was known to be taken lies more than the capacity below
   pub full_below : (capacity : ℕ) (item : Item T) → (h : WasFull capacity item old new) → IsSound capacity new.seen
       → (q j : ℕ) (y : Item T) → IsTaken q j y old.seen → j + capacity < length (published h.before)
-  full_below capacity item h sound q j y a =
-      let low = rank_low hands_out old.seen a.before a.after (HandedOut q y) y refl a.is in
-      let grown = hits_grow hands_out old.seen h.before h.since in
-      let rank = a.rank in
-      let book = ap length (sound.book h.before (Acted h.by (Queues (push_of item)) (Truth false) ∷ h.after) h.is) in
-      let long = length-append (handed_out h.before) (waiting h.before) in
+  full_below capacity item h sound q j y taken =
+      let low = rank_low hands_out old.seen taken.before taken.after (HandedOut q y) y refl taken.is in
       let full : length (waiting h.before) ≡ capacity = h.full in
-      omega arith
+      omega (
+        arith,
+        hits_grow hands_out old.seen h.before h.since,
+        taken.rank,
+        ap length (sound.book h.before (Acted h.by (Queues (push_of item)) (Truth false) ∷ h.after) h.is),
+        length-append (handed_out h.before) (waiting h.before),
+      )

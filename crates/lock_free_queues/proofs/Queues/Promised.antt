@@ -24,31 +24,35 @@ module _ {T : Type 0} (code : Coding T) where
   abbrev IsSeen : QueueKind → ℕ → List (Event T) → Type 0
   IsSeen kind capacity events = IsHistory code (machine_kind kind) capacity events
 
+  -- the run behind each history of a queue is linearizable
   linearized : (kind : QueueKind) (capacity : ℕ) (events : List (Event T))
       → (h : IsHistory code (machine_kind kind) capacity events) → IsLinearized (machine_kind kind) h.trace
   linearized kind capacity events h =
-      (let t = h.trace in let r = h.run in let on = queue_run code capacity kind t r in subst (λ k. IsLinearized k t) r.of_kind
-      (run_linearizable t (kept_on kind t r.of_kind on.reached.coded on.reached.admitted on.fresh)))
+      (let trace_now = h.trace in
+      let run_now = h.run in
+      let run_here = queue_run code capacity kind trace_now run_now in
+      subst (λ k. IsLinearized k trace_now) run_now.of_kind
+      (run_linearizable trace_now (kept_on kind trace_now run_now.of_kind run_here.reached.coded run_here.reached.admitted run_here.fresh)))
 
   -- what a pass has seen of a queue is linearizable as a list of this kind and capacity
   pub linearizable : (kind : QueueKind) (capacity : ℕ) (v : View T) → IsSeen kind capacity v.seen → IsLinearizable (as_list kind capacity) v.seen
-  linearizable queues.IndexQueue capacity v h =
-      subst (λ es. IsLinearizable (as_list queues.IndexQueue capacity) es) (sym h.is)
-      (subst (λ n. IsLinearizable (as_list queues.IndexQueue n) h.trace.events) h.run.sized
-      (linearized queues.IndexQueue capacity v.seen h))
-  linearizable queues.Overflow capacity v h =
-      subst (λ es. IsLinearizable (as_list queues.Overflow capacity) es) (sym h.is)
-      (subst (λ n. IsLinearizable (as_list queues.Overflow n) h.trace.events) h.run.sized
-      (linearized queues.Overflow capacity v.seen h))
-  linearizable queues.Queue capacity v h =
-      subst (λ es. IsLinearizable (as_list queues.Queue capacity) es) (sym h.is)
-      (subst (λ n. IsLinearizable (as_list queues.Queue n) h.trace.events) h.run.sized
-      (linearized queues.Queue capacity v.seen h))
+  linearizable queues.IndexQueue capacity v is_seen =
+      subst (λ es. IsLinearizable (as_list queues.IndexQueue capacity) es) (sym is_seen.is)
+      (subst (λ n. IsLinearizable (as_list queues.IndexQueue n) is_seen.trace.events) is_seen.run.sized
+      (linearized queues.IndexQueue capacity v.seen is_seen))
+  linearizable queues.Overflow capacity v is_seen =
+      subst (λ es. IsLinearizable (as_list queues.Overflow capacity) es) (sym is_seen.is)
+      (subst (λ n. IsLinearizable (as_list queues.Overflow n) is_seen.trace.events) is_seen.run.sized
+      (linearized queues.Overflow capacity v.seen is_seen))
+  linearizable queues.Queue capacity v is_seen =
+      subst (λ es. IsLinearizable (as_list queues.Queue capacity) es) (sym is_seen.is)
+      (subst (λ n. IsLinearizable (as_list queues.Queue n) is_seen.trace.events) is_seen.run.sized
+      (linearized queues.Queue capacity v.seen is_seen))
 
   guaranteed : (kind : QueueKind) (capacity : ℕ) (v : View T) → (h : IsHistory code (machine_kind kind) capacity v.seen) → KeepsGuarantees h.trace
   guaranteed kind capacity v h =
-      (let r = h.run in let on = queue_run code capacity kind h.trace r in keeps_guarantees h.trace
-      (kept_on kind h.trace r.of_kind on.reached.coded on.reached.admitted on.fresh))
+      (let run_now = h.run in let run_here = queue_run code capacity kind h.trace run_now in keeps_guarantees h.trace
+      (kept_on kind h.trace run_now.of_kind run_here.reached.coded run_here.reached.admitted run_here.fresh))
 
   pub guarantees : (kind : QueueKind) (capacity : ℕ) (v : View T) → (h : IsSeen kind capacity v.seen) → KeepsGuarantees h.trace
   guarantees queues.IndexQueue capacity v h = guaranteed queues.IndexQueue capacity v h
@@ -56,25 +60,27 @@ module _ {T : Type 0} (code : Coding T) where
   guarantees queues.Queue capacity v h = guaranteed queues.Queue capacity v h
 
   pub sound : (kind : QueueKind) (capacity : ℕ) (v : View T) → IsBounded kind → IsSeen kind capacity v.seen → IsSound capacity v.seen
-  sound queues.IndexQueue capacity v b h = sound_history code of_indices capacity v.seen h
-  sound queues.Overflow capacity v b h = absurd b
-  sound queues.Queue capacity v b h = sound_history code of_values capacity v.seen h
+  sound queues.IndexQueue capacity v bounded is_seen = sound_history code of_indices capacity v.seen is_seen
+  sound queues.Overflow capacity v bounded seen = absurd bounded
+  sound queues.Queue capacity v bounded is_seen = sound_history code of_values capacity v.seen is_seen
 
   pub agree : (kind : QueueKind) (capacity p q i : ℕ) (x y : Item T) (v : View T) → IsSeen kind capacity v.seen
       → IsPublished p i x v.seen → IsTaken q i y v.seen → x ≡ y
-  agree kind capacity p q i x y v h a b = values_agree p q i x y v.seen (listed_always code capacity v.seen kind h v.seen [] (sym (append-nil v.seen))).book a b
+  agree kind capacity p q i x y v is_seen is_published taken =
+      values_agree p q i x y v.seen
+      (listed_always code capacity v.seen kind is_seen v.seen [] (sym (append-nil v.seen))).book is_published taken
 
   -- a history of an overflowing queue says of itself what is promised of each
   pub over_sound : (capacity : ℕ) (v : View T) → IsSeen queues.Overflow capacity v.seen → IsOverSound capacity v.seen
-  over_sound capacity v h =
+  over_sound capacity v is_seen =
       record {
-        book = λ part rest is. (over_listed code capacity v.seen h part rest is).book;
-        few = λ part rest is. (over_listed code capacity v.seen h part rest is).few;
-        oldest = λ before after p x is. over_lists_kept code capacity v.seen h before after (HandedOut p x) is;
-        answers = answers_right code queues.Overflow capacity v.seen h;
-        lengths = tells_lengths code queues.Overflow capacity v.seen h;
-        roles = grants code queues.Overflow capacity v.seen h;
-        holders = history_by_over_holders code capacity v.seen h;
+        book = λ part rest is. (over_listed code capacity v.seen is_seen part rest is).book;
+        few = λ part rest is. (over_listed code capacity v.seen is_seen part rest is).few;
+        oldest = λ before after p x is. over_lists_kept code capacity v.seen is_seen before after (HandedOut p x) is;
+        answers = answers_right code queues.Overflow capacity v.seen is_seen;
+        lengths = tells_lengths code queues.Overflow capacity v.seen is_seen;
+        roles = grants code queues.Overflow capacity v.seen is_seen;
+        holders = history_by_over_holders code capacity v.seen is_seen;
       }
 
 -- ---- by what the guard had seen
@@ -87,27 +93,28 @@ module _ {T : Type 0} (old new : View T) where
   taken_next item taken_out = grind (arith, length, taken_at)
 
   pub none_later_than : WasEmpty old new → (q j : ℕ) (y : Item T) → IsPublished q j y old.seen → j < length (handed_out old.seen)
-  none_later_than h q j y a = subst (λ n. j < n) (ap length h.next) (none_later old new h q j y a)
+  none_later_than was_empty q j y is_published = subst (λ n. j < n) (ap length was_empty.next) (none_later old new was_empty q j y is_published)
 
   pub full_above : (capacity : ℕ) (item : Item T) → IsSound capacity new.seen → WasFull capacity item old new
       → (q j : ℕ) (y : Item T) → IsTaken q j y old.seen → j + capacity < length (published old.seen)
-  full_above capacity item all h q j y a = subst (λ n. j + capacity < n) (ap length h.next) (full_below old new capacity item h all q j y a)
+  full_above capacity item all was_full q j y taken =
+      subst (λ n. j + capacity < n) (ap length was_full.next) (full_below old new capacity item was_full all q j y taken)
 
   -- an item that was taken out as the oldest was taken from a position that is no lower than the
   -- number of those that were seen to be taken
   pub taken_first : (item : Item T) → HasTakenFirst item old new → (p i : ℕ) × IsTaken p i item new.seen × (length (handed_out old.seen) ≤ i)
-  taken_first item h = (
-    h.by,
-    length (handed_out h.before),
-    record { before = h.before; after = h.after; is = h.is; rank = refl },
-    hits_grow hands_out old.seen h.before h.since,
+  taken_first item has_taken_first = (
+    has_taken_first.by,
+    length (handed_out has_taken_first.before),
+    record { before = has_taken_first.before; after = has_taken_first.after; is = has_taken_first.is; rank = refl },
+    hits_grow hands_out old.seen has_taken_first.before has_taken_first.since,
   )
 
   -- where a pop found nothing, each position that was seen to be published lies below the number
   -- of values that were taken out in the end
   pub none_waited : FoundNone old new → (q j : ℕ) (y : Item T) → IsPublished q j y old.seen → (i : ℕ) × (j < i) × (i ≤ length (handed_out new.seen))
-  none_waited h q j y a = (
+  none_waited h q j y is_published = (
     length (handed_out h.before),
-    found_later old new h q j y a,
+    found_later old new h q j y is_published,
     hits_grow hands_out h.before new.seen (record { rest = Acted h.by (Queues Pop) PoppedNone ∷ h.after; is = h.is }),
   )

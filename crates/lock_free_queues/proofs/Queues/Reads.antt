@@ -21,13 +21,13 @@ use Rattle.lock_free_queues.proofs.Queues.Whole.{none_more}
 
 module _ {T : Type 0} where
   begins_nothing : (xs : List (Event T)) → IsBeginning xs [] → xs ≡ []
-  begins_nothing [] h = refl
-  begins_nothing (x ∷ xs) h = (let no : [] ≡ x ∷ (xs ++ h.rest) = h.is in absurd (cc))
+  begins_nothing [] beginning = refl
+  begins_nothing (x ∷ xs) beginning = (let no : [] ≡ x ∷ (xs ++ beginning.rest) = beginning.is in absurd (cc))
 
   pub then_read : (v w x : View T) → HasRead v w → HasRead w x → HasRead v x
   then_read v w x first_read second_read = grind (arith, begins_further)
 
-  -- before the first load
+  -- before its first load a pass has read what it had seen
   pub not_read : (v : View T) → MissesNothing v → HasRead v v
   not_read v all = record { share = refl; since = itself v.seen; made = refl; whole = λ x. refl; all = all }
 
@@ -40,7 +40,7 @@ module _ {T : Type 0} (code : Coding T) (kd : QueueKind) where
     run = subst (λ n. IsRun code (machine_kind kd) n l.trace) same l.run
 
     has_word : found ≡ slice_index l.trace.world.words word
-    has_word = l.word_is (let size = words_long code kd capacity l.trace run in omega arith)
+    has_word = l.word_is (omega (arith, words_long code kd capacity l.trace run))
 
     ends_there : IsBeginning l.trace.events w.seen
     ends_there = record { rest = []; is = l.seen ∙ sym (append-nil l.trace.events) }
@@ -59,8 +59,7 @@ module _ {T : Type 0} (code : Coding T) (kd : QueueKind) where
           found_is = has_word;
         }
 
-    -- a look changes nothing of what the pass has made and of its share, and with the whole share
-    -- of what it has seen
+    -- a look changes nothing of what the pass has made and of its share, and with the whole share of what it has seen
     pub has_read : v.other ≡ [] → HasRead v w
     has_read alone =
         record {
@@ -93,26 +92,26 @@ module _ {T : Type 0} (code : Coding T) (kd : QueueKind) where
       subst (Owed key slots id word) (sym same)
       (subst (λ k. Owed k slots id word (v, [])) size
       (λ s holds many at low.
-      let x = looks_at code (machine_kind kd) v.capacity slots id word v some (calm kd v.going idle) s holds many at low in (
-        x.0,
-        x.1,
-        x.2,
-        x.3,
+      let looked = looks_at code (machine_kind kd) v.capacity slots id word v some (calm kd v.going idle) s holds many at low in (
+        looked.0,
+        looked.1,
+        looked.2,
+        looked.3,
         (
           record {
-            looks = x.4.0;
+            looks = looked.4.0;
             trace = holds.trace;
             run = holds.run;
-            seen = x.5;
+            seen = looked.5;
             word_is =
                 λ below. ap (λ ws. slice_index ws word) holds.words ∙ get_left holds.trace.world.words (0 ∷ []) word below;
           },
-          x.6,
-          x.4.1,
+          looked.6,
+          looked.4.1,
         ),
       )))
 
-  -- as what a seat owes for it
+  -- a look is what a seat owes for one operation, where it has a share and no call under way
   pub owes_look : (key words slots id word : ℕ) (v : View T) (xs : List (ℕ × Unit {0})) → word < words → xs ≡ [] → v.capacity ≡ key
       → v.going ≡ None → 0 < v.share.part
       → OwesAsk (λ (z : View T). z.asked) (IsMachine code (machine_kind kd) key) words slots id
@@ -139,11 +138,11 @@ module _ {T : Type 0} (code : Coding T) (kind : Kind) where
   -- a word that was read since a later view was read since an earlier one
   pub read_since : (capacity word found : ℕ) (v w x : View T) → HasRead v w
       → WasRead code kind capacity w x word found → WasRead code kind capacity v x word found
-  read_since capacity word found v w x a r =
+  read_since capacity word found v w x read r =
       record {
         trace = r.trace;
         run = r.run;
-        since = begins_further v.seen w.seen r.trace.events a.since r.since;
+        since = begins_further v.seen w.seen r.trace.events read.since r.since;
         until = r.until;
         found_is = r.found_is;
       }
@@ -151,12 +150,12 @@ module _ {T : Type 0} (code : Coding T) (kind : Kind) where
   -- a word that was read until an earlier view was read until a later one
   pub read_until : (capacity word found : ℕ) (v w x : View T) → WasRead code kind capacity v w word found
       → HasRead w x → WasRead code kind capacity v x word found
-  read_until capacity word found v w x r b =
+  read_until capacity word found v w x r read =
       record {
         trace = r.trace;
         run = r.run;
         since = r.since;
-        until = begins_further r.trace.events w.seen x.seen r.until b.since;
+        until = begins_further r.trace.events w.seen x.seen r.until read.since;
         found_is = r.found_is;
       }
 
@@ -243,8 +242,5 @@ module _ {T : Type 0} (code : Coding T) (kd : QueueKind) where
   -- the write position never sinks
   pub writes_rise : (capacity n m : ℕ) (v w : View T) → HasRead v w → WasRead code (machine_kind kd) capacity v v 0 n
       → WasRead code (machine_kind kd) capacity w w 0 m → n ≤ m
-  writes_rise capacity n m v w h a b =
-      let one = write_here capacity v n a in
-      let two = write_here capacity w m b in
-      let grown = hits_grow publishes v.seen w.seen h.since in
-      omega arith
+  writes_rise capacity n m v w read first_was_read second_was_read =
+      omega (arith, write_here capacity v n first_was_read, write_here capacity w m second_was_read, hits_grow publishes v.seen w.seen read.since)

@@ -78,13 +78,13 @@ module _ {E T V : Type 0} {kind : kinds.Ghosts E} {words : Ghosts T} {named : V 
       → Sending named first values was → SameProducer was now → taken ≡ true
       → (taken ≡ true → PushDone (named value) (producer_view was) (producer_view now)) → Sending named first (values ++ value ∷ []) now
   sending_one {first} {was} {now} {taken} values value s same is pushed =
-      let d = done_pushed (producer_view was) (producer_view now) (named value) (pushed is).0 in
+      let done_here = done_pushed (producer_view was) (producer_view now) (named value) (pushed is).0 in
       let one = one_more named [] values value in
       record {
         queue = same.queue ∙ s.queue;
         list = grown named (published (producer_view first).seen) values value _ _ s.list (pushed is).1.list;
-        puts_more = (let a = d.puts_more in let b = s.puts_more in omega arith);
-        gets_more = (let a = d.gets_more in let b = s.gets_more in omega arith);
+        puts_more = omega (arith, done_here.puts_more, s.puts_more);
+        gets_more = omega (arith, done_here.gets_more, s.gets_more);
         share = same.goes.share ∙ s.share;
       }
 
@@ -101,12 +101,12 @@ module _ {E T V : Type 0} {kind : kinds.Ghosts E} {words : Ghosts T} {named : V 
       → Sending named first values was → SameProducer was now → taken ≡ false
       → (taken ≡ false → PushRefused room item (producer_view was) (producer_view now)) → Sending named first values now
   sending_still {first} {was} {now} {room} {taken} {values} {item} s same is full =
-      let d = done_refused (producer_view was) (producer_view now) item room (full is) in
+      let done_here = done_refused (producer_view was) (producer_view now) item room (full is) in
       record {
         queue = same.queue ∙ s.queue;
         list = same_list room item _ _ (full is) ∙ s.list;
-        puts_more = (let a = d.puts_more in let b = s.puts_more in omega arith);
-        gets_more = (let a = d.gets_more in let b = s.gets_more in omega arith);
+        puts_more = omega (arith, done_here.puts_more, s.puts_more);
+        gets_more = omega (arith, done_here.gets_more, s.gets_more);
         share = same.goes.share ∙ s.share;
       }
 
@@ -115,9 +115,9 @@ module _ {E T V : Type 0} {kind : kinds.Ghosts E} {words : Ghosts T} {named : V 
       → ToProducer pass first → HasAcquired role true (view pass) (producer_view first)
       → Sending named first (take n all) last → length all ≤ n → FromProducer last new
       → HasReleased role (producer_view last) (view new) → published (view new).seen ≡ published (producer_view last).seen → Sent named pass all new
-  sent_all {pass} {new} {first} {last} {role} all n to acquired s past from h is =
+  sent_all {pass} {new} {first} {last} {role} all n to acquired s past from released is =
       let start : HasSent named [] (view pass) (producer_view first) = sent_none {old = view pass} {new = producer_view first} to.goes acquired in
-      let d = done_released (producer_view last) (view new) role h in
+      let done_here = done_released (producer_view last) (view new) role released in
       let whole : take n all ≡ all = take_all n all past in
       let size = ap length whole in
       record {
@@ -131,8 +131,8 @@ module _ {E T V : Type 0} {kind : kinds.Ghosts E} {words : Ghosts T} {named : V 
                   ∙ ap (λ xs. (published (view pass).seen ++ start.others) ++ map named xs) whole));
               done =
                   record {
-                    puts_more = (let a = d.puts_more in let b = s.puts_more in let c = start.done.puts_more in omega arith);
-                    gets_more = (let a = d.gets_more in let b = s.gets_more in let c = start.done.gets_more in omega arith);
+                    puts_more = omega (arith, done_here.puts_more, s.puts_more, start.done.puts_more);
+                    gets_more = omega (arith, done_here.gets_more, s.gets_more, start.done.gets_more);
                   };
               share = from.goes.share ∙ (s.share ∙ start.share);
             };
@@ -148,14 +148,14 @@ module _ {E T V : Type 0} {kind : kinds.Ghosts E} {words : Ghosts T} {named : V 
   receiving_one {first} {was} {now} {answer} values more value s same popped some is =
       let done : PopDone (named value) (consumer_view was) (consumer_view now) =
       subst (λ o. IfSome o (λ x. PopDone (named x) (consumer_view was) (consumer_view now))) some popped in
-      let d = done_popped (consumer_view was) (consumer_view now) (named value) done.0 in
+      let done_here = done_popped (consumer_view was) (consumer_view now) (named value) done.0 in
       let one = one_more named [] values value in
       subst (λ xs. Receiving named first xs now) (sym is)
       (record {
         queue = same.queue ∙ s.queue;
         list = grown named (handed_out (consumer_view first).seen) values value _ _ s.list done.1.list;
-        puts_more = (let a = d.puts_more in let b = s.puts_more in omega arith);
-        gets_more = (let a = d.gets_more in let b = s.gets_more in omega arith);
+        puts_more = omega (arith, done_here.puts_more, s.puts_more);
+        gets_more = omega (arith, done_here.gets_more, s.gets_more);
         share = same.goes.share ∙ s.share;
       })
 
@@ -166,12 +166,12 @@ module _ {E T V : Type 0} {kind : kinds.Ghosts E} {words : Ghosts T} {named : V 
   receiving_still {first} {was} {now} {answer} {values} s same empty none =
       let done : PopEmpty (consumer_view was) (consumer_view now) =
       subst (λ o. IfNone o (PopEmpty (consumer_view was) (consumer_view now))) none empty in
-      let d = done_none (consumer_view was) (consumer_view now) done.0 in
+      let done_here = done_none (consumer_view was) (consumer_view now) done.0 in
       record {
         queue = same.queue ∙ s.queue;
         list = done.1.list ∙ s.list;
-        puts_more = (let a = d.puts_more in let b = s.puts_more in omega arith);
-        gets_more = (let a = d.gets_more in let b = s.gets_more in omega arith);
+        puts_more = omega (arith, done_here.puts_more, s.puts_more);
+        gets_more = omega (arith, done_here.gets_more, s.gets_more);
         share = same.goes.share ∙ s.share;
       }
 
@@ -180,10 +180,10 @@ module _ {E T V : Type 0} {kind : kinds.Ghosts E} {words : Ghosts T} {named : V 
       → ToConsumer pass first → HasAcquired role true (view pass) (consumer_view first)
       → Receiving named first values last → FromConsumer last new
       → HasReleased role (consumer_view last) (view new) → handed_out (view new).seen ≡ handed_out (consumer_view last).seen → Received named pass values new
-  received_all {pass} {new} {first} {last} {role} {values} to acquired s from h is =
+  received_all {pass} {new} {first} {last} {role} {values} to acquired s from released is =
       let start : HasReceived named [] (view pass) (consumer_view first) =
       received_none {old = view pass} {new = consumer_view first} refl to.goes acquired in
-      let d = done_released (consumer_view last) (view new) role h in
+      let done_here = done_released (consumer_view last) (view new) role released in
       record {
         queue = from.queue ∙ (s.queue ∙ to.queue);
         received =
@@ -193,8 +193,8 @@ module _ {E T V : Type 0} {kind : kinds.Ghosts E} {words : Ghosts T} {named : V 
                   ∙ (s.list ∙ ap (λ ys. ys ++ map named values) (start.list ∙ append-nil (handed_out (view pass).seen ++ start.others)));
               done =
                   record {
-                    puts_more = (let a = d.puts_more in let b = s.puts_more in let c = start.done.puts_more in omega arith);
-                    gets_more = (let a = d.gets_more in let b = s.gets_more in let c = start.done.gets_more in omega arith);
+                    puts_more = omega (arith, done_here.puts_more, s.puts_more, start.done.puts_more);
+                    gets_more = omega (arith, done_here.gets_more, s.gets_more, start.done.gets_more);
                   };
               share = from.goes.share ∙ (s.share ∙ start.share);
             };
@@ -251,7 +251,7 @@ module _ {E T V : Type 0} {kind : kinds.Ghosts E} {words : Ghosts T} {named : V 
       → TellsApart named → view first ≡ first_view n → HasSplit (view first) (view left) (view right) → Sent named left sent mine
       → Received named right received theirs → HasJoined (view mine) (view theirs) (view joined) → MissesNothing (view joined)
       → Closes named n (view joined) q → sent ≡ received ++ q.values
-  left_over first left right mine theirs joined n q tells opens cut s r h none closed =
+  left_over first left right mine theirs joined n q tells opens cut s r has_joined none closed =
       rest_waits {named = named} {v = view joined} n q tells
       (passed {named = named} {n = n} {first = view first} {left = view left} {right = view right} {a = view mine} {b = view theirs} {z = view joined}
-      opens cut s.sent r.received h none) closed
+      opens cut s.sent r.received has_joined none) closed

@@ -43,14 +43,13 @@ module _ {T : Type 0} (code : Coding T) (kd : QueueKind) (capacity size : ℕ)
     abbrev released : List (Event T)
     released = Begun 0 (Queues (release_start role)) ∷ Finished 0 (Queues (release_start role)) answers.Done ∷ []
 
-    -- a free role is taken by the one party with one step, which writes the begin and the end of
-    -- the call
+    -- a free role is taken by the one party with one step, which writes the begin and the end of the call
     role_taken : slice_index words (role_word role) ≡ 1 → slice_set words (role_word role) 0 ≡ words'
         → Now words' (call_turns ts (Queues (acquire_start role)) 1) (es ++ acquired)
     role_taken free same =
         let start = Queues (acquire_start role) in
         let xs = es ++ Begun 0 start ∷ [] in
-        let a = begins machine (takes_role role) (record { word = role_word role }) tt words ts es h
+        let begun_so = begins machine (takes_role role) (record { word = role_word role }) tt words ts es h
         (plain_starts code kd (maker machine ts es) (takes_role role)
         (acquire_start role) (record { word = role_word role }) tt refl
         (λ kept. acquire_named code capacity kd role kept) (λ o p is. is)
@@ -58,19 +57,18 @@ module _ {T : Type 0} (code : Coding T) (kd : QueueKind) (capacity size : ℕ)
         (sums machine words ts es None h)) in
         let b =
         ends machine words (ts ++ Begin 0 start ∷ []) xs start
-        ((takes_role role).flight (record { word = role_word role }) tt) a
+        ((takes_role role).flight (record { word = role_word role }) tt) begun_so
         (record { word = role_word role; op = Exchange 1 0 }) (role_low role) refl tt words' (Truth true) []
         (ap (λ k. slice_set words (role_word role) (written (Exchange 1 0) k)) free ∙ same)
-        (ap (λ k. Done (Truth (k == 1))) free) ((quiet role).0 a.u.world (slice_index words (role_word role))) tt in
+        (ap (λ k. Done (Truth (k == 1))) free) ((quiet role).0 begun_so.u.world (slice_index words (role_word role))) tt in
         subst (λ zs. Now words' (call_turns ts start 1) zs) (append_assoc es (Begun 0 start ∷ []) (Finished 0 start (Truth true) ∷ [])) b
 
-    -- a role that the one party has is given back with one step, which writes the begin and the
-    -- end of the call
+    -- a role that the one party has is given back with one step, which writes the begin and the end of the call
     role_given : HasRole role es → slice_set words (role_word role) 1 ≡ words' → Now words' (call_turns ts (Queues (release_start role)) 1) (es ++ released)
     role_given has same =
         let start = Queues (release_start role) in
         let xs = es ++ Begun 0 start ∷ [] in
-        let a = begins machine (gives_role role) (record { word = role_word role }) tt words ts es h
+        let begun_so = begins machine (gives_role role) (record { word = role_word role }) tt words ts es h
         (role_starts code kd (maker machine ts es) (gives_role role)
         (release_start role) (record { word = role_word role }) tt refl
         (λ kept. release_named code capacity kd role kept) role (λ o p. tt)
@@ -78,9 +76,9 @@ module _ {T : Type 0} (code : Coding T) (kd : QueueKind) (capacity size : ℕ)
         (sums machine words ts es None h)) in
         let b =
         ends machine words (ts ++ Begin 0 start ∷ []) xs start
-        ((gives_role role).flight (record { word = role_word role }) tt) a
+        ((gives_role role).flight (record { word = role_word role }) tt) begun_so
         (record { word = role_word role; op = Store 1 }) (role_low role) refl tt words' answers.Done [] same refl
-        ((quiet role).1 a.u.world (slice_index words (role_word role))) tt in
+        ((quiet role).1 begun_so.u.world (slice_index words (role_word role))) tt in
         subst (λ zs. Now words' (call_turns ts start 1) zs) (append_assoc es (Begun 0 start ∷ []) (Finished 0 start answers.Done ∷ [])) b
 
   -- two positions, and what stands in the cells

@@ -15,12 +15,12 @@ use Rattle.lock_free_queues.proofs.Queues.Sums.{done_pushed, done_refused, done_
 -- ---- a list that grows
 
 none_there : {A : Type 0} (xs : List A) → length xs ≡ 0 → xs ≡ []
-none_there [] e = refl
-none_there (x ∷ xs) e = absurd (omega arith)
+none_there [] length_is_zero = refl
+none_there (x ∷ xs) length_is_zero = absurd (omega arith)
 
 pub length_named : {A B : Type 0} (named : A → B) (xs : List A) → length (map named xs) ≡ length xs
 length_named named [] = refl
-length_named named (x ∷ xs) = (let rest = length_named named xs in omega arith)
+length_named named (x ∷ xs) = omega (arith, length_named named xs)
 
 module _ {T V : Type 0} (tells : Event T → List (Item T)) (named : V → Item T) where
   -- a call that publishes and takes out nothing itself adds no value to the list
@@ -51,8 +51,7 @@ module _ {T V : Type 0} (tells : Event T → List (Item T)) (named : V → Item 
           share = share ∙ k.share;
         }
 
-    -- a call that leaves the list as it was, and publishes and takes out nothing itself, leaves
-    -- what was added
+    -- a call that leaves the list as it was, and publishes and takes out nothing itself, leaves what was added
     pub appended_same : HasDone 0 0 w u → flat_map tells u.seen ≡ flat_map tells w.seen → HasAppended tells named xs put got v u
     appended_same done is =
         let a = k.done in
@@ -61,8 +60,8 @@ module _ {T V : Type 0} (tells : Event T → List (Item T)) (named : V → Item 
           list = is ∙ k.list;
           done =
               record {
-                puts_more = (let p = a.puts_more in let q = done.puts_more in omega arith);
-                gets_more = (let p = a.gets_more in let q = done.gets_more in omega arith);
+                puts_more = omega (arith, a.puts_more, done.puts_more);
+                gets_more = omega (arith, a.gets_more, done.gets_more);
               };
           share = share ∙ k.share;
         }
@@ -71,19 +70,20 @@ module _ {T V : Type 0} (tells : Event T → List (Item T)) (named : V → Item 
   pub only_these : (xs : List V) (put got : ℕ) (v w : View T) (seen : List (Event T)) → flat_map tells v.seen ≡ []
       → HasAppended tells named xs put got v w → IsBeginning w.seen seen → length (flat_map tells seen) ≡ length xs
       → flat_map tells seen ≡ map named xs
-  only_these xs put got v w seen fresh k begins long =
+  only_these xs put got v w seen fresh appended begins long =
       let rest : List (Item T) = flat_map tells begins.rest in
-      let list : flat_map tells seen ≡ (k.others ++ map named xs) ++ rest =
+      let list : flat_map tells seen ≡ (appended.others ++ map named xs) ++ rest =
       ap (flat_map tells) begins.is
       ∙ (flat_map-append tells w.seen begins.rest
-      ∙ ap (λ ys. ys ++ rest) (k.list ∙ ap (λ ys. (ys ++ k.others) ++ map named xs) fresh)) in
+      ∙ ap (λ ys. ys ++ rest) (appended.list ∙ ap (λ ys. (ys ++ appended.others) ++ map named xs) fresh)) in
       let size = ap length list in
-      let one = length-append (k.others ++ map named xs) rest in
-      let two = length-append k.others (map named xs) in
+      let one = length-append (appended.others ++ map named xs) rest in
+      let two = length-append appended.others (map named xs) in
       let same = length_named named xs in
-      let no_others : k.others ≡ [] = none_there k.others (omega arith) in
+      let no_others : appended.others ≡ [] = none_there appended.others (omega arith) in
       let no_rest : rest ≡ [] = none_there rest (omega arith) in
-      list ∙ (ap (λ ys. (k.others ++ map named xs) ++ ys) no_rest ∙ (append-nil (k.others ++ map named xs) ∙ ap (λ ys. ys ++ map named xs) no_others))
+      list ∙ (ap (λ ys. (appended.others ++ map named xs) ++ ys) no_rest
+      ∙ (append-nil (appended.others ++ map named xs) ∙ ap (λ ys. ys ++ map named xs) no_others))
 
 -- ---- who pushes
 
@@ -94,77 +94,79 @@ none_published capacity item was new (inr h) = h.list
 
 module _ {T V : Type 0} {named : V → Item T} where
   pub sent_none : {role : Role} {old new : View T} → Goes old new → HasAcquired role true old new → HasSent named [] old new
-  sent_none {role} {old} {new} goes h = appended_none publishes named old new goes.since goes.share (done_acquired old new role true h)
+  sent_none {role} {old} {new} goes acquired = appended_none publishes named old new goes.since goes.share (done_acquired old new role true acquired)
 
   -- a push that was taken adds its value to those that were sent
   pub sent_one : {old was new : View T} (values : List V) (value : V) → HasSent named values old was
       → Goes was new → PushDone (named value) was new → HasSent named (values ++ value ∷ []) old new
-  sent_one {old} {was} {new} values value k goes h =
+  sent_one {old} {was} {new} values value sent goes push_done =
       subst (λ n. HasAppended publishes named (values ++ value ∷ []) n 0 old new) (sym (length-append values (value ∷ [])))
-      (appended_more publishes named values (length values) 0 old was new k goes.share value 1 0
-      (done_pushed was new (named value) h.0) h.1.list)
+      (appended_more publishes named values (length values) 0 old was new sent goes.share value 1 0
+      (done_pushed was new (named value) push_done.0) push_done.1.list)
 
   -- the next one of a list
   pub sent_next : {old was new : View T} (all : List V) (n : ℕ) (default : V) → HasSent named (take n all) old was
       → n < length all → Goes was new → PushDone (named (get_or all n default)) was new
       → HasSent named (take (n + 1) all) old new
-  sent_next {old} {was} {new} all n default k below goes h =
+  sent_next {old} {was} {new} all n default sent below goes push_done =
       subst (λ xs. HasSent named xs old new) (sym (take_more all n default below))
-      (sent_one {old = old} {was = was} {new = new} (take n all) (get_or all n default) k goes h)
+      (sent_one {old = old} {was = was} {new = new} (take n all) (get_or all n default) sent goes push_done)
 
   -- a push that was refused
   pub sent_refused : {old was new : View T} {values : List V} {room : ℕ} {item : Item T} → HasSent named values old was
       → Goes was new → PushRefused room item was new → HasSent named values old new
-  sent_refused {old} {was} {new} {values} {room} {item} k goes h =
-      appended_same publishes named values (length values) 0 old was new k goes.share (done_refused was new item room h)
-      (none_published room item was new h)
+  sent_refused {old} {was} {new} {values} {room} {item} sent goes push_refused =
+      appended_same publishes named values (length values) 0 old was new sent goes.share (done_refused was new item room push_refused)
+      (none_published room item was new push_refused)
 
   -- the role is given back
   pub sent_done : {role : Role} {old was new : View T} {values : List V} → HasSent named values old was → Goes was new
       → HasReleased role was new → published new.seen ≡ published was.seen → HasSent named values old new
-  sent_done {role} {old} {was} {new} {values} k goes h is =
-      appended_same publishes named values (length values) 0 old was new k goes.share (done_released was new role h) is
+  sent_done {role} {old} {was} {new} {values} sent goes released is =
+      appended_same publishes named values (length values) 0 old was new sent goes.share (done_released was new role released) is
 
   pub sent_all : {role : Role} {old was new : View T} (all : List V) (n : ℕ) → HasSent named (take n all) old was → length all ≤ n
       → Goes was new → HasReleased role was new → published new.seen ≡ published was.seen → HasSent named all old new
-  sent_all {role} {old} {was} {new} all n k past goes h is =
+  sent_all {role} {old} {was} {new} all n sent past goes released is =
       subst (λ xs. HasSent named xs old new) (take_all n all past)
-      (sent_done {role = role} {old = old} {was = was} {new = new} {values = take n all} k goes h is)
+      (sent_done {role = role} {old = old} {was = was} {new = new} {values = take n all} sent goes released is)
 
   -- ---- who pops
 
   pub received_none : {role : Role} {old new : View T} {values : List V} → values ≡ [] → Goes old new
       → HasAcquired role true old new → HasReceived named values old new
-  received_none {role} {old} {new} is goes h =
+  received_none {role} {old} {new} is goes acquired =
       subst (λ xs. HasReceived named xs old new) (sym is)
-      (appended_none hands_out named old new goes.since goes.share (done_acquired old new role true h))
+      (appended_none hands_out named old new goes.since goes.share (done_acquired old new role true acquired))
 
+  -- who has received these values and pops one more has received that one behind them
   pub received_one : {old was new : View T} (values : List V) (value : V) → HasReceived named values old was → Goes was new
       → PopDone (named value) was new → HasReceived named (values ++ value ∷ []) old new
-  received_one {old} {was} {new} values value k goes h =
+  received_one {old} {was} {new} values value received goes pop_done =
       subst (λ n. HasAppended hands_out named (values ++ value ∷ []) 0 n old new) (sym (length-append values (value ∷ [])))
-      (appended_more hands_out named values 0 (length values) old was new k goes.share value 0 1 (done_popped was new (named value) h.0) h.1.list)
+      (appended_more hands_out named values 0 (length values) old was new received goes.share value 0 1
+      (done_popped was new (named value) pop_done.0) pop_done.1.list)
 
   -- a list that has it at its end
   pub received_next : {old was new : View T} (values more : List V) (value : V) → HasReceived named values old was
       → Goes was new → PopDone (named value) was new
       → more ≡ values ++ value ∷ [] → HasReceived named more old new
-  received_next {old} {was} {new} values more value k goes h is =
+  received_next {old} {was} {new} values more value received goes pop_done is =
       subst (λ xs. HasReceived named xs old new) (sym is)
-      (received_one {old = old} {was = was} {new = new} values value k goes h)
+      (received_one {old = old} {was = was} {new = new} values value received goes pop_done)
 
   -- a pop that found none
   pub received_still : {old was new : View T} {values : List V} → HasReceived named values old was → Goes was new
       → PopEmpty was new → HasReceived named values old new
-  received_still {old} {was} {new} {values} k goes h =
-      appended_same hands_out named values 0 (length values) old was new k goes.share (done_none was new h.0) h.1.list
+  received_still {old} {was} {new} {values} received goes pop_empty =
+      appended_same hands_out named values 0 (length values) old was new received goes.share (done_none was new pop_empty.0) pop_empty.1.list
 
   pub received_peeked : {old was new : View T} {values : List V} (answer : Option (Item T)) → HasReceived named values old was → Goes was new
       → HasPeeked answer was new → HasReceived named values old new
-  received_peeked {old} {was} {new} {values} answer k goes h =
-      appended_same hands_out named values 0 (length values) old was new k goes.share (done_peeked was new answer h) h.list
+  received_peeked {old} {was} {new} {values} answer received goes peeked =
+      appended_same hands_out named values 0 (length values) old was new received goes.share (done_peeked was new answer peeked) peeked.list
 
   pub received_done : {role : Role} {old was new : View T} {values : List V} → HasReceived named values old was → Goes was new
       → HasReleased role was new → handed_out new.seen ≡ handed_out was.seen → HasReceived named values old new
-  received_done {role} {old} {was} {new} {values} k goes h is =
-      appended_same hands_out named values 0 (length values) old was new k goes.share (done_released was new role h) is
+  received_done {role} {old} {was} {new} {values} received goes released is =
+      appended_same hands_out named values 0 (length values) old was new received goes.share (done_released was new role released) is

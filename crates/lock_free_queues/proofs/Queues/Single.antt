@@ -63,8 +63,8 @@ module _ {T : Type 0} (code : Coding T) (capacity : ℕ) where
 
   -- a stage of a push that does not find the last position is a call that does not find it
   pub push_fresh : (r : Ring) (v : Val T (kind_of r)) (n : ℕ) (stage : PushStage) → IsFresh n stage → IsFreshCall n (pushing r v capacity stage)
-  push_fresh of_indices v n stage h = h
-  push_fresh of_values v n stage h = h
+  push_fresh of_indices v n stage fresh = fresh
+  push_fresh of_values v n stage fresh = fresh
 
   -- it goes on, and tells nothing
   pub record GoesOn (before after : Flight T) (found : ℕ) : Type 0 where

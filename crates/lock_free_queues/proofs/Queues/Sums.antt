@@ -25,43 +25,61 @@ module _ {T : Type 0} where
 
   module _ (old new : View T) where
     pub done_pushed : (item : Item T) → HasPushed item true old new → HasDone 1 0 old new
-    done_pushed item h = (let d = done h.by _ _ _ old new h.called in record { puts_more = d.puts_more; gets_more = d.gets_more })
+    done_pushed item pushed =
+        (let done_here = done pushed.by _ _ _ old new pushed.called in
+        record { puts_more = done_here.puts_more; gets_more = done_here.gets_more })
 
     -- a push that was refused, or a look
     pub done_refused : (item : Item T) (capacity : ℕ) → PushRefused capacity item old new → HasDone 0 0 old new
     done_refused item capacity (inl h) =
-        (let d = done h.0.by _ _ _ old new h.0.called in record { puts_more = d.puts_more; gets_more = d.gets_more })
+        (let done_here = done h.0.by _ _ _ old new h.0.called in record { puts_more = done_here.puts_more; gets_more = done_here.gets_more })
     done_refused item capacity (inr h) = same_made h.made
       where
         same_made : new.made ≡ old.made → HasDone 0 0 old new
-        same_made e = record { puts_more = (let a = ap (sum_by puts) e in omega arith); gets_more = (let b = ap (sum_by gets) e in omega arith) }
+        same_made e = record { puts_more = omega (arith, ap (sum_by puts) e); gets_more = omega (arith, ap (sum_by gets) e) }
 
     pub done_added : (value : ℕ) → HasOverflowed value None old new → HasDone 1 0 old new
-    done_added value h = (let d = done h.by _ _ _ old new h.called in record { puts_more = d.puts_more; gets_more = d.gets_more })
+    done_added value overflowed =
+        (let done_here = done overflowed.by _ _ _ old new overflowed.called in
+        record { puts_more = done_here.puts_more; gets_more = done_here.gets_more })
 
     pub done_replaced : (value oldest : ℕ) → HasOverflowed value (Some oldest) old new → HasDone 1 1 old new
-    done_replaced value oldest h = (let d = done h.by _ _ _ old new h.called in record { puts_more = d.puts_more; gets_more = d.gets_more })
+    done_replaced value oldest overflowed =
+        (let done_here = done overflowed.by _ _ _ old new overflowed.called in record { puts_more = done_here.puts_more; gets_more = done_here.gets_more })
 
     pub done_popped : (item : Item T) → HasPopped (Some item) old new → HasDone 0 1 old new
-    done_popped item h = (let d = done h.by _ _ _ old new h.called in record { puts_more = d.puts_more; gets_more = d.gets_more })
+    done_popped item popped =
+        (let done_here = done popped.by _ _ _ old new popped.called in
+        record { puts_more = done_here.puts_more; gets_more = done_here.gets_more })
 
     pub done_none : HasPopped None old new → HasDone 0 0 old new
-    done_none h = (let d = done h.by _ _ _ old new h.called in record { puts_more = d.puts_more; gets_more = d.gets_more })
+    done_none popped =
+        (let done_here = done popped.by _ _ _ old new popped.called in
+        record { puts_more = done_here.puts_more; gets_more = done_here.gets_more })
 
     pub done_peeked : (answer : Option (Item T)) → HasPeeked answer old new → HasDone 0 0 old new
-    done_peeked answer h = (let d = done h.by _ _ _ old new h.called in record { puts_more = d.puts_more; gets_more = d.gets_more })
+    done_peeked answer peeked =
+        (let done_here = done peeked.by _ _ _ old new peeked.called in
+        record { puts_more = done_here.puts_more; gets_more = done_here.gets_more })
 
     pub done_acquired : (role : Role) (taken : Bool) → HasAcquired role taken old new → HasDone 0 0 old new
-    done_acquired role taken h = (let d = done h.by _ _ _ old new h.called in record { puts_more = d.puts_more; gets_more = d.gets_more })
+    done_acquired role taken acquired =
+        (let done_here = done acquired.by _ _ _ old new acquired.called in
+        record { puts_more = done_here.puts_more; gets_more = done_here.gets_more })
 
     pub done_released : (role : Role) → HasReleased role old new → HasDone 0 0 old new
-    done_released role h = (let d = done h.by _ _ _ old new h.called in record { puts_more = d.puts_more; gets_more = d.gets_more })
+    done_released role released =
+        (let done_here = done released.by _ _ _ old new released.called in
+        record { puts_more = done_here.puts_more; gets_more = done_here.gets_more })
 
     pub done_seen : (role : Role) (taken : Bool) → HasSeenRole role taken old new → HasDone 0 0 old new
-    done_seen role taken h = (let d = done h.by _ _ _ old new h.called in record { puts_more = d.puts_more; gets_more = d.gets_more })
+    done_seen role taken seen_role =
+        (let done_here = done seen_role.by _ _ _ old new seen_role.called in
+        record { puts_more = done_here.puts_more; gets_more = done_here.gets_more })
 
     pub done_measured : (which : LengthOf) (capacity : ℕ) (answer : Answer T) → HasMeasured which capacity answer old new → HasDone 0 0 old new
-    done_measured which capacity answer h = (let d = done h.by _ _ _ old new h.called in record { puts_more = d.puts_more; gets_more = d.gets_more })
+    done_measured which capacity answer measured =
+        (let done_here = done measured.by _ _ _ old new measured.called in record { puts_more = done_here.puts_more; gets_more = done_here.gets_more })
 
     -- ---- what it moves of the roles
 
@@ -74,15 +92,14 @@ module _ {T : Type 0} where
         let g : sum_by (gives q) new.made ≡ sum_by (gives q) old.made + (0 + m) = made_more p start answer [] old new call (gives q) b m d in
         record { takes = omega arith; gives = omega arith }
 
-    -- a call that takes a role moves it once where it answers true, and else not, and never moves
-    -- the other role
+    -- a call that takes a role moves it once where it answers true, and else not, and never moves the other role
     pub acquired_moves : (role : Role) (taken : Bool) → HasAcquired role taken old new
         → (taken ≡ true → Moved role 1 0 old.made new.made) × (taken ≡ false → Moved role 0 0 old.made new.made)
         × Moved (other_role role) 0 0 old.made new.made
-    acquired_moves Producer true h = (
-      λ is. moves h.by _ _ h.called Producer 1 0 refl refl refl refl,
+    acquired_moves Producer true acquired = (
+      λ is. moves acquired.by _ _ acquired.called Producer 1 0 refl refl refl refl,
       λ is. absurd (cc),
-      moves h.by _ _ h.called Consumer 0 0 refl refl refl refl,
+      moves acquired.by _ _ acquired.called Consumer 0 0 refl refl refl refl,
     )
     acquired_moves Producer false h = (
       λ is. absurd (cc),
@@ -100,34 +117,42 @@ module _ {T : Type 0} where
       moves h.by _ _ h.called Producer 0 0 refl refl refl refl,
     )
 
+    -- a call that gives a role back moves it by one, and does not move the other role
     pub released_moves : (role : Role) → HasReleased role old new → Moved role 0 1 old.made new.made × Moved (other_role role) 0 0 old.made new.made
-    released_moves Producer h = (moves h.by _ _ h.called Producer 0 1 refl refl refl refl, moves h.by _ _ h.called Consumer 0 0 refl refl refl refl)
-    released_moves Consumer h = (moves h.by _ _ h.called Consumer 0 1 refl refl refl refl, moves h.by _ _ h.called Producer 0 0 refl refl refl refl)
+    released_moves Producer released = (
+      moves released.by _ _ released.called Producer 0 1 refl refl refl refl,
+      moves released.by _ _ released.called Consumer 0 0 refl refl refl refl,
+    )
+    released_moves Consumer released = (
+      moves released.by _ _ released.called Consumer 0 1 refl refl refl refl,
+      moves released.by _ _ released.called Producer 0 0 refl refl refl refl,
+    )
 
     pub peeked_moves : (answer : Option (Item T)) → HasPeeked answer old new → (q : Role) → Moved q 0 0 old.made new.made
-    peeked_moves answer h Producer = moves h.by _ _ h.called Producer 0 0 refl refl refl refl
-    peeked_moves answer h Consumer = moves h.by _ _ h.called Consumer 0 0 refl refl refl refl
+    peeked_moves answer peeked Producer = moves peeked.by _ _ peeked.called Producer 0 0 refl refl refl refl
+    peeked_moves answer peeked Consumer = moves peeked.by _ _ peeked.called Consumer 0 0 refl refl refl refl
 
     pub seen_moves : (role : Role) (taken : Bool) → HasSeenRole role taken old new → (q : Role) → Moved q 0 0 old.made new.made
-    seen_moves Producer taken h Producer = moves h.by _ _ h.called Producer 0 0 refl refl refl refl
-    seen_moves Producer taken h Consumer = moves h.by _ _ h.called Consumer 0 0 refl refl refl refl
-    seen_moves Consumer taken h Producer = moves h.by _ _ h.called Producer 0 0 refl refl refl refl
-    seen_moves Consumer taken h Consumer = moves h.by _ _ h.called Consumer 0 0 refl refl refl refl
+    seen_moves Producer taken seen_role Producer = moves seen_role.by _ _ seen_role.called Producer 0 0 refl refl refl refl
+    seen_moves Producer taken seen_role Consumer = moves seen_role.by _ _ seen_role.called Consumer 0 0 refl refl refl refl
+    seen_moves Consumer taken seen_role Producer = moves seen_role.by _ _ seen_role.called Producer 0 0 refl refl refl refl
+    seen_moves Consumer taken seen_role Consumer = moves seen_role.by _ _ seen_role.called Consumer 0 0 refl refl refl refl
 
     -- a push into an overflowing queue moves none
     none_moved : (p : ℕ) (start : Start T) (answer : Answer T) (wrote : List (Event T)) → Called p start answer wrote old new → (q : Role)
         → takes q (Begun p start) ≡ 0 → gives q (Begun p start) ≡ 0 → sum_by (takes q) wrote ≡ 0 → sum_by (gives q) wrote ≡ 0
         → takes q (Finished p start answer) ≡ 0 → gives q (Finished p start answer) ≡ 0 → Moved q 0 0 old.made new.made
-    none_moved p start answer wrote call q a b c d e f =
-        let t = made_more p start answer wrote old new call (takes q) a 0 e in
-        let g = made_more p start answer wrote old new call (gives q) b 0 f in
+    none_moved p start answer wrote call q begin_takes_none begin_gives_none writes_take_none
+        writes_give_none end_takes_none end_gives_none =
+        let t = made_more p start answer wrote old new call (takes q) begin_takes_none 0 end_takes_none in
+        let g = made_more p start answer wrote old new call (gives q) begin_gives_none 0 end_gives_none in
         record { takes = omega arith; gives = omega arith }
 
     overflowed_moves : (value : ℕ) (back : Option ℕ) → HasOverflowed value back old new → (q : Role) → Moved q 0 0 old.made new.made
-    overflowed_moves value None h Producer = none_moved h.by _ _ _ h.called Producer refl refl refl refl refl refl
-    overflowed_moves value None h Consumer = none_moved h.by _ _ _ h.called Consumer refl refl refl refl refl refl
-    overflowed_moves value (Some oldest) h Producer = none_moved h.by _ _ _ h.called Producer refl refl refl refl refl refl
-    overflowed_moves value (Some oldest) h Consumer = none_moved h.by _ _ _ h.called Consumer refl refl refl refl refl refl
+    overflowed_moves value None overflowed Producer = none_moved overflowed.by _ _ _ overflowed.called Producer refl refl refl refl refl refl
+    overflowed_moves value None overflowed Consumer = none_moved overflowed.by _ _ _ overflowed.called Consumer refl refl refl refl refl refl
+    overflowed_moves value (Some oldest) overflowed Producer = none_moved overflowed.by _ _ _ overflowed.called Producer refl refl refl refl refl refl
+    overflowed_moves value (Some oldest) overflowed Consumer = none_moved overflowed.by _ _ _ overflowed.called Consumer refl refl refl refl refl refl
 
     -- a push into an overflowing queue, or a look in its place, moves no role
     pub over_push_moves : (value : ℕ) (back : Option ℕ) → HasOverflowed value back old new ⊎ (back ≡ Some value) × WasAtEnd old new
@@ -149,11 +174,7 @@ module _ {T : Type 0} where
   pub all_puts : (events : List (Event T)) → sum_by puts events ≡ length (published events)
   all_puts [] = refl
   all_puts (e ∷ es) =
-      (let first = sum_first puts e es in
-      let rest = all_puts es in
-      let both = length-append (publishes e) (published es) in
-      let one = put_once e in
-      omega arith)
+      (omega (arith, sum_first puts e es, all_puts es, length-append (publishes e) (published es), put_once e))
     where
       put_once : (x : Event T) → puts x ≡ length (publishes x)
       put_once (Published p item) = refl
@@ -163,11 +184,7 @@ module _ {T : Type 0} where
   pub all_gets : (events : List (Event T)) → sum_by gets events ≡ length (handed_out events)
   all_gets [] = refl
   all_gets (e ∷ es) =
-      (let first = sum_first gets e es in
-      let rest = all_gets es in
-      let both = length-append (hands_out e) (handed_out es) in
-      let one = got_once e in
-      omega arith)
+      (omega (arith, sum_first gets e es, all_gets es, length-append (hands_out e) (handed_out es), got_once e))
     where
       got_once : (x : Event T) → gets x ≡ length (hands_out x)
       got_once (HandedOut p item) = refl

@@ -40,8 +40,8 @@ module _ {A : Type 0} where
   pub no_longer : (zs ys : List A) → StandIn zs ys → length zs ≤ length ys
   no_longer [] ys h = omega arith
   no_longer (z ∷ zs) [] h = absurd h
-  no_longer (z ∷ zs) (y ∷ ys) (inl h) = let rest = no_longer zs ys h.1 in omega arith
-  no_longer (z ∷ zs) (y ∷ ys) (inr h) = let rest = no_longer (z ∷ zs) ys h in omega arith
+  no_longer (z ∷ zs) (y ∷ ys) (inl h) = omega (arith, no_longer zs ys h.1)
+  no_longer (z ∷ zs) (y ∷ ys) (inr h) = omega (arith, no_longer (z ∷ zs) ys h)
 
   -- a list in which as many stand is the same
   pub same_list : (zs ys : List A) → StandIn zs ys → length ys ≤ length zs → zs ≡ ys
@@ -49,12 +49,11 @@ module _ {A : Type 0} where
   same_list [] (y ∷ ys) h few = absurd (omega arith)
   same_list (z ∷ zs) [] h few = absurd h
   same_list (z ∷ zs) (y ∷ ys) (inl h) few = ap (λ xs. z ∷ xs) (same_list zs ys h.1 (omega arith)) ∙ ap (λ x. x ∷ ys) h.0
-  same_list (z ∷ zs) (y ∷ ys) (inr h) few = (let rest = no_longer (z ∷ zs) ys h in absurd (omega arith))
+  same_list (z ∷ zs) (y ∷ ys) (inr h) few = (absurd (omega (arith, no_longer (z ∷ zs) ys h)))
 
 -- ---- what was taken out, as the history grows
 
--- by says of what a party did next whether it was to act as such a call; lasts: a yes stays as
--- more events follow
+-- `by` tells of what a party did next whether it was to act as such a call; by `lasts`, a yes stays as more events follow
 module _ (by : List (Event ℕ) → Bool) (lasts : (xs ys : List (Event ℕ)) → by xs ≡ true → by (xs ++ ys) ≡ true) where
   next_lasts : (p : ℕ) (es ys : List (Event ℕ)) → by (events_by p es) ≡ true → by (events_by p (es ++ ys)) ≡ true
   next_lasts p es ys t = ap by (by_more p es ys) ∙ lasts (events_by p es) (events_by p ys) t
@@ -67,8 +66,7 @@ module _ (by : List (Event ℕ) → Bool) (lasts : (xs ys : List (Event ℕ)) �
   grows zs [] ys h = in_nothing zs (taken by ys) h
   grows zs (HandedOut p x ∷ es) ys h = go (by (events_by p es)) refl (λ vs. grows vs es ys) h
     where
-      -- with an item first that was taken out by such a call, a list that stands in it stands in
-      -- the longer one too
+      -- with an item first that was taken out by such a call, a list that stands in it stands in the longer one too
       here : (us : List (Item ℕ))
           → ((vs : List (Item ℕ)) → StandIn vs (taken by es) → StandIn vs (taken by (es ++ ys)))
           → StandIn us (x ∷ taken by es) → StandIn us (x ∷ taken by (es ++ ys))
@@ -95,8 +93,7 @@ module _ (by : List (Event ℕ) → Bool) (lasts : (xs ys : List (Event ℕ)) �
       rest : List (Event ℕ)
       rest = es ++ HandedOut p x ∷ ys
 
-      -- with an item first that was taken out by such a call, a list and x stand in the longer one
-      -- too
+      -- with an item first that was taken out by such a call, a list and x stand in the longer one too
       here : (us : List (Item ℕ))
           → ((vs : List (Item ℕ)) → StandIn vs (taken by es) → StandIn (vs ++ x ∷ []) (taken by rest))
           → StandIn us (y ∷ taken by es) → StandIn (us ++ x ∷ []) (y ∷ taken by rest)
@@ -104,8 +101,7 @@ module _ (by : List (Event ℕ) → Bool) (lasts : (xs ys : List (Event ℕ)) �
       here (u ∷ us) later (inl k) = inl (k.0, later us k.1)
       here (u ∷ us) later (inr k) = inr (later (u ∷ us) k)
 
-      -- an item that is taken out first, by such a call or not, leaves a list and x standing in
-      -- what was taken out
+      -- an item that is taken out first, by such a call or not, leaves a list and x standing in what was taken out
       go : (b : Bool) → by (events_by q es) ≡ b
           → ((vs : List (Item ℕ)) → StandIn vs (taken by es) → StandIn (vs ++ x ∷ []) (taken by rest))
           → StandIn zs (if b then y ∷ taken by es else taken by es)
@@ -124,8 +120,7 @@ module _ (by : List (Event ℕ) → Bool) (lasts : (xs ys : List (Event ℕ)) �
       subst (λ es. StandIn (earlier ++ map Index xs) (taken by es)) (sym begins.is)
       (grows (earlier ++ map Index xs) w.seen begins.rest (k earlier h))
 
-  -- after numbers that were taken out, one more that is taken out by such a call stands behind
-  -- them
+  -- after numbers that were taken out, one more that is taken out by such a call stands behind them
   took_more : (xs : List ℕ) (x p : ℕ) (v w u : View ℕ) (before after : List (Event ℕ)) → TookOut by xs v w
       → IsBeginning w.seen before → u.seen ≡ before ++ HandedOut p (Index x) ∷ after → by (events_by p after) ≡ true
       → TookOut by (xs ++ x ∷ []) v u
@@ -141,69 +136,75 @@ module _ (by : List (Event ℕ) → Bool) (lasts : (xs ys : List (Event ℕ)) �
       (subst (λ zs. StandIn zs (taken by (before ++ HandedOut p (Index x) ∷ after))) list more)
 
 pub pop_lasts : (xs ys : List (Event ℕ)) → by_pop xs ≡ true → by_pop (xs ++ ys) ≡ true
-pop_lasts [] ys t = absurd (true≢false (sym t))
-pop_lasts (Acted p (Queues Pop) answer ∷ es) ys t = refl
-pop_lasts (e ∷ es) ys t = absurd (true≢false (sym t))
+pop_lasts [] ys pops = absurd (true≢false (sym pops))
+pop_lasts (Acted p (Queues Pop) answer ∷ es) ys pops = refl
+pop_lasts (e ∷ es) ys pops = absurd (true≢false (sym pops))
 
 pub push_lasts : (xs ys : List (Event ℕ)) → by_push xs ≡ true → by_push (xs ++ ys) ≡ true
-push_lasts [] ys t = absurd (true≢false (sym t))
-push_lasts (Acted p (Queues (PushIndex value)) answer ∷ es) ys t = refl
-push_lasts (e ∷ es) ys t = absurd (true≢false (sym t))
+push_lasts [] ys pushes = absurd (true≢false (sym pushes))
+push_lasts (Acted p (Queues (PushIndex value)) answer ∷ es) ys pushes = refl
+push_lasts (e ∷ es) ys pushes = absurd (true≢false (sym pushes))
 
 -- ---- pops
 
+-- a pop takes one number more out, behind those that pops took before
 pop_wrote : (xs : List ℕ) (x : ℕ) (v w u : View ℕ) → TookOut by_pop xs v w → HasPopped (Some (Index x)) w u → TookOut by_pop (xs ++ x ∷ []) v u
-pop_wrote xs x v w u k h =
-    let p = h.by in
-    let at = first_wrote p (Queues Pop) (PoppedIndex x) (HandedOut p (Index x)) (Acted p (Queues Pop) (PoppedIndex x) ∷ []) w u h.called in
-    took_more by_pop pop_lasts xs x p v w u at.before at.after k at.since at.is (ap by_pop at.mine)
+pop_wrote xs x v w u took_out popped =
+    let party_there = popped.by in
+    let wrote_first =
+    first_wrote party_there (Queues Pop) (PoppedIndex x) (HandedOut party_there (Index x))
+    (Acted party_there (Queues Pop) (PoppedIndex x) ∷ []) w u popped.called in
+    took_more by_pop pop_lasts xs x party_there v w u wrote_first.before wrote_first.after took_out
+    wrote_first.since wrote_first.is (ap by_pop wrote_first.mine)
 
 -- who takes a role has popped nothing by that
 pub takes_none : (role : Role) (v w : View ℕ) → Goes v w → HasAcquired role true v w → HasTaken [] v w
-takes_none role v w goes h =
+takes_none role v w goes acquired =
     record {
       since = goes.since;
       popped = took_none by_pop pop_lasts v w goes.since;
-      done = done_acquired v w role true h;
+      done = done_acquired v w role true acquired;
       share = goes.share;
       all = λ none. goes.all;
     }
 
 -- a pop that answers a number adds it to those that the pass has popped
 pub takes_one : (xs : List ℕ) (x : ℕ) (v w u : View ℕ) → HasTaken xs v w → Goes w u → HasPopped (Some (Index x)) w u → HasTaken (xs ++ x ∷ []) v u
-takes_one xs x v w u k goes h =
+takes_one xs x v w u has_taken goes has_popped =
     record {
-      since = begins_further _ _ _ k.since goes.since;
-      popped = pop_wrote xs x v w u k.popped h;
-      done = subst (λ n. HasDone 0 n v u) (sym (length-append xs (x ∷ []))) (done_then 0 (length xs) 0 1 v w u k.done (done_popped w u (Index x) h));
-      share = goes.share ∙ k.share;
+      since = begins_further _ _ _ has_taken.since goes.since;
+      popped = pop_wrote xs x v w u has_taken.popped has_popped;
+      done =
+          subst (λ n. HasDone 0 n v u) (sym (length-append xs (x ∷ [])))
+          (done_then 0 (length xs) 0 1 v w u has_taken.done (done_popped w u (Index x) has_popped));
+      share = goes.share ∙ has_taken.share;
       all = λ none. goes.all;
     }
 
 -- a call that publishes and takes out nothing leaves the counts of what was done
 same_done : (a b : ℕ) (v w u : View ℕ) → HasDone a b v w → HasDone 0 0 w u → HasDone a b v u
-same_done a b v w u x y =
+same_done a b v w u first_done second_done =
     record {
-      puts_more = (let p = x.puts_more in let q = y.puts_more in omega arith);
-      gets_more = (let p = x.gets_more in let q = y.gets_more in omega arith);
+      puts_more = omega (arith, first_done.puts_more, second_done.puts_more);
+      gets_more = omega (arith, first_done.gets_more, second_done.gets_more);
     }
 
 -- a call that publishes and takes out nothing leaves the numbers that the pass has popped
 takes_same : (xs : List ℕ) (v w u : View ℕ) → HasTaken xs v w → Goes w u → HasDone 0 0 w u → HasTaken xs v u
-takes_same xs v w u k goes done =
+takes_same xs v w u has_taken goes done =
     record {
-      since = begins_further _ _ _ k.since goes.since;
-      popped = took_same by_pop pop_lasts xs v w u k.popped goes.since;
-      done = same_done 0 (length xs) v w u k.done done;
-      share = goes.share ∙ k.share;
+      since = begins_further _ _ _ has_taken.since goes.since;
+      popped = took_same by_pop pop_lasts xs v w u has_taken.popped goes.since;
+      done = same_done 0 (length xs) v w u has_taken.done done;
+      share = goes.share ∙ has_taken.share;
       all = λ none. goes.all;
     }
 
 pub takes_nothing : (xs : List ℕ) (v w u : View ℕ) → HasTaken xs v w → Goes w u → HasPopped None w u → HasTaken xs v u
-takes_nothing xs v w u k goes h = takes_same xs v w u k goes (done_none w u h)
+takes_nothing xs v w u has_taken goes popped = takes_same xs v w u has_taken goes (done_none w u popped)
 
 pub takes_all : (xs : List ℕ) (role : Role) (v w u : View ℕ) → HasTaken xs v w → Goes w u → HasReleased role w u → HasTaken xs v u
-takes_all xs role v w u k goes h = takes_same xs v w u k goes (done_released w u role h)
+takes_all xs role v w u has_taken goes released = takes_same xs v w u has_taken goes (done_released w u role released)
 
 -- a pass has popped nothing since it knew just what it knows
 pub takes_here : (v : View ℕ) → HasTaken [] v v
@@ -220,15 +221,15 @@ takes_here v =
 -- numbers stand behind the old ones
 pub drained : (c : ℕ) (old new more : List ℕ) (v w u : View ℕ) → new ≡ old ++ more → HasTaken more v w
     → Goes w u → IsHistory one_word (machine_kind kinds.Overflow) c u.seen → HasPopped None w u → HasDrained old new v u
-drained c old new more v w u is k goes history h =
+drained c old new more v w u is has_taken goes history has_popped =
     record {
       more = more;
       numbers = is;
-      popped = takes_nothing more v w u k goes h;
+      popped = takes_nothing more v w u has_taken goes has_popped;
       emptied =
           λ whole none.
-          (let it = all_taken one_word kinds.Overflow c w u (subst IsAll (sym k.share) whole) (k.all none) goes history h in
-          it.1);
+          (let all_out = all_taken one_word kinds.Overflow c w u (subst IsAll (sym has_taken.share) whole) (has_taken.all none) goes history has_popped in
+          all_out.1);
     }
 
 -- ---- pushes
@@ -236,44 +237,43 @@ drained c old new more v w u is k goes history h =
 -- a push that handed a number back adds it to those that pushes took out
 push_wrote : (back : List ℕ) (value oldest : ℕ) (v w u : View ℕ) → TookOut by_push back v w
     → HasOverflowed value (Some oldest) w u → TookOut by_push (back ++ oldest ∷ []) v u
-push_wrote back value oldest v w u k h =
-    let p = h.by in
-    let act : Event ℕ = Acted p (Queues (PushIndex value)) (PoppedIndex oldest) in
-    let last : Event ℕ = Finished p (Queues (PushIndex value)) (PoppedIndex oldest) in
-    let at = first_wrote p (Queues (PushIndex value)) (PoppedIndex oldest) (Published p (Index value)) (HandedOut p (Index oldest) ∷ act ∷ []) w u h.called in
-    let part = first_own p at.after (act ∷ last ∷ []) (HandedOut p (Index oldest)) at.mine in
-    let before : List (Event ℕ) = at.before ++ Published p (Index value) ∷ part.0 in
-    let is : u.seen ≡ before ++ HandedOut p (Index oldest) ∷ part.1 =
-    at.is ∙ (ap (λ es. at.before ++ Published p (Index value) ∷ es) part.2
-    ∙ sym (append_assoc at.before (Published p (Index value) ∷ part.0) (HandedOut p (Index oldest) ∷ part.1))) in
+push_wrote back value oldest v w u took_out overflowed =
+    let party_there = overflowed.by in
+    let act : Event ℕ = Acted party_there (Queues (PushIndex value)) (PoppedIndex oldest) in
+    let last : Event ℕ = Finished party_there (Queues (PushIndex value)) (PoppedIndex oldest) in
+    let wrote_first =
+    first_wrote party_there (Queues (PushIndex value)) (PoppedIndex oldest) (Published party_there (Index value))
+    (HandedOut party_there (Index oldest) ∷ act ∷ []) w u overflowed.called in
+    let part = first_own party_there wrote_first.after (act ∷ last ∷ []) (HandedOut party_there (Index oldest)) wrote_first.mine in
+    let before : List (Event ℕ) = wrote_first.before ++ Published party_there (Index value) ∷ part.0 in
+    let is : u.seen ≡ before ++ HandedOut party_there (Index oldest) ∷ part.1 =
+    wrote_first.is ∙ (ap (λ es. wrote_first.before ++ Published party_there (Index value) ∷ es) part.2
+    ∙ sym (append_assoc wrote_first.before (Published party_there (Index value) ∷ part.0) (HandedOut party_there (Index oldest) ∷ part.1))) in
     let since : IsBeginning w.seen before =
     record {
-      rest = at.since.rest ++ Published p (Index value) ∷ part.0;
+      rest = wrote_first.since.rest ++ Published party_there (Index value) ∷ part.0;
       is =
-          ap (λ es. es ++ Published p (Index value) ∷ part.0) at.since.is
-          ∙ append_assoc w.seen at.since.rest (Published p (Index value) ∷ part.0);
+          ap (λ es. es ++ Published party_there (Index value) ∷ part.0) wrote_first.since.is
+          ∙ append_assoc w.seen wrote_first.since.rest (Published party_there (Index value) ∷ part.0);
     } in
-    took_more by_push push_lasts back oldest p v w u before part.1 k since is (ap by_push part.4)
+    took_more by_push push_lasts back oldest party_there v w u before part.1 took_out since is (ap by_push part.4)
 
 -- what was published stays so
 pub seen_later : (v w : View ℕ) → IsBeginning v.seen w.seen → length (published v.seen) ≤ length (published w.seen)
 seen_later v w begins =
-    let a = all_puts v.seen in
-    let b = all_puts w.seen in
     let all : sum_by puts w.seen ≡ sum_by puts (v.seen ++ begins.rest) = ap (sum_by puts) begins.is in
-    let both = sum_by-append puts v.seen begins.rest in
-    omega arith
+    omega (arith, all_puts v.seen, all_puts w.seen, sum_by-append puts v.seen begins.rest)
 
 counted_as : (xs : List ℕ) (put got put' got' : ℕ) (v w : View ℕ) → put ≡ put' → got ≡ got'
     → HasAppended publishes Index xs put got v w → HasAppended publishes Index xs put' got' v w
-counted_as xs put got put' got' v w p q k = subst (λ (t : ℕ × ℕ). HasAppended publishes Index xs t.0 t.1 v w) (λ i. (p i, q i)) k
+counted_as xs put got put' got' v w p q appended = subst (λ (t : ℕ × ℕ). HasAppended publishes Index xs t.0 t.1 v w) (λ i. (p i, q i)) appended
 
 -- who takes a role has pushed nothing by that
 pub pushed_none : (all : List ℕ) (role : Role) (v w : View ℕ) → Goes v w → HasAcquired role true v w → HasPushedUpTo (take 0 all) [] v w
-pushed_none all role v w goes h =
-    let done = done_acquired v w role true h in
+pushed_none all role v w goes acquired =
+    let done = done_acquired v w role true acquired in
     record {
-      few = (let p = done.puts_more in omega arith);
+      few = omega (arith, done.puts_more);
       share = goes.share;
       all = λ under. record { added = appended_none publishes Index v w goes.since goes.share done; returned = took_none by_push push_lasts v w goes.since };
     }
@@ -284,55 +284,54 @@ module _ (c : ℕ) (some : 0 < c) (xs back : List ℕ) (x : ℕ) (v w u : View �
   long = length-append xs (x ∷ [])
 
   earlier : length (published u.seen) < 2 ^ 64 - 1 → HasPushedAll xs back v w
-  earlier under = k.all (let low = seen_later w u goes.since in omega arith)
+  earlier under = k.all (omega (arith, seen_later w u goes.since))
 
   -- a push that handed nothing back adds its number to those that were pushed
   pushes_one : HasOverflowed x None w u → HasPublished (Index x) w u → HasPushedUpTo (xs ++ x ∷ []) back v u
-  pushes_one h p =
-      let done = done_added w u x h in
+  pushes_one overflowed has_published =
+      let done = done_added w u x overflowed in
       record {
-        few = (let f = k.few in let d = done.puts_more in let l = long in omega arith);
+        few = omega (arith, k.few, done.puts_more, long);
         share = goes.share ∙ k.share;
         all = λ under. (let was = earlier under in
             record {
               added =
                   counted_as (xs ++ x ∷ []) (length xs + 1) (length back + 0) (length (xs ++ x ∷ [])) (length back) v u
                   (sym long) (omega arith)
-                  (appended_more publishes Index xs (length xs) (length back) v w u was.added goes.share x 1 0 done p.list);
+                  (appended_more publishes Index xs (length xs) (length back) v w u was.added goes.share x 1 0 done has_published.list);
               returned = took_same by_push push_lasts back v w u was.returned goes.since;
             });
       }
 
-  -- a push that handed a number back adds its own to those that were pushed, and this one to those
-  -- that came back
+  -- a push that handed a number back adds its own to those that were pushed, and this one to those that came back
   replaces_one : (oldest : ℕ) → HasOverflowed x (Some oldest) w u → HasPublished (Index x) w u → HasPushedUpTo (xs ++ x ∷ []) (back ++ oldest ∷ []) v u
-  replaces_one oldest h p =
-      let done = done_replaced w u x oldest h in
+  replaces_one oldest overflowed has_published =
+      let done = done_replaced w u x oldest overflowed in
       record {
-        few = (let f = k.few in let d = done.puts_more in let l = long in omega arith);
+        few = omega (arith, k.few, done.puts_more, long);
         share = goes.share ∙ k.share;
         all = λ under. (let was = earlier under in
             record {
               added =
                   counted_as (xs ++ x ∷ []) (length xs + 1) (length back + 1) (length (xs ++ x ∷ []))
                   (length (back ++ oldest ∷ [])) v u (sym long) (sym (length-append back (oldest ∷ [])))
-                  (appended_more publishes Index xs (length xs) (length back) v w u was.added goes.share x 1 1 done p.list);
-              returned = push_wrote back x oldest v w u was.returned h;
+                  (appended_more publishes Index xs (length xs) (length back) v w u was.added goes.share x 1 1 done has_published.list);
+              returned = push_wrote back x oldest v w u was.returned overflowed;
             });
       }
 
   -- at the last position nothing is said of the order
   took_none_there : (back' : List ℕ) → TookNone c w u → HasPushedUpTo (xs ++ x ∷ []) back' v u
-  took_none_there back' (inl h) = (let none = h.0 in absurd (omega arith))
+  took_none_there back' (inl h) = (absurd (omega (arith, h.0)))
   took_none_there back' (inr h) =
       record {
-        few = (let f = k.few in let same = ap (sum_by puts) h.made in let l = long in omega arith);
+        few = omega (arith, k.few, ap (sum_by puts) h.made, long);
         share = goes.share ∙ k.share;
-        all = λ under. (let end = h.end in absurd (omega arith));
+        all = λ under. (absurd (omega (arith, h.end)));
       }
 
   pub adds : PushAdded x w u → HasPushedUpTo (xs ++ x ∷ []) back v u
-  adds p = pushes_one p.0 p.1
+  adds push_added = pushes_one push_added.0 push_added.1
 
   pub returns_one : (y : ℕ) → PushHandedBack c x y w u → HasPushedUpTo (xs ++ x ∷ []) (back ++ y ∷ []) v u
   returns_one y (inl h) = replaces_one y h.0 h.1
@@ -346,24 +345,24 @@ module _ (c : ℕ) (some : 0 < c) (all : List ℕ) (n x : ℕ) (back : List ℕ)
   longer = ap (λ z. take n all ++ z ∷ []) is ∙ sym (take_more all n 0 lt)
 
   pub pushes_next : PushAdded x w u → HasPushedUpTo (take (n + 1) all) back v u
-  pushes_next p = subst (λ xs. HasPushedUpTo xs back v u) longer (adds c some (take n all) back x v w u k goes p)
+  pushes_next push_added = subst (λ xs. HasPushedUpTo xs back v u) longer (adds c some (take n all) back x v w u k goes push_added)
 
   pub returns_next : (y : ℕ) → PushHandedBack c x y w u → HasPushedUpTo (take (n + 1) all) (back ++ y ∷ []) v u
-  returns_next y p =
+  returns_next y push_handed_back =
       subst (λ xs. HasPushedUpTo xs (back ++ y ∷ []) v u) longer
-      (returns_one c some (take n all) back x v w u k goes y p)
+      (returns_one c some (take n all) back x v w u k goes y push_handed_back)
 
 -- a pass that gives the role back once all are pushed has pushed all of them
 pub pushed_all : (all : List ℕ) (n : ℕ) (back : List ℕ) (role : Role) (v w u : View ℕ) → length all ≤ n
     → HasPushedUpTo (take n all) back v w → Goes w u → HasReleased role w u → published u.seen ≡ published w.seen
     → HasPushedUpTo all back v u
-pushed_all all n back role v w u past k goes h is =
-    let done = done_released w u role h in
+pushed_all all n back role v w u past k goes released is =
+    let done = done_released w u role released in
     subst (λ xs. HasPushedUpTo xs back v u) (take_all n all past)
     (record {
-      few = (let f = k.few in let d = done.puts_more in omega arith);
+      few = omega (arith, k.few, done.puts_more);
       share = goes.share ∙ k.share;
-      all = λ under. (let was = k.all (let same = ap length is in omega arith) in
+      all = λ under. (let was = k.all (omega (arith, ap length is)) in
           record {
             added = appended_same publishes Index (take n all) (length (take n all)) (length back) v w u was.added goes.share done is;
             returned = took_same by_push push_lasts back v w u was.returned goes.since;

@@ -10,7 +10,7 @@ use Rattle.lock_free_queues.proofs.Queues.Facts.{found_none, listed_always}
 
 pub none_more : {A : Type 0} (xs ys zs : List A) → zs ≡ xs ++ ys → length zs ≡ length xs → zs ≡ xs
 none_more xs [] zs is long = is ∙ append-nil xs
-none_more xs (y ∷ ys) zs is long = (let all = ap length is in let both = length-append xs (y ∷ ys) in absurd (omega arith))
+none_more xs (y ∷ ys) zs is long = (absurd (omega (arith, ap length is, length-append xs (y ∷ ys))))
 
 module _ {T : Type 0} (m : Event T → List (Item T)) where
   abbrev counts : Event T → ℕ
@@ -18,7 +18,7 @@ module _ {T : Type 0} (m : Event T → List (Item T)) where
 
   counted : (es : List (Event T)) → sum_by counts es ≡ length (flat_map m es)
   counted [] = refl
-  counted (e ∷ es) = (let first = sum_first counts e es in let rest = counted es in let both = length-append (m e) (flat_map m es) in omega arith)
+  counted (e ∷ es) = omega (arith, sum_first counts e es, counted es, length-append (m e) (flat_map m es))
 
   -- who has the whole share has seen no more than it made
   module _ (old new : View T) (es : List (Event T))
@@ -31,25 +31,23 @@ module _ {T : Type 0} (m : Event T → List (Item T)) where
         let now = goes.all (subst IsAll (sym goes.share) all) counts in
         let sum : sum_by counts new.made ≡ sum_by counts (old.made ++ es) = ap (sum_by counts) made in
         let both = sum_by-append counts old.made es in
-        let a = counted old.seen in
-        let b = counted new.seen in
-        let c = counted es in
-        omega arith
+        omega (arith, counted old.seen, counted new.seen, counted es)
 
     pub nothing_more : flat_map m es ≡ [] → flat_map m new.seen ≡ flat_map m old.seen
-    nothing_more flat_map_is_empty = grind (arith, length, as_many, none_more, flat_map-append)
+    nothing_more writes_none = grind (arith, length, as_many, none_more, flat_map-append)
 
 -- where a pop finds nothing, all that was published was taken
 pub all_taken : {T : Type 0} (code : Coding T) (kd : QueueKind) (capacity : ℕ) (old new : View T) → IsAll old.share
     → MissesNothing old → Goes old new → IsHistory code (machine_kind kd) capacity new.seen → HasPopped None old new
     → (published new.seen ≡ published old.seen) × (handed_out new.seen ≡ published new.seen)
 all_taken {T} code kd capacity old new all before goes history popping =
-    let p = popping.by in
-    let es : List (Event T) = Begun p (Queues Pop) ∷ Acted p (Queues Pop) PoppedNone ∷ Finished p (Queues Pop) PoppedNone ∷ [] in
+    let party_there = popping.by in
+    let events_then : List (Event T) =
+    Begun party_there (Queues Pop) ∷ Acted party_there (Queues Pop) PoppedNone ∷ Finished party_there (Queues Pop) PoppedNone ∷ [] in
     let out : published new.seen ≡ published old.seen =
-    nothing_more publishes old new es all before goes popping.called.made refl in
+    nothing_more publishes old new events_then all before goes popping.called.made refl in
     let took : handed_out new.seen ≡ handed_out old.seen =
-    nothing_more hands_out old new es all before goes popping.called.made refl in
+    nothing_more hands_out old new events_then all before goes popping.called.made refl in
     let empty : FoundNone old new = found_none code kd capacity old new history popping in
     let after : List (Event T) = Acted empty.by (Queues Pop) PoppedNone ∷ empty.after in
     let book = (listed_always code capacity new.seen kd history empty.before after empty.is).book in

@@ -110,6 +110,7 @@ impl<E: Kind, T: Words> Drop for Ring<E, T> {
 }
 
 impl<E: Kind, T: Words, const CAPACITY: usize> FixedSize<E, T, CAPACITY> {
+    /// The queue of any capacity that this one is made of.
     pub(crate) fn into_ring(self) -> Ring<E, T>
         ensures { result ≡ self.ring }
     {
@@ -135,6 +136,7 @@ impl<E: Kind, T: Words, Q: TableRule<(), View<T>, Origin>> Drop for Held<E, T, Q
 }
 
 impl<E: Kind, T: Words> Pass<E, T> {
+    /// The seat of the pass, which has no role.
     pub(crate) fn into_token(self) -> Token<E, T>
         ensures token { result ≡ self.token }
         ensures none { LacksRole roles.Producer result.seated.seat.me.0.made

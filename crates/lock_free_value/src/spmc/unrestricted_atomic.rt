@@ -83,6 +83,7 @@ pub struct Pass<T: Words> {
 }
 
 impl<T: Words> Pass<T> {
+    /// The seat of the pass, which has no role.
     fn into_token(self) -> Token<T>
         ensures token { result ≡ self.token }
         ensures none { LacksProducer result.seated.seat.me.0.made }

@@ -51,11 +51,11 @@ module _ {T : Type 0} where
   -- an event of another party is no response
   pub passed : (p q : ℕ) (start : Start T) (answer : Answer T) (es : List (Event T)) (place : ℕ) → q ≢ p
       → response_in p (Finished q start answer ∷ es) place ≡ response_in p es (place + 1)
-  passed p q start answer es place ne = let t : (q == p) ≡ false = grind (arith, nat_tests) in rw t refl
+  passed p q start answer es place ne = let tests_apart : (q == p) ≡ false = grind (arith, nat_tests) in rw tests_apart refl
 
   pub responded : (p q : ℕ) (start : Start T) (answer : Answer T) (es : List (Event T)) (place : ℕ) → q ≡ p
       → response_in p (Finished q start answer ∷ es) place ≡ Some (response_at place answer)
-  responded p q start answer es place is = let t : (q == p) ≡ true = grind (arith, nat_tests) in rw t refl
+  responded p q start answer es place is = let tests_same : (q == p) ≡ true = grind (arith, nat_tests) in rw tests_same refl
 
   pub place_of : Response T → Option (Response T) → ℕ
   place_of d None = d.place
@@ -76,10 +76,10 @@ module _ {T : Type 0} where
           omega arith
 
       theirs : (response_in p es (place + 1) ≡ Some r → place + 1 ≤ r.place) → q ≢ p → place ≤ r.place
-      theirs more ne = let le = more (sym (passed p q start answer es place ne) ∙ e) in omega arith
-  response_late p (e ∷ es) place r h = let le = response_late p es (place + 1) r h in omega arith
+      theirs more ne = omega (arith, more (sym (passed p q start answer es place ne) ∙ e))
+  response_late p (e ∷ es) place r h = omega (arith, response_late p es (place + 1) r h)
 
-  -- and so do the calls that begin in them
+  -- the calls that begin in these events stand among them
   pub calls_late : (es : List (Event T)) (place : ℕ) (c : Call T) → Contains (calls_from es place) c
       → (place ≤ c.place) × ((r : Response T) → c.response ≡ Some r → place ≤ r.place)
   calls_late [] place c h = absurd (none_there c h)
@@ -91,17 +91,18 @@ module _ {T : Type 0} where
       mine is =
           let at : place ≡ c.place = ap (λ (c : Call T). c.place) is in
           let its : response_in p es (place + 1) ≡ c.response = ap (λ (c : Call T). c.response) is in
-          (omega arith, λ r e. let le = response_late p es (place + 1) r (its ∙ e) in omega arith)
+          (omega arith, λ r e. omega (arith, response_late p es (place + 1) r (its ∙ e)))
 
+      -- a call that begins after the first event has its place, and its end, after that event
       theirs : (Contains (calls_from es (place + 1)) c
           → (place + 1 ≤ c.place) × ((r : Response T) → c.response ≡ Some r → place + 1 ≤ r.place))
           → Contains (calls_from es (place + 1)) c
           → (place ≤ c.place) × ((r : Response T) → c.response ≡ Some r → place ≤ r.place)
-      theirs more h = let far = more h in let le = far.0 in (omega arith, λ r e. let later = far.1 r e in omega arith)
+      theirs more h = let far = more h in let le = far.0 in (omega arith, λ r e. omega (arith, far.1 r e))
   calls_late (e ∷ es) place c h =
       let far = calls_late es (place + 1) c h in
       let le = far.0 in
-      (omega arith, λ r e. let later = far.1 r e in omega arith)
+      (omega arith, λ r e. omega (arith, far.1 r e))
 
 module _ {T : Type 0} (is_call : Start T → Bool) where
   -- ---- each call acts once, while it is under way, and ends with that answer
@@ -110,6 +111,7 @@ module _ {T : Type 0} (is_call : Start T → Bool) where
   Ends start answer None = ⊥
   Ends start answer (Some call) = (call.0 ≡ start) × (is_call start ≡ true → call.1 ≡ Some answer)
 
+  -- from where each party stands, every call acts once between its beginning and its end, and ends with that answer
   abbrev pub ActsOnce : List (Event T) → (ℕ → Standing T) → Type 0
   ActsOnce [] going = Unit {0}
   ActsOnce (Begun p start ∷ es) going = (going p ≡ None) × ActsOnce es (put p (Some (start, None)) going)
@@ -119,6 +121,7 @@ module _ {T : Type 0} (is_call : Start T → Bool) where
 
   -- ---- the calls in the order in which they act, where the latest call of each party was begun there
 
+  -- from a place on, each call of the object stands where it acts, with the place where its party began it
   abbrev pub order_in : List (Event T) → ℕ → (ℕ → ℕ) → List (Call T × Answer T)
   order_in [] place begun = []
   order_in (Begun p start ∷ es) place begun = order_in es (place + 1) (put p place begun)
@@ -136,48 +139,49 @@ module _ {T : Type 0} (is_call : Start T → Bool) where
   pub told : (p : ℕ) (start : Start T) (answer : Answer T) (r : Response T) (es : List (Event T)) (place : ℕ) (going : ℕ → Standing T)
       → is_call start ≡ true → going p ≡ Some (start, Some answer) → ActsOnce es going → response_in p es place ≡ Some r
       → answer ≡ r.answer
-  told p start answer r [] place going is_call_true is once e = absurd (cc)
-  told p start answer r (Begun q s ∷ es) place going is_call_true is once e =
+  told p start answer r [] place going of_object is once e = absurd (cc)
+  told p start answer r (Begun q s ∷ es) place going of_object is once e =
       ⊎_elim (λ (same : p ≡ q). let clash : None ≡ Some (start, Some answer) = sym once.0 ∙ (sym (ap going same) ∙ is) in absurd (cc))
-      (λ (ne : p ≢ q). told p start answer r es (place + 1) (put q (Some (s, None)) going) is_call_true (put_other q p (Some (s, None)) going ne ∙ is) once.1 e)
+      (λ (ne : p ≢ q). told p start answer r es (place + 1) (put q (Some (s, None)) going) of_object (put_other q p (Some (s, None)) going ne ∙ is) once.1 e)
       (cases_eq p q)
-  told p start answer r (Acted q s a ∷ es) place going is_call_true is once e =
+  told p start answer r (Acted q s a ∷ es) place going of_object is once e =
       ⊎_elim (λ (same : p ≡ q). absurd (acted_clash start s answer (sym is ∙ (ap going same ∙ once.0))))
-      (λ (ne : p ≢ q). told p start answer r es (place + 1) (put q (Some (s, Some a)) going) is_call_true
+      (λ (ne : p ≢ q). told p start answer r es (place + 1) (put q (Some (s, Some a)) going) of_object
       (put_other q p (Some (s, Some a)) going ne ∙ is) once.1 e)
       (cases_eq p q)
-  told p start answer r (Finished q s a ∷ es) place going is_call_true is once e =
+  told p start answer r (Finished q s a ∷ es) place going of_object is once e =
       ⊎_elim mine
-      (λ (ne : q ≢ p). told p start answer r es (place + 1) (put q None going) is_call_true
+      (λ (ne : q ≢ p). told p start answer r es (place + 1) (put q None going) of_object
       (put_other q p None going (λ h. ne (sym h)) ∙ is) once.1 (sym (passed p q s a es place ne) ∙ e))
       (cases_eq q p)
     where
+      -- the end of the call is here: it has the answer that the call acted with
       mine : q ≡ p → answer ≡ r.answer
       mine same =
-          let here : Some answer ≡ Some a = ends_as s a (going q) start (Some answer) (ap going same ∙ is) is_call_true once.0 in
+          let here : Some answer ≡ Some a = ends_as s a (going q) start (Some answer) (ap going same ∙ is) of_object once.0 in
           let its : response_at place a ≡ r = same_response (response_at place a) r (sym (responded p q s a es place same) ∙ e) in
           let last : a ≡ r.answer = ap (λ (r : Response T). r.answer) its in
           cc
-  told p start answer r (e ∷ es) place going is_call_true is once h = told p start answer r es (place + 1) going is_call_true is once h
+  told p start answer r (e ∷ es) place going of_object is once h = told p start answer r es (place + 1) going of_object is once h
 
   -- a call that has not acted yet acts before it ends
   pub acts_before : (p : ℕ) (start : Start T) (r : Response T) (es : List (Event T)) (place : ℕ)
       (going : ℕ → Standing T) (begun : ℕ → ℕ)
       → is_call start ≡ true → going p ≡ Some (start, None) → ActsOnce es going → response_in p es place ≡ Some r
       → Contains (order_in es place begun) (entry_at (begun p) p start (Some r) r.answer)
-  acts_before p start r [] place going begun is_call_true is once e = absurd (cc)
-  acts_before p start r (Begun q s ∷ es) place going begun is_call_true is once e =
+  acts_before p start r [] place going begun of_object is once e = absurd (cc)
+  acts_before p start r (Begun q s ∷ es) place going begun of_object is once e =
       ⊎_elim (λ (same : p ≡ q). let clash : None ≡ Some (start, None) = sym once.0 ∙ (sym (ap going same) ∙ is) in absurd (cc))
       (λ (ne : p ≢ q).
       subst (λ n. Contains (order_in es (place + 1) (put q place begun)) (entry_at n p start (Some r) r.answer)) (put_other q p place begun ne)
-      (acts_before p start r es (place + 1) (put q (Some (s, None)) going) (put q place begun) is_call_true
+      (acts_before p start r es (place + 1) (put q (Some (s, None)) going) (put q place begun) of_object
       (put_other q p (Some (s, None)) going ne ∙ is) once.1 e))
       (cases_eq p q)
-  acts_before p start r (Acted q s a ∷ es) place going begun is_call_true is once e =
+  acts_before p start r (Acted q s a ∷ es) place going begun of_object is once e =
       ⊎_elim mine
       (λ (ne : p ≢ q).
       later (is_call s) (entry_at (begun q) q s (response_in q es (place + 1)) a) (entry_at (begun p) p start (Some r) r.answer) (order_in es (place + 1) begun)
-      (acts_before p start r es (place + 1) (put q (Some (s, Some a)) going) begun is_call_true (put_other q p (Some (s, Some a)) going ne ∙ is) once.1 e))
+      (acts_before p start r es (place + 1) (put q (Some (s, Some a)) going) begun of_object (put_other q p (Some (s, Some a)) going ne ∙ is) once.1 e))
       (cases_eq p q)
     where
       mine : p ≡ q → Contains (order_in (Acted q s a ∷ es) place begun) (entry_at (begun p) p start (Some r) r.answer)
@@ -187,27 +191,29 @@ module _ {T : Type 0} (is_call : Start T → Bool) where
           let now : put q (Some (s, Some a)) going p ≡ Some (start, Some a) =
           ap (put q (Some (s, Some a)) going) same ∙ (put_same q (Some (s, Some a)) going ∙ ap (λ (n : Start T). Some (n, Some a)) name)
           in
-          let its : a ≡ r.answer = told p start a r es (place + 1) (put q (Some (s, Some a)) going) is_call_true now once.1 e in
+          let its : a ≡ r.answer = told p start a r es (place + 1) (put q (Some (s, Some a)) going) of_object now once.1 e in
           first (is_call s) (entry_at (begun q) q s (response_in q es (place + 1)) a)
           (entry_at (begun p) p start (Some r) r.answer) (order_in es (place + 1) begun)
-          (ap is_call name ∙ is_call_true)
+          (ap is_call name ∙ of_object)
           (same_entry (begun q) (begun p) q p s start (response_in q es (place + 1)) (Some r) a r.answer
           (sym (ap begun same)) (sym same) name (ap (λ n. response_in n es (place + 1)) (sym same) ∙ e) its)
-  acts_before p start r (Finished q s a ∷ es) place going begun is_call_true is once e =
-      ⊎_elim (λ (same : q ≡ p). let clash : None ≡ Some a = ends_as s a (going q) start None (ap going same ∙ is) is_call_true once.0 in absurd (cc))
-      (λ (ne : q ≢ p). acts_before p start r es (place + 1) (put q None going) begun is_call_true
+  acts_before p start r (Finished q s a ∷ es) place going begun of_object is once e =
+      ⊎_elim (λ (same : q ≡ p). let clash : None ≡ Some a = ends_as s a (going q) start None (ap going same ∙ is) of_object once.0 in absurd (cc))
+      (λ (ne : q ≢ p). acts_before p start r es (place + 1) (put q None going) begun of_object
       (put_other q p None going (λ h. ne (sym h)) ∙ is) once.1 (sym (passed p q s a es place ne) ∙ e))
       (cases_eq q p)
-  acts_before p start r (e ∷ es) place going begun is_call_true is once h = acts_before p start r es (place + 1) going begun is_call_true is once h
+  acts_before p start r (e ∷ es) place going begun of_object is once h = acts_before p start r es (place + 1) going begun of_object is once h
 
+  -- each call that begins in these events and ends has its entry among those that act
   pub completed_act : (es : List (Event T)) (place : ℕ) (going : ℕ → Standing T) (begun : ℕ → ℕ) → ActsOnce es going
       → (c : Call T) (r : Response T) → Contains (calls_from es place) c → c.response ≡ Some r → is_call c.start ≡ true
       → Contains (order_in es place begun) (c, r.answer)
-  completed_act [] place going begun once c r h e is_call_true = absurd (none_there c h)
-  completed_act (Begun p start ∷ es) place going begun once c r h e is_call_true =
-      ⊎_elim mine (λ more. completed_act es (place + 1) (put p (Some (start, None)) going) (put p place begun) once.1 c r more e is_call_true)
+  completed_act [] place going begun once c r h e of_object = absurd (none_there c h)
+  completed_act (Begun p start ∷ es) place going begun once c r h e of_object =
+      ⊎_elim mine (λ more. completed_act es (place + 1) (put p (Some (start, None)) going) (put p place begun) once.1 c r more e of_object)
       (split (call_at place p start (response_in p es (place + 1))) c (calls_from es (place + 1)) h)
     where
+      -- the call that begins here is the one: it acts before it ends
       mine : call_at place p start (response_in p es (place + 1)) ≡ c → Contains (order_in es (place + 1) (put p place begun)) (c, r.answer)
       mine is =
           let name : start ≡ c.start = ap (λ (c : Call T). c.start) is in
@@ -218,10 +224,10 @@ module _ {T : Type 0} (is_call : Start T → Bool) where
           in
           subst (Contains (order_in es (place + 1) (put p place begun))) whole
           (acts_before p start r es (place + 1) (put p (Some (start, None)) going) (put p place begun)
-          (ap is_call name ∙ is_call_true) (put_same p (Some (start, None)) going) once.1 its)
-  completed_act (Acted p start answer ∷ es) place going begun once c r h e is_call_true =
+          (ap is_call name ∙ of_object) (put_same p (Some (start, None)) going) once.1 its)
+  completed_act (Acted p start answer ∷ es) place going begun once c r h e of_object =
       later (is_call start) (entry_at (begun p) p start (response_in p es (place + 1)) answer) (c, r.answer) (order_in es (place + 1) begun)
-      (completed_act es (place + 1) (put p (Some (start, Some answer)) going) begun once.1 c r h e is_call_true)
-  completed_act (Finished p start answer ∷ es) place going begun once c r h e is_call_true =
-      completed_act es (place + 1) (put p None going) begun once.1 c r h e is_call_true
-  completed_act (x ∷ es) place going begun once c r h e is_call_true = completed_act es (place + 1) going begun once c r h e is_call_true
+      (completed_act es (place + 1) (put p (Some (start, Some answer)) going) begun once.1 c r h e of_object)
+  completed_act (Finished p start answer ∷ es) place going begun once c r h e of_object =
+      completed_act es (place + 1) (put p None going) begun once.1 c r h e of_object
+  completed_act (x ∷ es) place going begun once c r h e of_object = completed_act es (place + 1) going begun once c r h e of_object

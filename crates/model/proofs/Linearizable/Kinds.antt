@@ -22,30 +22,33 @@ module _ {T : Type 0} where
 
   others_of_list : (kind : QueueKind) (capacity : ℕ) (items : List (Item T)) (start : Start T)
       → is_push_or_pop start ≡ false → (list_of kind capacity).after items start ≡ items
-  others_of_list queue_kinds.IndexQueue capacity items start is_push_or_pop_false = bounded start is_push_or_pop_false
+  others_of_list queue_kinds.IndexQueue capacity items start neither = bounded start neither
     where
+      -- the list stays as it was at each call that is neither a push nor a pop
       bounded : (start : Start T) → is_push_or_pop start ≡ false → (list_of queue_kinds.IndexQueue capacity).after items start ≡ items
-      bounded (starts.Queues (queues.PushIndex index)) is_push_or_pop_false = absurd (cc)
-      bounded (starts.Queues (queues.Push value)) is_push_or_pop_false = absurd (cc)
-      bounded (starts.Queues queues.Pop) is_push_or_pop_false = absurd (cc)
-      bounded (starts.Queues other) is_push_or_pop_false = refl
-      bounded other is_push_or_pop_false = refl
-  others_of_list queue_kinds.Overflow capacity items start is_push_or_pop_false = overflowing start is_push_or_pop_false
+      bounded (starts.Queues (queues.PushIndex index)) neither = absurd (cc)
+      bounded (starts.Queues (queues.Push value)) neither = absurd (cc)
+      bounded (starts.Queues queues.Pop) neither = absurd (cc)
+      bounded (starts.Queues other) neither = refl
+      bounded other neither = refl
+  others_of_list queue_kinds.Overflow capacity items start neither = overflowing start neither
     where
+      -- the list stays as it was at each call that is neither a push nor a pop
       overflowing : (start : Start T) → is_push_or_pop start ≡ false → (list_of queue_kinds.Overflow capacity).after items start ≡ items
-      overflowing (starts.Queues (queues.PushIndex index)) is_push_or_pop_false = absurd (cc)
-      overflowing (starts.Queues (queues.Push value)) is_push_or_pop_false = absurd (cc)
-      overflowing (starts.Queues queues.Pop) is_push_or_pop_false = absurd (cc)
-      overflowing (starts.Queues other) is_push_or_pop_false = refl
-      overflowing other is_push_or_pop_false = refl
-  others_of_list queue_kinds.Queue capacity items start is_push_or_pop_false = bounded start is_push_or_pop_false
+      overflowing (starts.Queues (queues.PushIndex index)) neither = absurd (cc)
+      overflowing (starts.Queues (queues.Push value)) neither = absurd (cc)
+      overflowing (starts.Queues queues.Pop) neither = absurd (cc)
+      overflowing (starts.Queues other) neither = refl
+      overflowing other neither = refl
+  others_of_list queue_kinds.Queue capacity items start neither = bounded start neither
     where
+      -- the list stays as it was at each call that is neither a push nor a pop
       bounded : (start : Start T) → is_push_or_pop start ≡ false → (list_of queue_kinds.Queue capacity).after items start ≡ items
-      bounded (starts.Queues (queues.PushIndex index)) is_push_or_pop_false = absurd (cc)
-      bounded (starts.Queues (queues.Push value)) is_push_or_pop_false = absurd (cc)
-      bounded (starts.Queues queues.Pop) is_push_or_pop_false = absurd (cc)
-      bounded (starts.Queues other) is_push_or_pop_false = refl
-      bounded other is_push_or_pop_false = refl
+      bounded (starts.Queues (queues.PushIndex index)) neither = absurd (cc)
+      bounded (starts.Queues (queues.Push value)) neither = absurd (cc)
+      bounded (starts.Queues queues.Pop) neither = absurd (cc)
+      bounded (starts.Queues other) neither = refl
+      bounded other neither = refl
 
   queue_linearizable : (kind : QueueKind) (t : Trace T) → IsKeptBy (queue_promises.promise kind) t → IsLinearizable (as_list kind t.world.capacity) t.events
   queue_linearizable kind t kept =
@@ -70,6 +73,7 @@ module _ {T : Type 0} where
 
   -- ---- every kind
 
+  -- the history of each queue and value that keeps its promises is linearizable; of other kinds nothing is said
   by_kind : (kind : Kind) (t : Trace T) → IsKeptBy (promise_of kind) t → IsLinearized kind t
   by_kind IndexQueue t kept = queue_linearizable queue_kinds.IndexQueue t kept
   by_kind Overflow t kept = queue_linearizable queue_kinds.Overflow t kept

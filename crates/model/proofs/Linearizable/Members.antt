@@ -11,10 +11,10 @@ module _ {X : Type 0} where
   put p x f q = if q == p then x else f q
 
   pub put_same : (p : ℕ) (x : X) (f : ℕ → X) → put p x f p ≡ x
-  put_same p x f = let t : (p == p) ≡ true = grind (arith, nat_tests) in rw t refl
+  put_same p x f = let tests_same : (p == p) ≡ true = grind (arith, nat_tests) in rw tests_same refl
 
   pub put_other : (p q : ℕ) (x : X) (f : ℕ → X) → q ≢ p → put p x f q ≡ f q
-  put_other p q x f ne = let t : (q == p) ≡ false = grind (arith, nat_tests) in rw t refl
+  put_other p q x f ne = let tests_apart : (q == p) ≡ false = grind (arith, nat_tests) in rw tests_apart refl
 
 -- ---- members of lists
 
@@ -38,7 +38,7 @@ module _ {X : Type 0} where
   later false x y xs h = h
 
   pub none_there : (y : X) → Contains [] y → ⊥
-  none_there y h = let lt = h.1 in omega arith
+  none_there y h = omega (arith, h.1)
 
   pub split : (x y : X) (xs : List X) → Contains (x ∷ xs) y → (x ≡ y) ⊎ Contains xs y
   split x y xs h = go h.0 h.1 h.2
@@ -64,6 +64,7 @@ module _ {X : Type 0} where
   later_if R true x xs f all = (f refl, all)
   later_if R false x xs f all = all
 
+  -- what holds of each element and each later one holds of any two places in their order
   pub pairs_of : (R : X → X → Type 0) (xs : List X) → AllLater R xs → AllPairs R xs
   pairs_of R [] all i j d lt within = absurd (omega arith)
   pairs_of R (x ∷ xs) all zero zero d lt within = absurd (omega arith)

@@ -23,12 +23,14 @@ module _ {T : Type 0} (is_call : Start T → Bool) where
   late c r es place going begun (Pending p start is under) e = response_late p es place r (sym (ap (λ (c : Call T). c.response) is) ∙ e)
   late c r es place going begun (Later h) e = (calls_late es place c h).1 r e
 
+  -- a call of the later events is one of all of them, and the call that begins first begins here
   source_begun : (p : ℕ) (s : Start T) (es : List (Event T)) (place : ℕ) (going : ℕ → Standing T) (begun : ℕ → ℕ) (c : Call T)
       → Source c es (place + 1) (put p (Some (s, None)) going) (put p place begun)
       → Source c (Begun p s ∷ es) place going begun
   source_begun p s es place going begun c (Later h) = Later (there (call_at place p s (response_in p es (place + 1))) c (calls_from es (place + 1)) h)
   source_begun p s es place going begun c (Pending q start is under) = ⊎_elim mine theirs (cases_eq q p)
     where
+      -- the call under way is the one that begins here
       mine : q ≡ p → Source c (Begun p s ∷ es) place going begun
       mine same =
           let whole : Some (s, None) ≡ Some (start, None) = sym (ap (put p (Some (s, None)) going) same ∙ put_same p (Some (s, None)) going) ∙ under in
@@ -43,6 +45,7 @@ module _ {T : Type 0} (is_call : Start T → Bool) where
           Pending q start (is ∙ ap (λ n. call_at n q start (response_in q es (place + 1))) (put_other p q place begun ne))
           (sym (put_other p q (Some (s, None)) going ne) ∙ under)
 
+  -- a call of the later events is one of all of them where the first event is an act
   source_acted : (p : ℕ) (s : Start T) (a : Answer T) (es : List (Event T)) (place : ℕ) (going : ℕ → Standing T)
       (begun : ℕ → ℕ) (c : Call T)
       → Source c es (place + 1) (put p (Some (s, Some a)) going) begun → Source c (Acted p s a ∷ es) place going begun
@@ -56,6 +59,7 @@ module _ {T : Type 0} (is_call : Start T → Bool) where
       theirs : q ≢ p → Source c (Acted p s a ∷ es) place going begun
       theirs ne = Pending q start is (sym (put_other p q (Some (s, Some a)) going ne) ∙ under)
 
+  -- a call of the later events is one of all of them where the first event is an end
   source_finished : (p : ℕ) (s : Start T) (a : Answer T) (es : List (Event T)) (place : ℕ) (going : ℕ → Standing T)
       (begun : ℕ → ℕ) (c : Call T)
       → Source c es (place + 1) (put p None going) begun → Source c (Finished p s a ∷ es) place going begun
@@ -71,6 +75,7 @@ module _ {T : Type 0} (is_call : Start T → Bool) where
           Pending q start (is ∙ ap (λ (o : Option (Response T)). call_at (begun q) q start o) (sym (passed q p s a es place (λ h. ne (sym h)))))
           (sym (put_other p q None going ne) ∙ under)
 
+  -- a call of the later events is one of all of them where the first event is neither of these
   source_quiet : (e : Event T) (es : List (Event T)) (place : ℕ) (going : ℕ → Standing T) (begun : ℕ → ℕ) (c : Call T)
       → calls_from (e ∷ es) place ≡ calls_from es (place + 1)
       → ((p : ℕ) → response_in p (e ∷ es) place ≡ response_in p es (place + 1)) → Source c es (place + 1) going begun
@@ -84,6 +89,7 @@ module _ {T : Type 0} (is_call : Start T → Bool) where
     pub source : Source x.0 es place going begun
     pub call : is_call x.0.start ≡ true
 
+  -- each entry of the order has its source: a call that is under way, or that begins later
   comes : (es : List (Event T)) (place : ℕ) (going : ℕ → Standing T) (begun : ℕ → ℕ) → ActsOnce is_call es going
       → (x : Call T × Answer T) → Contains (order_in is_call es place begun) x → Comes x es place going begun
   comes [] place going begun once x h = absurd (none_there x h)
@@ -99,6 +105,7 @@ module _ {T : Type 0} (is_call : Start T → Bool) where
           let its : call_at (begun p) p s (response_in p es (place + 1)) ≡ x.0 = ap (λ (x : Call T × Answer T). x.0) m.1 in
           record { source = Pending p s (sym its) once.0; call = subst (λ (c : Call T). is_call c.start ≡ true) its m.0 }
 
+      -- an entry that comes after this act has its source in the later events
       theirs : (Contains (order_in is_call es (place + 1) begun) x → Comes x es (place + 1) (put p (Some (s, Some a)) going) begun)
           → Contains (order_in is_call es (place + 1) begun) x → Comes x (Acted p s a ∷ es) place going begun
       theirs more h = record { source = source_acted p s a es place going begun x.0 (more h).source; call = (more h).call }
@@ -126,10 +133,7 @@ module _ {T : Type 0} (is_call : Start T → Bool) where
       mine same = let at : put p place begun q ≡ place = ap (put p place begun) same ∙ put_same p place begun in omega arith
 
       theirs : q ≢ p → put p place begun q < place + 1
-      theirs ne =
-          let at = put_other p q place begun ne in
-          let lt = all q x (sym (put_other p q (Some (s, None)) going ne) ∙ under) in
-          omega arith
+      theirs ne = omega (arith, put_other p q place begun ne, all q x (sym (put_other p q (Some (s, None)) going ne) ∙ under))
 
   begun_acted : (p : ℕ) (s : Start T) (a : Answer T) (place : ℕ) (going : ℕ → Standing T) (begun : ℕ → ℕ)
       → going p ≡ Some (s, None) → AreBegun place going begun
@@ -137,10 +141,10 @@ module _ {T : Type 0} (is_call : Start T → Bool) where
   begun_acted p s a place going begun here all q x under = ⊎_elim mine theirs (cases_eq q p)
     where
       mine : q ≡ p → begun q < place + 1
-      mine same = let lt = all q (s, None) (ap going same ∙ here) in omega arith
+      mine same = omega (arith, all q (s, None) (ap going same ∙ here))
 
       theirs : q ≢ p → begun q < place + 1
-      theirs ne = let lt = all q x (sym (put_other p q (Some (s, Some a)) going ne) ∙ under) in omega arith
+      theirs ne = omega (arith, all q x (sym (put_other p q (Some (s, Some a)) going ne) ∙ under))
 
   begun_finished : (p : ℕ) (place : ℕ) (going : ℕ → Standing T) (begun : ℕ → ℕ) → AreBegun place going begun → AreBegun (place + 1) (put p None going) begun
   begun_finished p place going begun all q x under = ⊎_elim mine theirs (cases_eq q p)
@@ -149,7 +153,7 @@ module _ {T : Type 0} (is_call : Start T → Bool) where
       mine same = let clash : None ≡ Some x = sym (ap (put p None going) same ∙ put_same p None going) ∙ under in absurd (cc)
 
       theirs : q ≢ p → begun q < place + 1
-      theirs ne = let lt = all q x (sym (put_other p q None going ne) ∙ under) in omega arith
+      theirs ne = omega (arith, all q x (sym (put_other p q None going ne) ∙ under))
 
   -- a call that acts now and one that acts later
   now_and_later : (p : ℕ) (s : Start T) (a : Answer T) (es : List (Event T)) (place : ℕ) (going : ℕ → Standing T)
@@ -158,21 +162,20 @@ module _ {T : Type 0} (is_call : Start T → Bool) where
       → (call_at (begun p) p s o ≢ c) × ¬ Precedes c (call_at (begun p) p s o)
   now_and_later p s a es place going begun o c lt source = (differ source, before c.response refl)
     where
+      -- the call that acts now is none of those that act later
       differ : Source c es (place + 1) (put p (Some (s, Some a)) going) begun → call_at (begun p) p s o ≢ c
       differ (Pending q start is under) e =
           let same : p ≡ q = ap (λ (c : Call T). c.party) (e ∙ is) in
           acted_clash s start a (sym (ap (put p (Some (s, Some a)) going) (sym same) ∙ put_same p (Some (s, Some a)) going) ∙ under)
       differ (Later h) e =
           let at : begun p ≡ c.place = ap (λ (c : Call T). c.place) e in
-          let le = (calls_late es (place + 1) c h).0 in
-          omega arith
+          omega (arith, (calls_late es (place + 1) c h).0)
 
       before : (response : Option (Response T)) → c.response ≡ response → ¬ StandsBefore response (begun p)
       before None e h = h
-      before (Some r) e h =
-          let le = late c r es (place + 1) (put p (Some (s, Some a)) going) begun source e in
-          omega arith
+      before (Some r) e h = omega (arith, late c r es (place + 1) (put p (Some (s, Some a)) going) begun source e)
 
+  -- any two entries are of two calls, and the later one had not ended before the earlier one began
   in_order : (es : List (Event T)) (place : ℕ) (going : ℕ → Standing T) (begun : ℕ → ℕ) → ActsOnce is_call es going
       → AreBegun place going begun → AllLater Apart (order_in is_call es place begun)
   in_order [] place going begun once all = tt
@@ -185,7 +188,7 @@ module _ {T : Type 0} (is_call : Start T → Bool) where
       (in_order es (place + 1) (put p (Some (s, Some a)) going) begun once.1 (begun_acted p s a place going begun once.0 all))
   in_order (Finished p s a ∷ es) place going begun once all = in_order es (place + 1) (put p None going) begun once.1 (begun_finished p place going begun all)
   in_order (e ∷ es) place going begun once all =
-      in_order es (place + 1) going begun once (λ p x under. let lt = all p x under in omega arith)
+      in_order es (place + 1) going begun once (λ p x under. omega (arith, all p x under))
 
   -- ---- and in that order they are legal
 
@@ -196,6 +199,7 @@ module _ {T : Type 0} (is_call : Start T → Bool) where
     abbrev IsLegalFrom : State → List (Start T × Answer T) → Type 0
     IsLegalFrom s xs = answers_from o s (map (λ m. m.0) xs) ≡ map (λ m. m.1) xs
 
+    -- the answers in that order are those of the object, where its moments are legal
     legal_in : (es : List (Event T)) (place : ℕ) (begun : ℕ → ℕ) (s : State) → IsLegalFrom s (moments es)
         → IsLegalFrom s (names (order_in is_call es place begun))
     legal_in [] place begun s legal = refl
@@ -222,6 +226,7 @@ module _ {T State : Type 0} (spec : Specification T State) where
       IfSome call.response
       (λ response. spec.is_call call.start ≡ true → Contains (order_in spec.is_call history 0 (λ p. 0)) (call, response.answer))
 
+  -- the calls in the order in which they act are the sequential history that is asked for
   pub linearizable : (others : (s : State) (start : Start T) → spec.is_call start ≡ false → spec.object.after s start ≡ s)
       (history : List (Event T))
       → ActsOnce spec.is_call history (λ p. None) → IsLegal spec.object (moments history)
@@ -259,4 +264,4 @@ module _ {T State : Type 0} (spec : Specification T State) where
           begins (Later h) = h
 
           go : Comes spec.is_call x history 0 (λ p. None) (λ p. 0) → (spec.is_call x.0.start ≡ true) × Contains (calls_of history) x.0
-          go comes_holds = (comes_holds.call, begins comes_holds.source)
+          go its_source = (its_source.call, begins its_source.source)

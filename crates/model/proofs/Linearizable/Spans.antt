@@ -78,6 +78,7 @@ module _ {T : Type 0} (promise : Promise T) (capacity : ℕ) (is_call : Start T 
       → IsOpenFor start (promise.wrote capacity start answer) span → Ends is_call start answer (standing span)
   ends = grind arith
 
+  -- in a history in which each event stands right, each call acts once
   follows : (es before : List (Event T)) (going : ℕ → Standing T) → Agree going before
       → AreRight (StandsRight promise capacity) before es → ActsOnce is_call es going
   follows [] before going agree right = tt
@@ -99,6 +100,7 @@ module _ {T : Type 0} (promise : Promise T) (capacity : ℕ) (is_call : Start T 
   follows (e ∷ es) before going agree right =
       follows es (before ++ e ∷ []) going (quiet_step going before e agree (λ span. refl) refl) right.1
 
+  -- what holds of each event of a history holds of those that come after its first part
   all_right : (before es : List (Event T)) → Each (StandsRight promise capacity) (before ++ es) → AreRight (StandsRight promise capacity) before es
   all_right before [] each = tt
   all_right before (e ∷ es) each = (

@@ -34,6 +34,7 @@ module _ {T : Type 0} where
   abbrev under : World T → ℕ → ℕ
   under w p = one_if (is_some (flight_in w p))
 
+  -- where no call of a party below n has moved, as many calls are under way as before
   same_pending : (n : ℕ) (old new : World T) → ((q : ℕ) → q < n → flight_in new q ≡ flight_in old q) → pending n new ≡ pending n old
   same_pending zero old new same = refl
   same_pending (suc n) old new same =
@@ -41,7 +42,7 @@ module _ {T : Type 0} where
       let last = same n (omega arith) in
       rw (rest, last) refl
 
-  -- where one party's call alone moves
+  -- where one party's call alone moves, the count of calls under way changes as it does
   moves : (n : ℕ) (old new : World T) (p : ℕ) → p < n → ((q : ℕ) → q ≢ p → flight_in new q ≡ flight_in old q)
       → pending n new + under old p ≡ pending n old + under new p
   moves zero old new p below others = absurd (omega arith)
@@ -52,6 +53,7 @@ module _ {T : Type 0} where
           let rest = same_pending n old new (λ q less. others q (λ same. absurd (omega (arith, less, same, e)))) in
           rw (rest, e) (omega arith)
 
+      -- p is another party than the last one: the count of the parties before it moves, and the last one's stays
       before : p ≢ n
           → (p < n → ((q : ℕ) → q ≢ p → flight_in new q ≡ flight_in old q) → pending n new + under old p ≡ pending n old + under new p)
           → pending (suc n) new + under old p ≡ pending (suc n) old + under new p
@@ -63,15 +65,15 @@ module _ {T : Type 0} where
   abbrev Counts : ℕ → World T → World T → ℕ → ℕ → Type 0
   Counts n old new ended begins = pending n new + ended ≡ pending n old + begins
 
+  -- a turn that begins a call puts one more call under way, and ends none
   begins : (n : ℕ) (w : World T) (p : ℕ) (start : Start T) → p < n → (o : Option (Flight T)) → is_none o ≡ false → flight_in w p ≡ None
       → Counts n w (after_begin w p start o) 0 1
-  begins n w p start below None is_none_false free = absurd (cc)
-  begins n w p start below (Some flight) is_none_false free =
-      let moved = moves n w (after_begin w p start (Some flight)) p below (λ q ne. begun_stays w p start (Some flight) q ne) in
+  begins n w p start below None some free = absurd (cc)
+  begins n w p start below (Some flight) some free =
       let here : flight_in (after_begin w p start (Some flight)) p ≡ Some flight = ap (λ o. flight_of (doing_of o)) (party_put_same p _ w.latest) in
       let one : under (after_begin w p start (Some flight)) p ≡ 1 = rw here refl in
       let none : under w p ≡ 0 = rw free refl in
-      omega arith
+      omega (arith, moves n w (after_begin w p start (Some flight)) p below (λ q ne. begun_stays w p start (Some flight) q ne))
 
   -- a call goes on or ends
   goes : (n : ℕ) (w : World T) (p : ℕ) (x : Party T) (ask : Option Ask) (answer : ℕ) (doing : Doing T) (flight : Flight T) → p < n
@@ -96,31 +98,29 @@ module _ {T : Type 0} where
 
       here : (a : After (Flight T) (Answer T)) → s.after ≡ a
           → flight_in new p ≡ flight_of (Some (doing_after (w.changes + change_of w.words ask) (since + change_of w.words ask) a))
-      here a same_doing =
+      here a leads =
           ap (λ o. flight_of (doing_of o)) (party_put_same p _ w.latest)
-          ∙ ap (λ a. flight_of (Some (doing_after (w.changes + change_of w.words ask) (since + change_of w.words ask) a))) same_doing
+          ∙ ap (λ a. flight_of (Some (doing_after (w.changes + change_of w.words ask) (since + change_of w.words ask) a))) leads
 
+      -- a step writes no end of its own, so the ends among its events are that of its call
       ended : ends (events_of_step p x.start s) ≡ ends (ending_of p x.start (answer_in s.after))
       ended =
-          let none = writes_no_end T w.coding w.words (beside_of w.words w.kept w.latest p) p x.start now answer w.kept in
-          let more = ended_more s.wrote (ending_of p x.start (answer_in s.after)) in
-          omega arith
+          omega (
+            arith,
+            writes_no_end T w.coding w.words (beside_of w.words w.kept w.latest p) p x.start now answer w.kept,
+            ended_more s.wrote (ending_of p x.start (answer_in s.after)),
+          )
 
+      -- a step that leads on leaves as many calls under way, and one that ends its call leaves one fewer
       by_after : (a : After (Flight T) (Answer T)) → s.after ≡ a → Counts n w new (ends (events_of_step p x.start s)) 0
-      by_after (GoOn next) same_doing =
-          let there : under new p ≡ 1 = rw (here (GoOn next) same_doing) refl in
-          let none : ends (ending_of p x.start (answer_in s.after)) ≡ 0 = rw same_doing refl in
-          let all = ended in
-          let move = moved in
-          let was = one in
-          omega arith
-      by_after (Done result) same_doing =
-          let there : under new p ≡ 0 = rw (here (Done result) same_doing) refl in
-          let end : ends (ending_of p x.start (answer_in s.after)) ≡ 1 = rw same_doing refl in
-          let all = ended in
-          let move = moved in
-          let was = one in
-          omega arith
+      by_after (GoOn next) leads =
+          let there : under new p ≡ 1 = rw (here (GoOn next) leads) refl in
+          let none : ends (ending_of p x.start (answer_in s.after)) ≡ 0 = rw leads refl in
+          omega (arith, ended, moved, one)
+      by_after (Done result) leads =
+          let there : under new p ≡ 0 = rw (here (Done result) leads) refl in
+          let end : ends (ending_of p x.start (answer_in s.after)) ≡ 1 = rw leads refl in
+          omega (arith, ended, moved, one)
 
   nexts : (n : ℕ) (w : World T) (p : ℕ) → p < n → (flight : Flight T) → flight_in w p ≡ Some flight → (o : Option (Party T)) → party_of p w.latest ≡ o
       → Counts n w (after_next w p o) (ends (events_of_next w p o)) 0
@@ -134,36 +134,39 @@ module _ {T : Type 0} where
   decides n w p said below flight is None found = let none : flight_in w p ≡ None = ap (λ o. flight_of (doing_of o)) found in absurd (cc)
   decides n w p said below flight is (Some x) found = goes n w p x None (number_of said) x.doing flight below is found refl
 
+  -- each turn adds the call that it begins to those under way, and takes off the one that it ends
   pub turn_counts : (n : ℕ) (w : World T) (turn : Turn T) → IsPossible w turn → IsBelow n turn
       → Counts n w (world_after w turn) (ends (events_of w turn)) (begin_in turn)
   turn_counts n w (Begin p start) may below = begins n w p start below (first_of w.kind w.capacity start w.kept) may.call may.free
   turn_counts n w (Next p) may below = nexts n w p below may.flight may.is (party_of p w.latest) refl
   turn_counts n w (Decide p said) may below = decides n w p said below may.0.flight may.0.is (party_of p w.latest) refl
-  turn_counts n w (Die owner) may below = let same = same_pending n w (world_after w (Die owner)) (λ q less. refl) in omega arith
+  turn_counts n w (Die owner) may below = omega (arith, same_pending n w (world_after w (Die owner)) (λ q less. refl))
 
   -- ---- a list of turns
 
   module _ (refuses : World T → Turn T → Option Refusal) (possible : (w : World T) (turn : Turn T) → refuses w turn ≡ None → IsPossible w turn) where
+    -- over a list of turns: the calls under way and those that ended are those from before and those that began
     pub counted : (n : ℕ) (t : Trace T) (turns : List (Turn T)) → AreAllowedBy refuses t turns → AllByRecursion (IsBelow n) turns
         → pending n (after_turns t turns).world + ends (after_turns t turns).events ≡ pending n t.world + ends t.events + begins_in turns
     counted n t [] allowed below = omega arith
     counted n t (turn ∷ turns) allowed below =
-        let here = turn_counts n t.world turn (possible t.world turn allowed.0) below.0 in
         let more = ended_more t.events (events_of t.world turn) in
         let rest = counted n (after_turn t turn) turns allowed.1 below.1 in
         let all : pending n (after_turns (after_turn t turn) turns).world + ends (after_turns (after_turn t turn) turns).events
         ≡ pending n (world_after t.world turn) + (ends t.events + ends (events_of t.world turn)) + begins_in turns = rw more at rest in
-        omega arith
+        omega (arith, turn_counts n t.world turn (possible t.world turn allowed.0) below.0)
 
   -- each turn that begins a call writes so
   answer_begins : (w : World T) (p : ℕ) (x : Party T) (answer : ℕ) (doing : Doing T) → begun (events_of_answer w p x answer doing) ≡ 0
   answer_begins w p x answer (Over others) = refl
   answer_begins w p x answer (Going now since) =
       let s = step_in w p x now answer in
-      let none = writes_no_begin T w.coding w.words (beside_of w.words w.kept w.latest p) p x.start now answer w.kept in
-      let more = sum_by-append begun_of s.wrote (ending_of p x.start (answer_in s.after)) in
-      let end = ending_begins p x.start (answer_in s.after) in
-      omega arith
+      omega (
+        arith,
+        writes_no_begin T w.coding w.words (beside_of w.words w.kept w.latest p) p x.start now answer w.kept,
+        sum_by-append begun_of s.wrote (ending_of p x.start (answer_in s.after)),
+        ending_begins p x.start (answer_in s.after),
+      )
     where
       ending_begins : (p : ℕ) (start : Start T) (o : Option (Answer T)) → begun (ending_of p start o) ≡ 0
       ending_begins p start None = refl
@@ -183,13 +186,11 @@ module _ {T : Type 0} where
   turn_begins w (Decide p said) = decision_begins w p said (party_of p w.latest)
   turn_begins w (Die owner) = refl
 
+  -- the history has as many more beginnings of calls as there are turns that begin one
   pub begins_are : (t : Trace T) (turns : List (Turn T)) → begun (after_turns t turns).events ≡ begun t.events + begins_in turns
   begins_are t [] = omega arith
   begins_are t (turn ∷ turns) =
-      let here = turn_begins t.world turn in
-      let more = sum_by-append begun_of t.events (events_of t.world turn) in
-      let rest = begins_are (after_turn t turn) turns in
-      omega arith
+      omega (arith, turn_begins t.world turn, sum_by-append begun_of t.events (events_of t.world turn), begins_are (after_turn t turn) turns)
 
   -- ---- a step
 
@@ -206,11 +207,9 @@ module _ {T : Type 0} where
       before : p ≢ n → (p < n → flight_in w p ≡ Some flight → 1 ≤ pending n w) → 1 ≤ pending (suc n) w
       before ne more = let rest = more (omega (arith, ne)) is in omega arith
 
+  -- a turn takes a step only where a call is under way
   pub steps_pending : (n : ℕ) (w : World T) (turn : Turn T) → IsPossible w turn → IsBelow n turn → steps_of w turn ≤ pending n w
   steps_pending n w (Begin p start) may below = omega arith
-  steps_pending n w (Next p) may below =
-      let small = steps_small (ask_in w (Next p)) in
-      let some = one_pending n w p may.flight below may.is in
-      omega arith
+  steps_pending n w (Next p) may below = omega (arith, steps_small (ask_in w (Next p)), one_pending n w p may.flight below may.is)
   steps_pending n w (Decide p said) may below = omega arith
   steps_pending n w (Die owner) may below = omega arith

@@ -24,16 +24,14 @@ module _ {T : Type 0} where
   own_of_all p w (Decide q said) = omega arith
   own_of_all p w (Die owner) = omega arith
 
+  -- the steps of one party are no more than those of all
   pub own_in_all : (p : ℕ) (t : Trace T) (turns : List (Turn T)) → own_steps p t turns ≤ steps_in t turns
   own_in_all p t [] = omega arith
-  own_in_all p t (turn ∷ turns) =
-      let here = own_of_all p t.world turn in
-      let rest = own_in_all p (after_turn t turn) turns in
-      omega arith
+  own_in_all p t (turn ∷ turns) = omega (arith, own_of_all p t.world turn, own_in_all p (after_turn t turn) turns)
 
   steps_of_both : (t : Trace T) (xs ys : List (Turn T)) → steps_in t (xs ++ ys) ≡ steps_in t xs + steps_in (after_turns t xs) ys
   steps_of_both t [] ys = omega arith
-  steps_of_both t (turn ∷ xs) ys = let rest = steps_of_both (after_turn t turn) xs ys in omega arith
+  steps_of_both t (turn ∷ xs) ys = omega (arith, steps_of_both (after_turn t turn) xs ys)
 
   -- ---- rounds
 
@@ -42,6 +40,7 @@ module _ {T : Type 0} where
   rests_or_many p t [] each = inr (omega arith)
   rests_or_many p t (round ∷ rounds) each = ⊎_elim (λ none. inl (inl none)) (λ some. goes some (rests_or_many p (after_turns t round) rounds each.1)) each.0
     where
+      -- the party takes a step in the first round: it rests in a later one, or there are at least as many steps as rounds
       goes : 0 < own_steps p t round
           → (RestsInOne p (after_turns t round) rounds ⊎ (length rounds ≤ steps_in (after_turns t round) (turns_of rounds)))
           → (RestsInOne p t (round ∷ rounds) ⊎ (length (round ∷ rounds) ≤ steps_in t (round ++ turns_of rounds)))
@@ -88,12 +87,12 @@ module _ {T : Type 0} where
     abbrev steps_at : ℕ → ℕ
     steps_at k = steps_of (moment t turns k).world (turns k)
 
+    -- one turn more adds its own steps
     steps_more : (k : ℕ) → steps_in t (first turns (suc k)) ≡ steps_in t (first turns k) + steps_at k
     steps_more k =
-        let both = steps_of_both t (first turns k) (turns k ∷ []) in
         let here : steps_of (after_turns t (first turns k)).world (turns k) ≡ steps_at k =
         subst (λ (u : Trace T). steps_of u.world (turns k) ≡ steps_at k) (sym (reaches k)) refl in
-        omega arith
+        omega (arith, steps_of_both t (first turns k) (turns k ∷ []))
 
     steps_up : (k m : ℕ) → k ≤ m → steps_in t (first turns k) ≤ steps_in t (first turns m)
     steps_up k zero le = let same : k ≡ 0 = omega arith in rw same (omega arith)
@@ -104,15 +103,15 @@ module _ {T : Type 0} where
 
         there : k ≢ suc m → (k ≤ m → steps_in t (first turns k) ≤ steps_in t (first turns m))
             → steps_in t (first turns k) ≤ steps_in t (first turns (suc m))
-        there ne more = let rest = more (omega (arith, ne, le)) in let last = steps_more m in omega arith
+        there ne more = let rest = more (omega (arith, ne, le)) in omega (arith, steps_more m)
 
     begins_both : (xs ys : List (Turn T)) → begins_in (xs ++ ys) ≡ begins_in xs + begins_in ys
     begins_both [] ys = omega arith
-    begins_both (x ∷ xs) ys = let rest = begins_both xs ys in omega arith
+    begins_both (x ∷ xs) ys = omega (arith, begins_both xs ys)
 
     begins_are : (k : ℕ) → begins_in (first turns k) ≡ begins_by turns k
     begins_are zero = refl
-    begins_are (suc k) = let rest = begins_are k in let both = begins_both (first turns k) (turns k ∷ []) in omega arith
+    begins_are (suc k) = omega (arith, begins_are k, begins_both (first turns k) (turns k ∷ []))
 
     all_more : (P : Turn T → Type 0) (xs : List (Turn T)) (x : Turn T) → AllByRecursion P xs → P x → AllByRecursion P (xs ++ x ∷ [])
     all_more P [] x all here = (here, tt)
@@ -144,12 +143,10 @@ module _ {T : Type 0} where
       once : (j : ℕ) → Took j → Rests ⊎ Took (suc j)
       once j (k, took) = ⊎_elim (λ none. inl (fair.at k, none)) (λ one. inr (suc (fair.at k), more one)) (fair.goes k)
         where
+          -- the party's step at its next turn is one more step of all
           more : own_step p (moment t turns (fair.at k)).world (turns (fair.at k)) ≡ 1 → suc j ≤ steps_in t (first turns (suc (fair.at k)))
           more one =
-              let own = own_of_all p (moment t turns (fair.at k)).world (turns (fair.at k)) in
-              let up = steps_up k (fair.at k) (fair.later k) in
-              let last = steps_more (fair.at k) in
-              omega arith
+              omega (arith, own_of_all p (moment t turns (fair.at k)).world (turns (fair.at k)), steps_up k (fair.at k) (fair.later k), steps_more (fair.at k))
 
       often : (j : ℕ) → Rests ⊎ Took j
       often zero = inr (0, omega arith)
@@ -160,7 +157,7 @@ module _ {T : Type 0} where
   fair_by t turns p fair most within = ⊎_elim (λ rests. rests) none (often t turns p fair (suc most))
     where
       none : (k : ℕ) × (suc most ≤ steps_in t (first turns k)) → (k : ℕ) × (flight_in (moment t turns k).world p ≡ None)
-      none (k, many) = let few = within k in absurd (omega arith)
+      none (k, many) = absurd (omega (arith, within k))
 
   -- no more calls have no more load
   load_up : (turns : ℕ → Turn T) (t : Trace T) (b pending calls steps k : ℕ) → begins_by turns k ≤ calls
@@ -170,6 +167,7 @@ module _ {T : Type 0} where
       let up = worth (pending + begins_in (first turns k)) (pending + calls) (b + 1) (omega arith) in
       omega arith
 
+  -- where every finite load ends, each call ends whose party goes on
   pub fair_end : (kind : Kind) (bound : Bound) → EndsLoad T kind bound → EndsIfFair T kind bound
   fair_end kind bound ends t is r n calls turns goes below few p fair =
       let b = bound n t.world.capacity t.world.coding.size in

@@ -41,7 +41,7 @@ module _ {T : Type 0} (M : WordMeasure T) where
 
   pub falls_by : (w : World T) (p : ℕ) (new : List ℕ) (now : Registry T) (steps : ℕ) (was : Flight T) (after : After (Flight T) (Answer T))
       → FallsIn w.words new steps was after → (next : Flight T) → after ≡ GoOn next → Falls (of_words M) w p new now steps was next
-  falls_by w p new now steps was after falls_in_holds next e = falls_there w p new now steps was next (subst (FallsIn w.words new steps was) e falls_in_holds)
+  falls_by w p new now steps was after falls next e = falls_there w p new now steps was next (subst (FallsIn w.words new steps was) e falls)
 
   -- a step of a call in these words, by its own table
   abbrev pub StepFalls : Coding T → List ℕ → Flight T → Type 0
@@ -49,7 +49,7 @@ module _ {T : Type 0} (M : WordMeasure T) where
       FallsIn words (words_after words (ask_of (want_of code flight))) (step_count (ask_of (want_of code flight))) flight
       (after_of code flight (old_of words (ask_of (want_of code flight))))
 
-  -- and by what is kept
+  -- a step of a call in these words takes its steps off the measure, by its own table and what is kept
   abbrev pub StepFallsBy : Coding T → List ℕ → ℕ → Registry T → Flight T → Type 0
   StepFallsBy code words p kept flight =
       FallsIn words (words_after words (ask_of (want_of code flight))) (step_count (ask_of (want_of code flight))) flight

@@ -45,6 +45,7 @@ module _ {T : Type 0} (kind : Kind) (F : Coding T → ℕ → Family T) (M : ℕ
     there_sound : (c : ℕ) (t : Trace T) → IsThere c t → SoundThere t
     there_sound c t is_there = L.sound t is_there.is is_there.reached
 
+    -- what the measure has to show of each turn follows from the laws of the kind
     owed : (c n : ℕ) → Owed (M c) call_refusal (IsThere c) (IsBelow n)
     owed c n =
         record {
@@ -69,6 +70,7 @@ module _ {T : Type 0} (kind : Kind) (F : Coding T → ℕ → Family T) (M : ℕ
               (L.decision t (there_sound c t h) p x flight since said found doing asks);
         }
 
+    -- from each machine reached, calls end as often as the bound says
     pub framed_keep_ending : (bound : Bound) → ((c n size : ℕ) → bound n c size ≡ stretch n (M c).changes (M c).alone) → KeepsEnding T kind bound
     framed_keep_ending bound same t is r n turns allowed below =
         let c = t.world.capacity in

@@ -31,10 +31,11 @@ module _ {T : Type 0} (refuses : World T → Turn T → Option Refusal) (possibl
       (turns : List (Turn T)) → AreAllowedBy refuses t turns → AllByRecursion May turns
       → AreWithinEnds bound (steps + steps_in t turns) before (ends (after_turns t turns).events)
 
+  -- each call since that moment, and each that these turns begin, pays for one step more than the bound
   calls_pay : (bound before calls steps : ℕ) (t : Trace T) (turns : List (Turn T)) → AreAllowedBy refuses t turns → AllByRecursion May turns
       → Within bound before t steps → pending n t.world + ends t.events ≡ before + calls → steps ≤ calls * (bound + 1)
       → steps + steps_in t turns ≤ (calls + begins_in turns) * (bound + 1)
-  calls_pay bound before calls steps t [] allowed may within count paid = let most = more_calls calls 0 (bound + 1) in omega arith
+  calls_pay bound before calls steps t [] allowed may within count paid = omega (arith, more_calls calls 0 (bound + 1))
   calls_pay bound before calls steps t (turn ∷ turns) allowed may within count paid =
       let step = steps_of t.world turn in
       let counts = turn_counts n t.world turn (possible t.world turn allowed.0) (below turn may.0) in
@@ -46,16 +47,17 @@ module _ {T : Type 0} (refuses : World T → Turn T → Option Refusal) (possibl
       let up = more_calls calls (begin_in turn) (bound + 1) in
       let rest =
       calls_pay bound before (calls + begin_in turn) (steps + step) (after_turn t turn) turns allowed.1 may.1
-      (λ after all are. (let h = within (turn ∷ after) (allowed.0, all) (may.0, are) in omega arith)) (omega arith) (omega arith) in
+      (λ after all are. omega (arith, within (turn ∷ after) (allowed.0, all) (may.0, are))) (omega arith) (omega arith) in
       omega arith
 
+  -- turns that keep within the bound take no more steps than the load of their calls
   pub load_within : (bound : ℕ) (t : Trace T) (turns : List (Turn T)) → AreAllowedBy refuses t turns → AllByRecursion May turns
       → ((turns : List (Turn T)) → AreAllowedBy refuses t turns → AllByRecursion May turns
       → AreWithinEnds bound (steps_in t turns) (ends t.events) (ends (after_turns t turns).events))
       → steps_in t turns ≤ load bound (pending n t.world + begins_in turns)
   load_within bound t turns allowed may keeps =
       let all = calls_pay bound (ends t.events) (pending n t.world) 0 t turns allowed may
-      (λ turns allowed may. (let h = keeps turns allowed may in omega arith)) (omega arith) (omega arith) in
+      (λ turns allowed may. omega (arith, keeps turns allowed may)) (omega arith) (omega arith) in
       omega arith
 
 module _ {T : Type 0} where
@@ -64,7 +66,7 @@ module _ {T : Type 0} where
       load_within call_refusal possible_on n (IsBelow n) (λ turn may. may) (bound n t.world.capacity t.world.coding.size) t turns allowed below
       (keeps t is r n)
 
-  -- of turns of which two things are so
+  -- turns of which two things hold have both of each turn
   pub both : (P Q : Turn T → Type 0) (turns : List (Turn T)) → AllByRecursion P turns → AllByRecursion Q turns → AllByRecursion (λ turn. P turn × Q turn) turns
   both P Q [] ps qs = tt
   both P Q (turn ∷ turns) ps qs = ((ps.0, qs.0), both P Q turns ps.1 qs.1)
@@ -77,6 +79,7 @@ module _ {T : Type 0} where
   second_all P Q [] all = tt
   second_all P Q (turn ∷ turns) all = (all.0.1, second_all P Q turns all.1)
 
+  -- where calls of this form end as the bound says, every finite load of them ends
   pub loads_end_of : (kind : Kind) (Such : Start T → Type 0) (bound : Bound) → KeepsEndingOf T kind Such bound → EndsLoadOf T kind Such bound
   loads_end_of kind Such bound keeps t is r before n turns allowed below such =
       load_within call_refusal possible_on n (λ turn. IsBelow n turn × BeginsSuch Such turn) (λ turn may. may.0)

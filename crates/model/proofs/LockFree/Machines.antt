@@ -23,7 +23,7 @@ one_ends : (bound steps before after : ℕ) → AreWithinEnds bound steps before
 one_ends bound steps before after within many = ⊎_elim (λ less. less) none (cases_lt before after)
   where
     none : after ≤ before → before < after
-    none le = let paid = worth after before (bound + 1) le in absurd (omega arith)
+    none le = absurd (omega (arith, worth after before (bound + 1) le))
 
 module _ {T : Type 0} where
   pub one_call_ends : (kind : Kind) (bound : Bound) → KeepsEnding T kind bound → IsLockFree T kind bound
@@ -44,6 +44,7 @@ module _ {T : Type 0} where
   below_parties w (Decide p said) e = past_none w.parties p (row_passed (nat_le w.parties p) NoParty _ (row_passed (is_at_end w) AtEnd _ e).1).0
   below_parties w (Die owner) e = tt
 
+  -- turns that a machine allows are allowed as calls too, and each is of one of its parties
   pub all_allowed : (t : Trace T) (turns : List (Turn T)) (n : ℕ) → t.world.parties ≡ n → AreAllowed t turns
       → AreAllowedOn t turns × AllByRecursion (IsBelow n) turns
   all_allowed t [] n same all = (tt, tt)
@@ -52,6 +53,7 @@ module _ {T : Type 0} where
       let here : IsBelow n turn = subst (λ m. IsBelow m turn) same (below_parties t.world turn all.0) in
       (((passes t.world turn all.0).on, rest.0), (here, rest.1))
 
+  -- a machine that is no loan's and that its turns have reached was reached by turns that are allowed as calls
   reached_on : (t : Trace T) → is_loan t.world.kind ≡ false → IsReached t → IsReachedOn t
   reached_on t no_loan reached =
       kept_by_runs IsReachedOn (λ u turn e h. reached_on_more u turn (passes u.world turn e).on h) t

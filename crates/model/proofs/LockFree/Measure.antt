@@ -41,7 +41,7 @@ module _ {T : Type 0} (M : Measure T) where
   abbrev pub Leaves : World T → List ℕ → Registry T → Flight T → Type 0
   Leaves w new now flight = M.left new now flight ≤ M.left w.words w.kept flight
 
-  -- nor the calls of the others
+  -- with these words and this registry no call of another party has more steps left than before
   abbrev pub Harmless : World T → ℕ → List ℕ → Registry T → Type 0
   Harmless w p new now = (q : ℕ) → q ≢ p → (other : Flight T) → flight_in w q ≡ Some other → Leaves w new now other
 
@@ -107,12 +107,11 @@ module _ {T : Type 0} (M : Measure T) where
       pub left : (q : ℕ) → left_at w q ≤ M.alone
       pub pays : (q : ℕ) → pays_at w q ≤ M.changes
 
+    -- the weight of a machine is never above the bound
     pub at_most : (w : World T) → IsWithin w → weight w ≤ bound
     at_most w within =
         let pays = sum_most n (pays_at w) M.changes within.pays in
-        let left = sum_most n (left_at w) M.alone within.left in
-        let all = worth (sum_below n (pays_at w)) (n * M.changes) price pays in
-        omega arith
+        omega (arith, sum_most n (left_at w) M.alone within.left, worth (sum_below n (pays_at w)) (n * M.changes) price pays)
 
     -- ---- one turn
 
@@ -120,17 +119,19 @@ module _ {T : Type 0} (M : Measure T) where
     pub by_left : (old new : World T) (p steps : ℕ) → p < n → ((q : ℕ) → left_at new q ≤ left_at old q) → left_at new p + steps ≤ left_at old p
         → ((q : ℕ) → pays_at new q ≤ pays_at old q) → steps + weight new ≤ weight old
     by_left old new p steps below left here pays =
-        let less = sum_falls n (left_at new) (left_at old) p steps below left here in
         let no_more = worth (sum_below n (pays_at new)) (sum_below n (pays_at old)) price (sum_le n (pays_at new) (pays_at old) pays) in
-        omega arith
+        omega (arith, sum_falls n (left_at new) (left_at old) p steps below left here)
 
+    -- a step that changes the words may raise the others' parts, and pays for that with one of its changes
     by_change : (old new : World T) (p steps : ℕ) → p < n → ((q : ℕ) → left_at new q ≤ M.alone) → left_at new p + steps ≤ left_at old p
         → ((q : ℕ) → pays_at new q ≤ pays_at old q) → pays_at new p + 1 ≤ pays_at old p → steps + weight new ≤ weight old
     by_change old new p steps below left left_here pays here =
         let less = sum_falls n (pays_at new) (pays_at old) p 1 below pays here in
-        let rises = sum_rises n (left_at new) (left_at old) p steps M.alone below left left_here in
-        let paid = worth (sum_below n (pays_at new) + 1) (sum_below n (pays_at old)) price less in
-        omega arith
+        omega (
+          arith,
+          sum_rises n (left_at new) (left_at old) p steps M.alone below left left_here,
+          worth (sum_below n (pays_at new) + 1) (sum_below n (pays_at old)) price less,
+        )
 
     -- what a turn shows
     abbrev pub Shows : World T → World T → ℕ → ℕ → Type 0
@@ -184,11 +185,10 @@ module _ {T : Type 0} (M : Measure T) where
             left_here : left_at new p + step_count ask ≤ left_at w p
             left_here = rw (now, was) fell.0
 
+            -- an answer that harms no other call and leads to less of its own takes its steps off the weight
             by_less : (Harmless w p new.words new.kept × (M.pays next ≤ M.pays flight))
                 → Shows w new (step_count ask) (ends (events_of_step p x.start s))
-            by_less h =
-                let less = by_left w new p (step_count ask) below left_no_less left_here (λ q. no_less q h.1) in
-                omega arith
+            by_less h = omega (arith, by_left w new p (step_count ask) below left_no_less left_here (λ q. no_less q h.1))
               where
                 left_no_less : (q : ℕ) → left_at new q ≤ left_at w q
                 left_no_less q = ⊎_elim mine theirs (cases_eq q p)
@@ -204,6 +204,7 @@ module _ {T : Type 0} (M : Measure T) where
                 let less = by_change w new p (step_count ask) below within.left left_here (λ q. no_less q (omega (arith, h))) (rw (now, was) h) in
                 omega arith
 
+        -- a call that goes on pays by its measure, and one that ends pays with its end
         go : (after : After (Flight T) (Answer T)) → s.after ≡ after → Shows w new (step_count ask) (ends (events_of_step p x.start s))
         go (GoOn next) same_after = goes_on next same_after
         go (Done answer) same_after =

@@ -97,6 +97,7 @@ module _ {T : Type 0} (K : Outline T) where
     pub falls : (words : List ℕ) (start : Start T) (flight : Flight T) → K.At code c start flight → IsWide code c words
         → StepFalls (K.measure code c) code words flight
 
+  -- the laws of a family whose tables see nothing of what is kept give those of one whose tables do
   pub by_table : (code : Coding T) (c : ℕ) → TableLaws code c → OwnLaws code c
   by_table code c L =
       record {
@@ -179,6 +180,7 @@ module _ {T : Type 0} (K : Outline T) where
     doing_own w now p start changes since (GoOn flight) lasts at known = (at, lasts p flight known)
     doing_own w now p start changes since (Done answer) lasts at known = tt
 
+    -- `IsOwn` still holds of the machine when a call has gone on by an answer
     answer_keeps : (w : World T) (p : ℕ) (x : Party T) (ask : Option Ask) (answer : ℕ) (doing : Doing T) → IsOwn w
         → OwnDoing w w.kept p x.start doing → IsOwn (after_answer w p x ask answer doing)
     answer_keeps w p x ask answer (Over others) is_own own = is_own
@@ -214,6 +216,7 @@ module _ {T : Type 0} (K : Outline T) where
     decision_keeps w p said own None found = own
     decision_keeps w p said own (Some x) found = answer_keeps w p x None (number_of said) x.doing own (own_there w own p x found)
 
+    -- `IsOwn` still holds of the machine when a call has begun
     begun_keeps : (w : World T) (p : ℕ) (start : Start T) → K.Such start → IsOwn w → (o : Option (Flight T)) → first_of w.kind w.capacity start w.kept ≡ o
         → IsOwn (after_begin w p start o)
     begun_keeps w p start such own None e = own
@@ -233,6 +236,7 @@ module _ {T : Type 0} (K : Outline T) where
               (own.0, knows.0) is_own.calls;
         }
 
+    -- `IsOwn` still holds of the machine after each turn
     turn_keeps : (w : World T) (turn : Turn T) → BeginsSuch K.Such turn → IsOwn w → IsOwn (world_after w turn)
     turn_keeps w (Begin p start) such own = begun_keeps w p start such own (first_of w.kind w.capacity start w.kept) refl
     turn_keeps w (Next p) such own = next_keeps w p own (party_of p w.latest) refl
@@ -278,10 +282,11 @@ module _ {T : Type 0} (K : Outline T) where
     abbrev measure_of : World T → WordMeasure T
     measure_of w = K.measure w.coding w.capacity
 
-    -- of each machine of this coding and this capacity
+    -- the measure of each machine of this coding and this capacity
     abbrev measured_in : Coding T → ℕ → Measure T
     measured_in code c = of_words (K.measure code c)
 
+    -- a step by the table makes the measure of its call fall
     table_falls : (w : World T) → IsOwn w → (p : ℕ) (x : Party T) (flight : Flight T)
         → K.At w.coding w.capacity x.start flight → K.Known p w.kept flight
         → FallsBy (of_words (measure_of w)) w p x flight (ask_of (want_of w.coding flight)) (old_of w.words (ask_of (want_of w.coding flight)))
@@ -293,6 +298,7 @@ module _ {T : Type 0} (K : Outline T) where
         falls_by (measure_of w) w p (words_after w.words ask) (step_in w p x flight old).kept (step_count ask) flight
         (goes_of w.coding p flight old w.kept) (L.falls w.words p w.kept x.start flight at h.kept known h.wide) next (sym told ∙ e)
 
+    -- an answer to a question makes the measure of its call fall
     decision_falls : (w : World T) → IsOwn w → (p : ℕ) (x : Party T) (flight : Flight T) (said : Bool) → K.At w.coding w.capacity x.start flight
         → is_question (want_of w.coding flight) ≡ true → FallsBy (of_words (measure_of w)) w p x flight None (number_of said)
     decision_falls w h p x flight said at asks next e =
@@ -324,14 +330,16 @@ module _ {T : Type 0} (K : Outline T) where
       run_keeps (turn ∷ turns) t such own =
           run_keeps turns (attempt_by refuses t turn) such.1 (attempt_keeps t turn such.0 own (refuses t.world turn))
 
+      -- `IsOwn` holds of every machine of this kind that such turns have reached
       reached_own : (t : Trace T) → t.world.kind ≡ K.kind → (r : IsReachedBy refuses t) → AllByRecursion (BeginsSuch K.Such) r.turns → IsOwn t.world
       reached_own t is r such =
-          let w = t.world in
+          let world_now = t.world in
           subst (λ (u : Trace T). IsOwn u.world) (sym r.is)
-          (run_keeps r.turns (opening w.coding w.kind w.capacity w.parties) such
-          (subst (λ kind. IsOwn (opening w.coding kind w.capacity w.parties).world) (sym is)
-          (opens w.coding w.capacity w.parties r.coded (subst (λ kind. capacity_error kind w.capacity ≡ None) is r.admitted))))
+          (run_keeps r.turns (opening world_now.coding world_now.kind world_now.capacity world_now.parties) such
+          (subst (λ kind. IsOwn (opening world_now.coding kind world_now.capacity world_now.parties).world) (sym is)
+          (opens world_now.coding world_now.capacity world_now.parties r.coded (subst (λ kind. capacity_error kind world_now.capacity ≡ None) is r.admitted))))
 
+      -- what the measure has to show of each turn follows from these laws
       owed : (code : Coding T) (c n : ℕ) → Owed (measured_in code c) refuses (IsAt code c) (May n)
       owed code c n =
           record {
@@ -359,15 +367,17 @@ module _ {T : Type 0} (K : Outline T) where
                 (decision_falls t.world h.0 p x flight said (call_there t.world h.0 p x flight since found doing).0 asks));
           }
 
+      -- from each machine reached, calls end as often as the bound says
       pub keeps_ending_by : (bound : Bound) → ((code : Coding T) (c n : ℕ) → bound n c code.size ≡ measured code c n)
           → KeepsEndingBy refuses K.kind K.Such bound
       keeps_ending_by bound same t is r such_before n turns allowed below such =
-          let w = t.world in
-          subst (λ b. AreWithinEnds b (steps_in t turns) (ends t.events) (ends (after_turns t turns).events)) (sym (same w.coding w.capacity n))
-          (calls_end refuses possible (measured_in w.coding w.capacity) (IsAt w.coding w.capacity) (May n) (owed w.coding w.capacity n) n
+          let world_now = t.world in
+          subst (λ b. AreWithinEnds b (steps_in t turns) (ends t.events) (ends (after_turns t turns).events)) (sym (same world_now.coding world_now.capacity n))
+          (calls_end refuses possible (measured_in world_now.coding world_now.capacity)
+          (IsAt world_now.coding world_now.capacity) (May n) (owed world_now.coding world_now.capacity n) n
           (λ turn may. may.0) t (reached_own t is r such_before, refl, refl) turns allowed (both_may n turns below such))
 
-    -- where any call may begin
+    -- where any call may begin, all turns begin such calls
     all_such : ((start : Start T) → K.Such start) → (turns : List (Turn T)) → AllByRecursion (BeginsSuch K.Such) turns
     all_such any [] = tt
     all_such any (turn ∷ turns) = (one turn, all_such any turns)

@@ -38,8 +38,8 @@ module _ {T : Type 0} (refuses : World T → Turn T → Option Refusal) (possibl
     begins : (w : World T) (p : ℕ) (start : Start T) → p < n → (o : Option (Flight T)) → is_none o ≡ false → flight_in w p ≡ None
         → Harmless M w p w.words (kept_after_begin w.coding w.capacity start p w.kept)
         → IsWithin M n (after_begin w p start o) → 0 + weight M n (after_begin w p start o) ≤ weight M n w
-    begins w p start below None is_none_false free harmless within = absurd (cc)
-    begins w p start below (Some flight) is_none_false free harmless within = by_left M n w new p 0 below left here pays
+    begins w p start below None some free harmless within = absurd (cc)
+    begins w p start below (Some flight) some free harmless within = by_left M n w new p 0 below left here pays
       where
         new : World T
         new = after_begin w p start (Some flight)
@@ -54,8 +54,8 @@ module _ {T : Type 0} (refuses : World T → Turn T → Option Refusal) (possibl
             mine same = let most = within.left p in rw (same, free) most
 
             still : (o : Option (Flight T)) → q ≢ p → flight_in w q ≡ o → left_of M w.words new.kept o ≤ left_of M w.words w.kept o
-            still None ne is_none_false = omega arith
-            still (Some other) ne is_none_false = harmless q ne other is_none_false
+            still None ne stood = omega arith
+            still (Some other) ne stood = harmless q ne other stood
 
             theirs : q ≢ p → left_at M new q ≤ left_at M w q
             theirs ne = rw (begun w p start (Some flight) q ne) (still (flight_in w q) ne refl)
@@ -77,6 +77,7 @@ module _ {T : Type 0} (refuses : World T → Turn T → Option Refusal) (possibl
     nexts t h p below flight is within None found there = let none : flight_in t.world p ≡ None = ap (λ o. flight_of (doing_of o)) found in absurd (cc)
     nexts t h p below flight is within (Some x) found there = go x.doing refl there
       where
+        -- the weight pays for the step of a call under way; where none is under way there is no such turn
         go : (doing : Doing T) → x.doing ≡ doing
             → IsWithin M n (after_answer t.world p x (ask_of_doing t.world.coding doing) (old_of t.world.words (ask_of_doing t.world.coding doing)) doing)
             → Shows M n t.world
@@ -90,6 +91,7 @@ module _ {T : Type 0} (refuses : World T → Turn T → Option Refusal) (possibl
             let ask = ask_of (want_of t.world.coding now) in
             resumes M n t.world p x now since (old_of t.world.words ask) ask below found same_doing (O.step t h p x now since found same_doing) there
 
+    -- the weight pays for an answer to a question
     decides : (t : Trace T) → P t → (p : ℕ) (said : Bool) → p < n → (flight : Flight T) → flight_in t.world p ≡ Some flight
         → is_due t.world.coding (flight_in t.world p) ≡ true → (o : Option (Party T)) → party_of p t.world.latest ≡ o
         → IsWithin M n (after_decision t.world p said o)
@@ -97,6 +99,7 @@ module _ {T : Type 0} (refuses : World T → Turn T → Option Refusal) (possibl
     decides t h p said below flight is due None found there = let none : flight_in t.world p ≡ None = ap (λ o. flight_of (doing_of o)) found in absurd (cc)
     decides t h p said below flight is due (Some x) found there = go x.doing refl there
       where
+        -- the call that was asked is under way, and what it owes for the answer pays
         go : (doing : Doing T) → x.doing ≡ doing → IsWithin M n (after_answer t.world p x None (number_of said) doing)
             → Shows M n t.world (after_answer t.world p x None (number_of said) doing) 0
             (ends (events_of_answer t.world p x (number_of said) doing))
@@ -112,14 +115,14 @@ module _ {T : Type 0} (refuses : World T → Turn T → Option Refusal) (possibl
     dead : (t : Trace T) → P t → (owner : ℕ) → refuses t.world (Die owner) ≡ None → May (Die owner)
         → weight M n (after_death t.world owner) ≤ weight M n t.world
     dead t h owner e may =
-        let less = sum_le n (left_at M (after_death t.world owner)) (left_at M t.world) (λ q. one q (flight_in t.world q) refl) in
-        omega arith
+        omega (arith, sum_le n (left_at M (after_death t.world owner)) (left_at M t.world) (λ q. one q (flight_in t.world q) refl))
       where
         one : (q : ℕ) (o : Option (Flight T)) → flight_in t.world q ≡ o
             → left_of M t.world.words (kept_after_death t.world.kept owner) o ≤ left_of M t.world.words t.world.kept o
         one q None is = omega arith
         one q (Some other) is = O.dies t h owner e may q other is
 
+    -- the weight pays for each turn
     turn_shows : (t : Trace T) → P t → (turn : Turn T) → refuses t.world turn ≡ None → May turn → IsBelow n turn
         → IsWithin M n (world_after t.world turn) → Shown t turn
     turn_shows t h (Begin p start) e such below there =
@@ -134,10 +137,11 @@ module _ {T : Type 0} (refuses : World T → Turn T → Option Refusal) (possibl
     turn_shows t h (Decide p said) e such below there =
         let may : MayGoOn t.world p × (is_due t.world.coding (flight_in t.world p) ≡ true) = possible t.world (Decide p said) e in
         decides t h p said below may.0.flight may.0.is may.1 (party_of p t.world.latest) refl there
-    turn_shows t h (Die owner) e such below there = let less = dead t h owner e such in omega arith
+    turn_shows t h (Die owner) e such below there = omega (arith, dead t h owner e such)
 
     -- ---- a list of turns
 
+    -- what is owed of the weight, from what is owed of each call
     weighs : Weighs refuses May P (weight M n) (bound M n)
     weighs =
         record {

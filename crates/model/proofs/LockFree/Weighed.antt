@@ -23,6 +23,7 @@ module _ {T : Type 0} (refuses : World T → Turn T → Option Refusal) (May : T
         → steps_of t.world turn + weight (world_after t.world turn) ≤ weight t.world + ends (events_of t.world turn) * (bound + 1)
 
   module _ {weight : World T → ℕ} {bound : ℕ} (W : Weighs weight bound) where
+    -- over a list of turns, the weight and the calls that ended pay for all steps
     walks : (t : Trace T) → P t → (turns : List (Turn T)) → AreAllowedBy refuses t turns → AllByRecursion May turns
         → steps_in t turns + weight (after_turns t turns).world + ends t.events * (bound + 1)
         ≤ weight t.world + ends (after_turns t turns).events * (bound + 1)
@@ -40,10 +41,7 @@ module _ {T : Type 0} (refuses : World T → Turn T → Option Refusal) (May : T
     -- where k calls more have ended, at most k + 1 times the bound and k steps were taken
     pub runs_end : (t : Trace T) → P t → (turns : List (Turn T)) → AreAllowedBy refuses t turns → AllByRecursion May turns
         → AreWithinEnds bound (steps_in t turns) (ends t.events) (ends (after_turns t turns).events)
-    runs_end t h turns allowed may =
-        let all = walks t h turns allowed may in
-        let most = W.most t h in
-        omega arith
+    runs_end t h turns allowed may = omega (arith, walks t h turns allowed may, W.most t h)
 
 -- calls keep ending in runs of turns that these rows do not refuse, and in which no call begins but such ones
 abbrev pub KeepsEndingBy : {T : Type 0} (refuses : World T → Turn T → Option Refusal) → Kind → (Start T → Type 0) → Bound → Type 0

@@ -71,6 +71,7 @@ module _ (T : Type 0) where
   loan_writes : (p : ℕ) (effect : loan_effects.Effect) (outcome : Option (Answer T)) → edges (loan.effects_of p effect outcome) ≡ 0
   loan_writes = grind arith
 
+  -- a step of a container writes neither a beginning nor an end of a call
   container_writes : (code : Coding T) (p : ℕ) (state : Option (ContainerState T)) (flight : ContainerFlight T) (old : ℕ)
       → edges (container.effects code p state flight old ++ container.questions p flight old) ≡ 0
   container_writes code p state flight old =
@@ -89,13 +90,7 @@ module _ (T : Type 0) where
     wrote = (step_of code words beside p start flight old kept).wrote
 
     pub writes_no_end : ends wrote ≡ 0
-    writes_no_end =
-        let none = no_edge code words beside p start flight old kept in
-        let less = sum_by-le-sum_by end_of edge_of wrote end_in in
-        omega arith
+    writes_no_end = omega (arith, no_edge code words beside p start flight old kept, sum_by-le-sum_by end_of edge_of wrote end_in)
 
     pub writes_no_begin : begun wrote ≡ 0
-    writes_no_begin =
-        let none = no_edge code words beside p start flight old kept in
-        let less = sum_by-le-sum_by begun_of edge_of wrote begin_in in
-        omega arith
+    writes_no_begin = omega (arith, no_edge code words beside p start flight old kept, sum_by-le-sum_by begun_of edge_of wrote begin_in)

@@ -39,7 +39,7 @@ pub owners_long : (capacity : ℕ) (words : List ℕ) → robust.Represents capa
 owners_long capacity [] fits = let e : 0 ≡ 1 + capacity = fits.long in absurd (omega arith)
 owners_long capacity (g ∷ cells) fits =
     let e : suc (length cells) ≡ 1 + capacity = fits.long in
-    let l = length-map cells owner_in in omega arith
+    omega (arith, length-map cells owner_in)
 
 module _ {V : Type 0} (words_of : V → List ℕ) (value_of : List ℕ → V) (size : ℕ)
     (sized : (x : V) → length (words_of x) ≡ size) (given_back : (x : V) → value_of (words_of x) ≡ x)
@@ -104,8 +104,7 @@ module _ {V : Type 0} (words_of : V → List ℕ) (value_of : List ℕ → V) (s
       let n = slice_index ws (count_word capacity index) in
       let count : suc (size - 1) ≡ size = omega arith in
       let small : element_word capacity size index 0 + size < 2 ^ 64 =
-      let w = cell_within value_of size capacity ws fits index near wide in
-      let a = all_small value_of size capacity ws fits index near wide in omega arith in
+      omega (arith, cell_within value_of size capacity ws fits index near wide, all_small value_of size capacity ws fits index near wide) in
       let on : (hs : List ℕ) → hidden value_of size capacity ws fits index near wide ≡ hs
       → Ends (suc (suc (suc (size - 1)))) P (at_add first (adds.Stores index 0)) hs =
       λ hs e. goes_in P index (size - 1) 0 (omega arith) hs small
@@ -178,7 +177,7 @@ module _ {V : Type 0} (words_of : V → List ℕ) (value_of : List ℕ → V) (s
         let a = acquire_front capacity given.owner lives (take (1 + capacity) words) (front_fits value_of size capacity words fits) in
         let bound = a.1 in
         runs (add_want words_of size) (λ c given old. add_after size c old) given (plus a.0 few_steps) (Put words) first words
-        (let e = plus_sum a.0 few_steps in omega arith)
+        (omega (arith, plus_sum a.0 few_steps))
         (part_walks_low (λ c. add_want words_of size c given) (λ c old. add_after size c old)
         (λ c. acquire_want c given.owner) (λ c old. acquire_after c old)
         (λ d. at_add first (adds.Acquires d.stage)) (add_acquired first) (AcquireLow capacity)

@@ -44,6 +44,7 @@ module _ {V R F : Type 0} (value_of : List ℕ → V) (words_in : R → List ℕ
   abbrev At : (ready : Ready value_of size capacity container owner words) → ℕ → List ℕ → stops.Stop (Find V R × R) (ℕ × R) → List ℕ → Type 0
   At ready found left stop last = StopsAt value_of words_in with_word put_in size capacity container owner words ready found left stop last
 
+  -- the search asks this question next, with these elements left
   abbrev Question_at : (ready : Ready value_of size capacity container owner words) → ℕ → List ℕ → Question (Unit {0}) → Find V R → R → List ℕ → Type 0
   Question_at ready found left question call room last =
       AsksAt value_of words_in with_word put_in size capacity container owner words ready found left question call room last
@@ -71,8 +72,7 @@ module _ {V R F : Type 0} (value_of : List ℕ → V) (words_in : R → List ℕ
     found_all before now n joined calls number =
         record { before = before; now = now; calls = calls; ended = inl (sym (append-nil before) ∙ joined, refl, number) }
 
-    -- over the cells that are left the find halts where it ends, or where it asks about the next
-    -- index of the owner
+    -- over the cells that are left the find halts where it ends, or where it asks about the next index of the owner
     goes_on : (rest before left : List ℕ) (room : R) (now : F) (a : After (Find V R) ℕ) (done : ℕ) → length rest ≤ capacity → before ++ left ≡ all
         → FoldsTo (λ p x q. sees p x Continue q) f before now → length before ≡ done → done ≤ capacity
         → Goes (want_both want (find_after size) kept owner) (after_both want (find_after size) kept owner)
@@ -87,10 +87,7 @@ module _ {V R F : Type 0} (value_of : List ℕ → V) (words_in : R → List ℕ
           number = number;
           low = low;
           run = halts_both want (find_after size) kept owner (plus (suc (length rest)) (suc (suc (suc (suc (size - 1)))))) (At ready done left) d room words
-              (let e = plus_sum (suc (length rest)) (suc (suc (suc (suc (size - 1))))) in
-              let few = ready.holds.0.few in
-              let wide = ready.wide in
-              omega arith)
+              (omega (arith, plus_sum (suc (length rest)) (suc (suc (suc (suc (size - 1))))), ready.holds.0.few, ready.wide))
               goes;
         }
     goes_on rest before left room now (Done n) done short joined calls number low goes = grind (arith, found_all)
@@ -136,8 +133,7 @@ module _ {V R F : Type 0} (value_of : List ℕ → V) (words_in : R → List ℕ
             → Onward ready (done + 1) (find_after size asks owner (as_answer a)) room next
         onward Continue next t =
             let size_is = cells_long value_of size capacity container words ready.holds in
-            let long_rest : length at.rest ≤ capacity =
-            let l = length-drop (at.index + 1) its_cells in let e = ap length at.rest_is in omega arith in
+            let long_rest : length at.rest ≤ capacity = omega (arith, length-drop (at.index + 1) its_cells, ap length at.rest_is) in
             let near = at.near in
             let low = at.low in
             subst (λ c. Onward ready (done + 1) (find_after size c owner 1) room next) (sym at.stands)
@@ -187,7 +183,7 @@ module _ {V R F : Type 0} (value_of : List ℕ → V) (words_in : R → List ℕ
     ended_so n room last alike = ended t.0 done call room₀ now t.2 n room last (stops_at (stops.TheVariants.Ended n) room last alike)
 
     pub few_rounds : done < 2 ^ 64 - 1
-    few_rounds = let low = t.2.low in let few = t.0.holds.0.few in omega arith
+    few_rounds = omega (arith, t.2.low, t.0.holds.0.few)
 
     module _ (question : Question (Unit {0})) (asks : Find V R) (room : R) (last : List ℕ)
         (alike : StopsAlike want (find_after size) kept owner call room₀ items (stops.TheVariants.Asked question asks) room last) where
@@ -207,7 +203,7 @@ module _ {V R F : Type 0} (value_of : List ℕ → V) (words_in : R → List ℕ
             → Onward t.0 (done + 1) b room next → Further (done + 1) b room next last
         further = grind arith
 
-        -- so it is as the driver holds it, with the answer as a number
+        -- the same holds as the driver has it, with the answer as a number
         pub further_so : (a : CallbackProgression) (next : F) → step now value (handle_of old owner index) a next
             → (answer : ℕ) → answer ≡ as_answer a → (b : After (Find V R) ℕ) → b ≡ find_after size asks owner answer
             → (later : R) → later ≡ kept asks room answer → Further (done + 1) b later next last

@@ -161,7 +161,7 @@ module _ {V R : Type 0} (value_of : List ℕ → V) (words_in : R → List ℕ) 
       → Walks W A (suc (suc (suc n))) P (at (finds.LoadsWord i found (number_at i) k), room) words
   reads P i found near zero k end room h =
       let place : element_word capacity size i k ≡ word_at (cell_at i) k =
-      let s = small_at value_of size capacity container words ready.holds i near ready.wide in omega arith in
+      omega (arith, small_at value_of size capacity container words ready.holds i near ready.wide) in
       let c = count_word capacity i in
       let next = with_word room k (slice_index words (word_at (cell_at i) k)) in
       subst (λ p. Goes W A 2 P (with_room (with_word room k (slice_index words p))
@@ -178,7 +178,7 @@ module _ {V R : Type 0} (value_of : List ℕ → V) (words_in : R → List ℕ) 
       (subst (λ ws. Walks W A 1 P (at (finds.Asks i found), next) ws) (sym (set-get_or words c 0)) h)))
   reads P i found near (suc n) k end room h =
       let place : element_word capacity size i k ≡ word_at (cell_at i) k =
-      let s = small_at value_of size capacity container words ready.holds i near ready.wide in omega arith in
+      omega (arith, small_at value_of size capacity container words ready.holds i near ready.wide) in
       let next = with_word room k (slice_index words (word_at (cell_at i) k)) in
       subst (λ p. Goes W A (suc (suc (suc n))) P
       (with_room (with_word room k (slice_index words p))
@@ -200,7 +200,7 @@ module _ {V R : Type 0} (value_of : List ℕ → V) (words_in : R → List ℕ) 
       → Walks W A each (StopsAt found left) (at (finds.LoadsCount i (one_more found)), room) words
   hit i found rest left near low is rest_is left_is room long =
       let odd = odd_at value_of size capacity container words ready.holds i owner near ready.lives is in
-      let all : size ≡ suc (size - 1) = let s = ready.some in omega arith in
+      let all : size ≡ suc (size - 1) = omega (arith, ready.some) in
       let small = small_at value_of size capacity container words ready.holds i near ready.wide in
       let few = ready.holds.0.few in
       let more : one_more found ≡ found + 1 = omega arith in

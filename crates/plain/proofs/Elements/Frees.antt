@@ -28,8 +28,7 @@ module _ (capacity g : ℕ) (cells ws : List ℕ) (small : g < 2 ^ 64) (front : 
       → Walks raise_want raise_after 2 (OnEnd Q) raises.LoadsCounter ws
   raise_over = grind (arith, front_walks, raise_below, any_low, cells, stays, front, raise_walks)
 
-  -- a lock over all the words locks the set's words as it would alone, and leaves those behind
-  -- them
+  -- a lock over all the words locks the set's words as it would alone, and leaves those behind them
   pub lock_over : length cells ≡ capacity → capacity < 2 ^ 32 → (Q : ReleaseState → List ℕ → Type 0)
       → ((state : ReleaseState) (last : List ℕ) → Behind (1 + capacity) ws last → take (1 + capacity) last ≡ locking g cells ∷ cells → Q state last)
       → Walks lock_want (lock_after capacity) (plus (suc (suc (suc (length cells)))) 1) (OnEnd Q) first_lock ws
@@ -136,7 +135,7 @@ module _ {V : Type 0} (value_of : List ℕ → V) (size capacity container : ℕ
     abbrev without_value : Contents V
     without_value = record (changed s s.owners index None) { changes = s.changes }
 
-    -- but for the changes it is as a remove leaves it
+    -- these are the words as a remove leaves them, but for the number of changes
     abbrev both : List ℕ
     both = hidden value_of size capacity words fits index near wide
 
@@ -169,8 +168,7 @@ module _ {V : Type 0} (value_of : List ℕ → V) (size capacity container : ℕ
       pub fit : Holds value_of size capacity container last
       pub is : contents_in value_of size capacity container last ≡ freed mode s index
 
-    -- once the counter is as the mode leaves it too, the words are those of the contents with this
-    -- index freed
+    -- once the counter is as the mode leaves it too, the words are those of the contents with this index freed
     pub frees_so : (last : List ℕ) → Behind (1 + capacity) hid last → take (1 + capacity) last ≡ counter_then mode g emptied ∷ emptied → Freed last
     frees_so last behind front_is =
         let set : owners_in (take (1 + capacity) last) ≡ given_back mode s.owners index =

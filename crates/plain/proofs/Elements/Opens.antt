@@ -51,7 +51,7 @@ grown : {A B : Type 0} (r : Result A B) (old new : List ℕ) (n m : ℕ)
     → length old ≤ n → new ≡ old ++ replicate (n - m) 0
 grown = grind (arith, take_all, true≢false)
 
--- as a vector that has grown
+-- a vector that has grown to that length has the words of an opened container
 pub opens_grown : {V A B : Type 0} (value_of : List ℕ → V) (size capacity container : ℕ)
     → (r : Result A B) (set more : List ℕ) (n m : ℕ) → set ≡ replicate (1 + capacity) empty
     → more ≡ (if is_ok r then take n (slice_set set 0 0) ++ replicate (n - m) 0 else slice_set set 0 0)

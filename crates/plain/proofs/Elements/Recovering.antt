@@ -55,6 +55,7 @@ module _ {V R F : Type 0} (value_of : List ℕ → V) (words_in : R → List ℕ
   abbrev Begun : Type 0
   Begun = Ready value_of size capacity container owner words
 
+  -- the recovery stops so, with these cells left from this index on
   abbrev At : Begun → Contents V → ℕ → List Owned → Stop (Recover V R × R) (ReleaseState × R) → List ℕ → Type 0
   At ready s from left stop last =
       StopsAt value_of words_in with_word put_in size capacity container owner mode ready.some ready.wide ready.lives s from left stop last
@@ -74,6 +75,7 @@ module _ {V R F : Type 0} (value_of : List ℕ → V) (words_in : R → List ℕ
     pub high : from ≤ capacity
     pub run : Halts want (recover_after size) kept given (Apart (At ready s from left)) call room items
 
+  -- after a step the recovery is still under way
   abbrev Onward : Begun → ℕ → After (Recover V R) ReleaseState → R → F → List ℕ → Type 0
   Onward ready done (GoOn call) room p items = Recovering ready done call room p items
   Onward ready done (Done state) room p items = ⊥
@@ -107,7 +109,7 @@ module _ {V R F : Type 0} (value_of : List ℕ → V) (words_in : R → List ℕ
             halts_both want (recover_after size) kept given
             (suc (plus (suc (suc (suc (length its_cells)))) (suc (suc (suc (suc (size - 1))))))) (At ready old 0 all)
             (first_recover capacity) room words
-            (let e = plus_sum (suc (suc (suc (length its_cells)))) (suc (suc (suc (suc (size - 1))))) in omega arith)
+            (omega (arith, plus_sum (suc (suc (suc (length its_cells)))) (suc (suc (suc (suc (size - 1)))))))
             (begin_walk value_of words_in with_word put_in size capacity container owner mode ready.some ready.wide ready.lives words ready.holds room long);
       }
 
@@ -152,9 +154,7 @@ module _ {V R F : Type 0} (value_of : List ℕ → V) (words_in : R → List ℕ
 
     short : length at.rest ≤ capacity
     short =
-        let l = length-drop (at.index + 1) its_cells in
-        let e = ap length at.rest_is in
-        let k = cells_long value_of size capacity container last at.holds in omega arith
+        omega (arith, length-drop (at.index + 1) its_cells, ap length at.rest_is, cells_long value_of size capacity container last at.holds)
 
     abbrev next_stage : RecoverStage
     next_stage =
@@ -186,7 +186,7 @@ module _ {V R F : Type 0} (value_of : List ℕ → V) (words_in : R → List ℕ
               (plus (suc (suc (suc (length at.rest)))) (suc (suc (suc (suc (size - 1))))))
               (At ready t.s (at.index + 1) left_then)
               (record { capacity = capacity; stage = next_stage; of = record {} }) room last
-              (let e = plus_sum (suc (suc (suc (length at.rest)))) (suc (suc (suc (suc (size - 1))))) in omega arith)
+              (omega (arith, plus_sum (suc (suc (suc (length at.rest)))) (suc (suc (suc (suc (size - 1)))))))
               (recovers_on value_of words_in with_word put_in size capacity container owner mode ready.some
               ready.wide ready.lives last at.holds t.s at.is (at.index + 1) at.rest (at.index + 1) left_then
               at.rest_is refl (omega arith) room at.roomy);
@@ -237,13 +237,11 @@ module _ {V R F : Type 0} (value_of : List ℕ → V) (words_in : R → List ℕ
           run = halts_both want (recover_after size) kept given
               (suc (suc (plus 2 (plus (plus (suc (suc (suc (length gone)))) 1) (plus (suc (suc (suc (length at.rest)))) (suc (suc (suc (suc (size - 1))))))))))
               (At ready (freed mode t.s at.index) (at.index + 1) left_then) (record { capacity = capacity; stage = emptying; of = record {} }) room last
-              (let a = plus_sum (suc (suc (suc (length at.rest)))) (suc (suc (suc (suc (size - 1))))) in
-              let b = plus_sum (suc (suc (suc (length gone)))) 1 in
-              let c = plus_sum (plus (suc (suc (suc (length gone)))) 1) (plus (suc (suc (suc (length at.rest)))) (suc (suc (suc (suc (size - 1)))))) in
+              (let c = plus_sum (plus (suc (suc (suc (length gone)))) 1) (plus (suc (suc (suc (length at.rest)))) (suc (suc (suc (suc (size - 1)))))) in
               let d =
               plus_sum 2 (plus (plus (suc (suc (suc (length gone)))) 1)
               (plus (suc (suc (suc (length at.rest)))) (suc (suc (suc (suc (size - 1))))))) in
-              omega arith)
+              omega (arith, plus_sum (suc (suc (suc (length at.rest)))) (suc (suc (suc (suc (size - 1))))), plus_sum (suc (suc (suc (length gone)))) 1))
               (frees_on value_of words_in with_word put_in size capacity container owner mode ready.some ready.wide
               ready.lives last at.holds t.s at.is at.index at.near at.owns opens at.rest at.rest_is room at.roomy);
         }
@@ -287,10 +285,10 @@ module _ {V R F : Type 0} (value_of : List ℕ → V) (words_in : R → List ℕ
       Further (Done state) then_room q = ⊥
 
       further : (a : After (Recover V R) ReleaseState) (q : F) → Onward t.0 (done + 1) a room q last → Further a room q
-      further (GoOn d) q onward_holds = (t.0, onward_holds)
-      further (Done state) q onward_holds = onward_holds
+      further (GoOn d) q on_it_goes = (t.0, on_it_goes)
+      further (Done state) q on_it_goes = on_it_goes
 
-      -- so it is as the driver holds it, with the answer as a number
+      -- the same holds as the driver has it, with the answer as a number
       pub further_so : (said : Bool) (q : F) → step p value said q → (answer : ℕ) → answer ≡ (if said then 1 else 0)
           → (b : After (Recover V R) ReleaseState) → b ≡ recover_after size put given answer
           → (later : R) → later ≡ kept put room answer → Further b later q

@@ -75,6 +75,7 @@ module _ {V R : Type 0} (value_of : List ℕ → V) (words_in : R → List ℕ) 
   abbrev pub Fit : List ℕ → Type 0
   Fit words = Holds value_of size capacity container words
 
+  -- the cells of the owners, which stand behind the first word
   abbrev pub cells_of : List ℕ → List ℕ
   cells_of words = tail_of (take (1 + capacity) words)
 
@@ -129,7 +130,7 @@ module _ {V R : Type 0} (value_of : List ℕ → V) (words_in : R → List ℕ) 
         → Walks W A (suc (suc (suc n))) P (at (recovers.LoadsWord i (number_at i) k), room) words
     reads P i near zero k end room h =
         let place : element_word capacity size i k ≡ word_at (cell_at i) k =
-        let s = small_at value_of size capacity container words holds i near wide in omega arith in
+        omega (arith, small_at value_of size capacity container words holds i near wide) in
         let c = count_word capacity i in
         let next = with_word room k (slice_index words (word_at (cell_at i) k)) in
         subst (λ p. Goes W A 2 P (with_room (with_word room k (slice_index words p))
@@ -146,7 +147,7 @@ module _ {V R : Type 0} (value_of : List ℕ → V) (words_in : R → List ℕ) 
         (subst (λ ws. Walks W A 1 P (at (recovers.Asks i (number_at i)), next) ws) (sym (set-get_or words c 0)) h)))
     reads P i near (suc n) k end room h =
         let place : element_word capacity size i k ≡ word_at (cell_at i) k =
-        let s = small_at value_of size capacity container words holds i near wide in omega arith in
+        omega (arith, small_at value_of size capacity container words holds i near wide) in
         let next = with_word room k (slice_index words (word_at (cell_at i) k)) in
         subst (λ p. Goes W A (suc (suc (suc n))) P
         (with_room (with_word room k (slice_index words p))
@@ -159,8 +160,7 @@ module _ {V R : Type 0} (value_of : List ℕ → V) (words_in : R → List ℕ) 
         (λ t. let less : size ≤ k + 1 = grind (arith, nat_tests) in absurd (omega arith)))
 
     module _ (s : Contents V) (is : read words ≡ s) (from : ℕ) where
-      -- at an index whose cell has the owner, the recovery reads the value and asks about that
-      -- index
+      -- at an index whose cell has the owner, the recovery reads the value and asks about that index
       hit : (i : ℕ) (rest : List ℕ) (left : List Owned) → i < capacity → from ≤ i
           → slice_index (cells_of words) i ≡ owner → drop (i + 1) (cells_of words) ≡ rest
           → left ≡ record { owner = owner; index = i } ∷ of_owner owner (i + 1) rest → (room : R) → size ≤ length (words_in room)
@@ -207,8 +207,7 @@ module _ {V R : Type 0} (value_of : List ℕ → V) (words_in : R → List ℕ) 
       state_at : (if slice_index words 0 == locked then Locked else Unlocked) ≡ state_of s.owners
       state_at = grind (arith, locked, head_is, generation_is)
 
-      -- over the cells that are left the recovery stops at the next index of the owner, or at its
-      -- end
+      -- over the cells that are left the recovery stops at the next index of the owner, or at its end
       pub recovers_on : (rest : List ℕ) (index : ℕ) (left : List Owned) → drop index (cells_of words) ≡ rest → left ≡ of_owner owner index rest → from ≤ index
           → (room : R) → size ≤ length (words_in room)
           → Goes W A (fuel rest) (StopsAt s from left) (with_room room (recover_comes_to first index)) words
@@ -285,7 +284,7 @@ module _ {V R : Type 0} (value_of : List ℕ → V) (words_in : R → List ℕ) 
     gone_long : length gone ≡ capacity
     gone_long = emptied_long value_of size capacity container words holds wide mode index near odd
 
-    -- from the next index on
+    -- the recovery goes on from the next index
     then_on : (last : List ℕ) → Behind (1 + capacity) hid last → take (1 + capacity) last ≡ counter_then mode g gone ∷ gone
         → Goes W A (fuel rest) P (with_room room (recover_comes_to first (index + 1))) last
     then_on last behind front_is =
@@ -299,8 +298,7 @@ module _ {V R : Type 0} (value_of : List ℕ → V) (words_in : R → List ℕ) 
     abbrev After_raise : ReleaseMode → List ℕ → Type 0
     After_raise m last = Goes W A (plus locks (fuel rest)) P (with_room room (recover_raised first index m (Done Unlocked))) last
 
-    -- once the counter has gone up, the recovery goes on from the next index, in the mode that
-    -- locks after a lock
+    -- once the counter has gone up, the recovery goes on from the next index, in the mode that locks after a lock
     on_raised : (m : ReleaseMode) → mode ≡ m → (last : List ℕ) → Behind (1 + capacity) hid last → take (1 + capacity) last ≡ next_generation g ∷ gone
         → After_raise m last
     on_raised Default e last behind front_is =

@@ -127,7 +127,7 @@ module _ {V : Type 0} (value_of : List ℕ → V) (size : ℕ) (wide : size ≤ 
         let a = release_front capacity index owner mode lives (take (1 + capacity) words) (front_fits value_of size capacity words fits) near in
         let bound = a.1 in
         runs remove_want remove_after given (suc (plus a.0 2)) (Gone words) (call removes.LoadsCount) words
-        (let e = plus_sum a.0 2 in omega arith)
+        (omega (arith, plus_sum a.0 2))
         (part_walks_low (λ c. remove_want c given) (λ c old. remove_after c given old)
         (λ c. release_want c given) (λ c old. release_after c given old)
         (λ d. call (removes.Releases count d.stage)) (remove_released (call removes.LoadsCount) count) (ReleaseLow capacity)

@@ -82,8 +82,7 @@ module _ {V : Type 0} (words_of : V → List ℕ) (value_of : List ℕ → V) (s
       let n = slice_index ws (count_word capacity given.index) in
       let count : suc (size - 1) ≡ size = omega arith in
       let small : element_word capacity size given.index 0 + size < 2 ^ 64 =
-      let w = cell_within value_of size capacity ws fits given.index near wide in
-      let a = all_small value_of size capacity ws fits given.index near wide in omega arith in
+      omega (arith, cell_within value_of size capacity ws fits given.index near wide, all_small value_of size capacity ws fits given.index near wide) in
       let on : (hs : List ℕ) → hidden value_of size capacity ws fits given.index near wide ≡ hs
       → Ends (suc (suc (suc (size - 1)))) P (call (replaces.Stores 0)) hs =
       λ hs e. goes_in P (size - 1) 0 (omega arith) hs small
@@ -117,8 +116,7 @@ module _ {V : Type 0} (words_of : V → List ℕ) (value_of : List ℕ → V) (s
     refused : names old handle ≡ false → Put words (Err ContainerHandleNotOwnedByContainer) words
     refused = grind (arith, changed)
 
-    -- where the handle names what stands there, the words are then those of the map with the value
-    -- put in its place
+    -- where the handle names what stands there, the words are then those of the map with the value put in its place
     put_in : (near : given.index < capacity) → names old handle ≡ true
         → Put words (Ok tt) (after_change value_of size capacity words fits given.index near wide
         (shown value_of size capacity words fits given.index near wide xs given.value (sized given.value) (given_back given.value)))

@@ -152,7 +152,7 @@ acquire_front capacity owner lives (g ∷ cells) fits =
       take_walks capacity owner g cells fits.small (omega arith) fits.few lives fits.some,
     )
 
--- and so is a release, of an index below the capacity
+-- a release of the set, of an index below the capacity, is walked over any words that fit, and does to the owners what it should
 pub release_front : (capacity index owner : ℕ) (mode : ReleaseMode) → owner < empty → (words : List ℕ) → Represents capacity words → index < capacity
     → (n : ℕ) × (n ≤ 2 ^ 40) × Walks (λ c. release_want c (record { index = index; owner = owner; mode = mode }))
     (λ c old. release_after c (record { index = index; owner = owner; mode = mode }) old) n

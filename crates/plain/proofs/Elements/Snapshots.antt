@@ -132,8 +132,7 @@ module _ {V : Type 0} (value_of : List ℕ → V) (size capacity : ℕ) (s : Con
   got_settled answer new b =
       let t = b.shows settled (is ∙ sym long) in (t.0, t.1 ∙ ap (updated s) is_blank)
 
--- a new state that is brought up to date is a settled state of the container, and its snapshot is
--- the blank one updated
+-- a new state that is brought up to date is a settled state of the container, and its snapshot is the blank one updated
 pub got : {V : Type 0} (value_of : List ℕ → V) (size capacity container : ℕ) (words : List ℕ) → Represents size capacity words
     → (self : Contents V) → contents_in value_of size capacity container words ≡ self
     → (fresh : ContainerState V) → fresh.container ≡ container → fresh.capacity ≡ capacity → fresh.seen ≡ no_numbers capacity

@@ -152,7 +152,7 @@ module _ {V : Type 0} (value_of : List ℕ → V) (size : ℕ) (some : 1 ≤ siz
       → Ends (suc (suc (plus n m))) (at (looks.LoadsWord i (count i) k)) room words
   reads m i near zero k end room from =
       let place : element_word capacity size i k ≡ word_at (cell i) k =
-      let w = cell_within value_of size capacity words fits i near wide in let a = all_small value_of size capacity words fits i near wide in omega arith in
+      omega (arith, cell_within value_of size capacity words fits i near wide, all_small value_of size capacity words fits i near wide) in
       let c = count_word capacity i in
       subst
       (λ p. From (suc m) (if nat_lt (k + 1) size then at_look (first_look capacity) (looks.LoadsWord i (count i) (k + 1))
@@ -169,7 +169,7 @@ module _ {V : Type 0} (value_of : List ℕ → V) (size : ℕ) (some : 1 ≤ siz
       (subst (λ ws. From m (look_comes_to (first_look capacity) (i + 1)) (with_value value_of size next i (count i)) ws) (sym (set-get_or words c 0)) from)))
   reads m i near (suc n) k end room from =
       let place : element_word capacity size i k ≡ word_at (cell i) k =
-      let w = cell_within value_of size capacity words fits i near wide in let a = all_small value_of size capacity words fits i near wide in omega arith in
+      omega (arith, cell_within value_of size capacity words fits i near wide, all_small value_of size capacity words fits i near wide) in
       subst (λ p. From (suc (suc (plus n m)))
       (if nat_lt (k + 1) size then at_look (first_look capacity) (looks.LoadsWord i (count i) (k + 1))
       else at_look (first_look capacity) (looks.ChecksCount i (count i)))
@@ -231,7 +231,7 @@ module _ {V : Type 0} (value_of : List ℕ → V) (size : ℕ) (some : 1 ≤ siz
       let wide_room = h.room in
       let v : value_in value_of size (read_in with_word r₁ words (cell i) 0 size).copy ≡ value_of (words_from words (cell i) size) =
       value_read value_of size (λ (s : Showing V). s.copy) with_word (λ x at word. refl) r₁ words (cell i) (omega arith)
-      (let w = cell_within value_of size capacity words fits i near wide in let a = all_small value_of size capacity words fits i near wide in omega arith) in
+      (omega (arith, cell_within value_of size capacity words fits i near wide, all_small value_of size capacity words fits i near wide)) in
       let new : Element V = record { count = count i; value = value_in value_of size (read_in with_word r₁ words (cell i) 0 size).copy } in
       let shows : value_shown new ≡ Some (value_of (words_from words (cell i) size)) =
       ap (λ b. if b then None else Some new.value) odd ∙ ap Some v in
@@ -242,8 +242,7 @@ module _ {V : Type 0} (value_of : List ℕ → V) (size : ℕ) (some : 1 ≤ siz
       (t.2 ∙ h.room) h
 
   module _ (fresh : (slice_index words (change_word capacity) == seen.change) ≡ false) where
-    -- over the indices that are left the look brings each up to date, where the number of changes
-    -- is another
+    -- over the indices that are left the look brings each up to date, where the number of changes is another
     looks_on : (k i : ℕ) → i + k ≡ capacity → (room : Showing V) → Known room i
         → From (most k) (look_comes_to (first_look capacity) i) room words
     looks_on zero i sum room known =
@@ -298,7 +297,7 @@ module _ {V : Type 0} (value_of : List ℕ → V) (size : ℕ) (some : 1 ≤ siz
       (eqb_tells changed seen.change)
 
   few : suc (most capacity) ≤ 2 ^ 64 - 1
-  few = let e = most_few capacity in let f = fits.few in omega arith
+  few = omega (arith, most_few capacity, fits.few)
 
   pub look_runs : (call : Look V) → call ≡ first_look capacity
       → Runs want (look_after size) (look_kept value_of size) seen (λ e room ws. P (e, room) ws) call first words

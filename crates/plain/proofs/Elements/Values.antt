@@ -86,10 +86,10 @@ module _ {V : Type 0} (value_of : List ℕ → V) (size capacity : ℕ) where
     cell = element_word capacity size index 0
 
     pub cell_within : cell + size ≤ length words
-    cell_within = let a = apart size index capacity near in let long = fits.long in omega arith
+    cell_within = omega (arith, apart size index capacity near, fits.long)
 
     within : count_at < length words
-    within = let long = fits.long in omega arith
+    within = omega (arith, fits.long)
 
     pub all_small : length words < 2 ^ 64
     all_small = grind (arith, mul-le-mul_left)
@@ -112,6 +112,7 @@ module _ {V : Type 0} (value_of : List ℕ → V) (size capacity : ℕ) where
 
     -- ---- it goes
 
+    -- the words with the number of this index even: it is raised by one where it was odd
     abbrev pub hidden : List ℕ
     hidden =
         if is_even (slice_index words count_at)
@@ -140,7 +141,7 @@ module _ {V : Type 0} (value_of : List ℕ → V) (size capacity : ℕ) where
       filled_long = stored_length hidden cell xs 0 size ∙ hides.writes.long
 
       small : cell + 0 + size < 2 ^ 64
-      small = let w = cell_within in let a = all_small in omega arith
+      small = omega (arith, cell_within, all_small)
 
       -- words before and behind the cell stay as they are
       fills_not : (j : ℕ) → (j < cell) ⊎ (cell + size ≤ j) → slice_index filled j ≡ slice_index hidden j
@@ -214,13 +215,13 @@ module _ {V : Type 0} (value_of : List ℕ → V) (size capacity : ℕ) where
     pub change_contents : (container : ℕ) (later : List ℕ) (o : Option V) → Writes later → Stands later o
         → contents_in value_of size capacity container (after_change later)
         ≡ changed (contents_in value_of size capacity container words) (owners_in (take (1 + capacity) words)) index o
-    change_contents container later o writes_holds here =
+    change_contents container later o written here =
         let c = one_more (slice_index later (change_word capacity)) in
-        let long = fits.long in let l = writes_holds.long in
+        let long = fits.long in let l = written.long in
         let front : take (1 + capacity) (after_change later) ≡ take (1 + capacity) words =
-        take-set-le (1 + capacity) later (change_word capacity) c (omega arith) ∙ writes_holds.front in
+        take-set-le (1 + capacity) later (change_word capacity) c (omega arith) ∙ written.front in
         let changes : slice_index (after_change later) (change_word capacity) ≡ one_more (slice_index words (change_word capacity)) =
-        get_or-set_same later (change_word capacity) c 0 (omega arith) ∙ ap one_more writes_holds.changes in
+        get_or-set_same later (change_word capacity) c 0 (omega arith) ∙ ap one_more written.changes in
         let stays : (j : ℕ) → j < capacity → value_at value_of size capacity (after_change later) j ≡ value_at value_of size capacity later j =
         λ j low. value_same later (after_change later) j
         (get_or-set_other later (change_word capacity) (count_word capacity j) c 0 (λ e. absurd (omega arith)))
@@ -228,16 +229,16 @@ module _ {V : Type 0} (value_of : List ℕ → V) (size capacity : ℕ) where
         let values =
         map_changed_within (value_at value_of size capacity words)
         (value_at value_of size capacity (after_change later)) o capacity 0 index index near (omega arith)
-        (stays index near ∙ here.0) (λ j from below ne. stays j (omega arith) ∙ writes_holds.others j (omega arith) ne) in
+        (stays index near ∙ here.0) (λ j from below ne. stays j (omega arith) ∙ written.others j (omega arith) ne) in
         let kept : (j : ℕ) → j < capacity → slice_index (after_change later) (count_word capacity j) ≡ slice_index later (count_word capacity j) =
         λ j low. get_or-set_other later (change_word capacity) (count_word capacity j) c 0 (λ e. absurd (omega arith)) in
         let before : slice_index (counts_in value_of size capacity words) index ≡ slice_index words (count_word capacity index) =
         get_or-map-range_with_len (λ j. slice_index words (count_word capacity j)) 0 capacity index index 0 near (omega arith) in
         let counts = map_changed_within (λ j. slice_index words (count_word capacity j)) (λ j. slice_index (after_change later) (count_word capacity j))
         (count_with o (slice_index (counts_in value_of size capacity words) index)) capacity 0 index index near (omega arith)
-        (kept index near ∙ here.1 ∙ ap (count_with o) (sym before)) (λ j from below ne. kept j (omega arith) ∙ writes_holds.counts j (omega arith) ne) in
+        (kept index near ∙ here.1 ∙ ap (count_with o) (sym before)) (λ j from below ne. kept j (omega arith) ∙ written.counts j (omega arith) ne) in
         λ i. record { container = container; owners = owners_in (front i); values = values i; counts = counts i; changes = changes i }
 
-    -- where it has gone
+    -- where the value is hidden, none stands at this index
     pub gone : (later : List ℕ) → Hides later → Stands later None
     gone = grind (arith, words_from)

@@ -32,8 +32,7 @@ cells_apart capacity size p q low near =
     (cases_lt (p % capacity) (q % capacity))
 
 module _ {V : Type 0} (value_of : List ℕ → V) (size capacity : ℕ) where
-  -- the values from a position on are the same over two lists of words that have the same value at
-  -- each position
+  -- the values from a position on are the same over two lists of words that have the same value at each position
   pub values_same : (ws vs : List ℕ) (p n : ℕ)
       → ((q : ℕ) → p ≤ q → q < p + n → value_at value_of size capacity ws q ≡ value_at value_of size capacity vs q)
       → values_from value_of size capacity ws p n ≡ values_from value_of size capacity vs p n

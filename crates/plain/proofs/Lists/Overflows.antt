@@ -114,7 +114,7 @@ module _ (capacity : ℕ) where
       low = omega arith
 
       next_is : after_position wp ≡ wp + 1
-      next_is = let f = fits.fits in omega (arith, position)
+      next_is = omega (arith, position, fits.fits)
 
       cells_long : length (cells room words) ≡ length words
       cells_long = length-set words (cell_word capacity wp) value
@@ -150,7 +150,7 @@ module _ (capacity : ℕ) where
       takes = grind (arith, waits, length, false, ne_eqb, nat_tests)
 
       length_is : length (waiting ++ value ∷ []) ≡ wp - rp + 1
-      length_is = let n = waits in let m = length-append waiting (value ∷ []) in omega arith
+      length_is = omega (arith, waits, length-append waiting (value ∷ []))
 
       -- ---- there was room
 
@@ -199,8 +199,7 @@ module _ (capacity : ℕ) where
         head : (m : ℕ) → wp - rp ≡ suc m → slice_get (waiting ++ value ∷ []) 0 ≡ Some (number_at words rp)
         head = grind arith
 
-        -- where there was none they are those of the list without its oldest value, which the room
-        -- has
+        -- where there was none they are those of the list without its oldest value, which the room has
         replaced : Pushed words Oldest (oldest room words) last
         replaced =
             let behind = fits.behind in
@@ -262,9 +261,9 @@ module _ (capacity : ℕ) where
           ends = no_position room words some e;
           holds = stays_out room words fits
               (let c : 0 < capacity = omega (arith, some) in
-              let a : nat_lt 0 capacity ≡ true = grind (arith, nat_tests, c) in
-              let b : (rp + length (numbers_from capacity words rp (wp - rp)) == 2 ^ 64 - 1) ≡ true = eq-eqb _ _ (omega arith) in
-              λ i. a i && not (b i));
+              let tests_below : nat_lt 0 capacity ≡ true = grind (arith, nat_tests, c) in
+              let tests_same : (rp + length (numbers_from capacity words rp (wp - rp)) == 2 ^ 64 - 1) ≡ true = eq-eqb _ _ (omega arith) in
+              λ i. tests_below i && not (tests_same i));
         })
         (λ position. ⊎_elim
         (λ (near : wp - rp < capacity). record {
@@ -273,7 +272,7 @@ module _ (capacity : ℕ) where
           end = Added;
           last_room = room;
           last_words = stored room words;
-          ends = adds room words some position (λ e. let f = fits.fits in absurd (omega arith));
+          ends = adds room words some position (λ e. absurd (omega (arith, fits.fits)));
           holds = added room words fits some position near;
         })
         (λ (far : capacity ≤ wp - rp).

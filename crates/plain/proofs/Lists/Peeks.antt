@@ -47,8 +47,7 @@ module _ {V R : Type 0} (value_of : List ℕ → V) (size : ℕ) (some : 1 ≤ s
       → Ends 2 false room words (first_peek capacity) room words
   finds_none = grind (arith, by_either, false)
 
-  -- a peek of a list that is not empty reads the words of the cell of the read position, and ends
-  -- with `true`
+  -- a peek of a list that is not empty reads the words of the cell of the read position, and ends with `true`
   finds_one : (n : ℕ) → suc n ≡ size → (room : R) (words : List ℕ) → capacity ≢ 0
       → slice_index words 0 ≢ slice_index words 1
       → Ends (suc (suc (suc n))) true
@@ -120,7 +119,7 @@ module _ {V R : Type 0} (value_of : List ℕ → V) (size : ℕ) (some : 1 ≤ s
       })
       (λ other.
       let m = slice_index words 0 - slice_index words 1 - 1 in
-      let there : slice_index words 0 - slice_index words 1 ≡ suc m = let b = fits.behind in omega (arith, other) in
+      let there : slice_index words 0 - slice_index words 1 ≡ suc m = omega (arith, other, fits.behind) in
       record {
         steps = suc (suc (suc (size - 1)));
         few = omega arith;

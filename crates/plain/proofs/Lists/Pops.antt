@@ -134,7 +134,7 @@ module _ {V R : Type 0} (value_of : List ℕ → V) (size : ℕ) (some : 1 ≤ s
       })
       (λ other.
       let m = slice_index words 0 - slice_index words 1 - 1 in
-      let there : slice_index words 0 - slice_index words 1 ≡ suc m = let b = fits.behind in omega (arith, other) in
+      let there : slice_index words 0 - slice_index words 1 ≡ suc m = omega (arith, other, fits.behind) in
       record {
         steps = suc (suc (suc (suc (size - 1))));
         few = omega arith;

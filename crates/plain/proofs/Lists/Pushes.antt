@@ -63,8 +63,7 @@ module _ {V : Type 0} (words_of : V → List ℕ) (value_of : List ℕ → V) (s
       → Ends 2 false words (first_push capacity) words
   no_room = grind (arith, by_eq, false, by_either)
 
-  -- a push to a list that is not full stores the words of its value, moves the write position, and
-  -- ends with `true`
+  -- a push to a list that is not full stores the words of its value, moves the write position, and ends with `true`
   goes_in : (n : ℕ) → suc n ≡ size → (words : List ℕ) → slice_index words 0 ≢ 2 ^ 64 - 1 → capacity ≢ 0
       → distance (slice_index words 0) (slice_index words 1) ≢ capacity
       → Ends (suc (suc (suc (suc n)))) true
@@ -81,7 +80,7 @@ module _ {V : Type 0} (words_of : V → List ℕ) (value_of : List ℕ → V) (s
   Pushed words end room last =
       BehavesAs (Represents size capacity) list takes_more (λ q. pushed q value) words end last
 
-  -- in numbers
+  -- whether the list takes one more value is a test of its two positions
   takes_numbers : (words : List ℕ) → Represents size capacity words
       → takes_more (list words) ≡ nat_lt (slice_index words 0 - slice_index words 1) capacity && not (slice_index words 0 == 2 ^ 64 - 1)
   takes_numbers = grind (arith, values_length)
@@ -93,7 +92,7 @@ module _ {V : Type 0} (words_of : V → List ℕ) (value_of : List ℕ → V) (s
 
   same_place : (k : ℕ) (words vs : List ℕ) → ((i : ℕ) → k ≤ i → i < k + size → slice_index words i ≡ slice_index vs i)
       → value_of (words_from words k size) ≡ value_of (words_from vs k size)
-  same_place k words vs same_slice_index = ap value_of (words_same words vs k size same_slice_index)
+  same_place k words vs same_words = ap value_of (words_same words vs k size same_words)
 
   module _ (words : List ℕ) (fits : Represents size capacity words) (position : slice_index words 0 ≢ 2 ^ 64 - 1)
       (room : capacity ≢ 0) (near : slice_index words 0 - slice_index words 1 < capacity) where
@@ -125,7 +124,7 @@ module _ {V : Type 0} (words_of : V → List ℕ) (value_of : List ℕ → V) (s
     in_cell = let c = cell_is in let i = cell_within capacity size w (omega (arith, room)) in omega arith
 
     small : cell + 0 + size < 2 ^ 64
-    small = let i = in_cell in let t = table in let s = fits.small in omega arith
+    small = omega (arith, in_cell, table, fits.small)
 
     cells_long : length cells ≡ length words
     cells_long = stored_length words cell (words_of value) 0 size
@@ -134,17 +133,17 @@ module _ {V : Type 0} (words_of : V → List ℕ) (value_of : List ℕ → V) (s
     last_long = length-set cells 0 (after_position w) ∙ cells_long ∙ long
 
     next_is : after_position w ≡ w + 1
-    next_is = let f = fits.fits in omega (arith, position)
+    next_is = omega (arith, position, fits.fits)
 
     write_is : slice_index last 0 ≡ w + 1
-    write_is = get_or-set_same cells 0 (after_position w) 0 (let a = cells_long in let b = long in omega arith) ∙ next_is
+    write_is = get_or-set_same cells 0 (after_position w) 0 (omega (arith, cells_long, long)) ∙ next_is
 
     -- a word before the cell, or behind it
     kept_word : (j : ℕ) → j ≢ 0 → (j < cell) ⊎ (cell + size ≤ j) → slice_index last j ≡ slice_index words j
     kept_word = grind (arith, get_or-set_other, stored_other, small, inl, inr)
 
     read_is : slice_index last 1 ≡ r
-    read_is = kept_word 1 (omega arith) (inl (let c = cell_is in omega arith))
+    read_is = kept_word 1 (omega arith) (inl (omega (arith, cell_is)))
 
     last_fits : Represents size capacity last
     last_fits = grind (arith, write_is, read_is, long, last_long, small)
@@ -154,10 +153,10 @@ module _ {V : Type 0} (words_of : V → List ℕ) (value_of : List ℕ → V) (s
     own =
         let at : words_from cells cell size ≡ words_of value =
         subst (λ k. words_from cells k size ≡ words_of value) (omega arith)
-        (stored_words words cell (words_of value) 0 size small (let a = in_cell in let b = long in omega arith)
+        (stored_words words cell (words_of value) 0 size small (omega (arith, in_cell, long))
         ∙ subst (λ n. words_from (words_of value) 0 n ≡ words_of value) (sized value) (words_all (words_of value))) in
         let same : words_from last cell size ≡ words_from cells cell size =
-        words_same last cells cell size (λ i low high. get_or-set_other cells 0 i (after_position w) 0 (λ e. let c = cell_is in absurd (omega arith))) in
+        words_same last cells cell size (λ i low high. get_or-set_other cells 0 i (after_position w) 0 (λ e. absurd (omega (arith, cell_is)))) in
         subst (λ k. value_of (words_from last k size) ≡ value) cell_is (ap value_of (same ∙ at) ∙ given_back value)
 
     -- the positions that waited keep their values
@@ -212,7 +211,7 @@ module _ {V : Type 0} (words_of : V → List ℕ) (value_of : List ℕ → V) (s
       })
       (λ (far : capacity ≤ slice_index words 0 - slice_index words 1).
       let full : (capacity ≡ 0) ⊎ (distance (slice_index words 0) (slice_index words 1) ≡ capacity) =
-      inr (let a = fits.near in let b = fits.behind in let c = fits.fits in omega arith) in
+      inr (omega (arith, fits.near, fits.behind, fits.fits)) in
       record {
         steps = 2;
         few = omega arith;

@@ -72,7 +72,7 @@ module _ (capacity : ℕ) (before : List ℕ) where
       → left place ≡ (if stands before place then place ∷ left (place + 1) else left (place + 1))
   left_is place low =
       ap (standing_from place)
-      (rest_of place (flags_in capacity before) (let n = flags_length capacity before in omega arith))
+      (rest_of place (flags_in capacity before) (omega (arith, flags_length capacity before)))
       ∙ (ap (λ m. if slice_index_or (flags_in capacity before) place false
       then place ∷ standing_from (place + 1) (drop m (flags_in capacity before))
       else standing_from (place + 1) (drop m (flags_in capacity before)))
@@ -102,12 +102,12 @@ module _ {F : Type 0} (pre : F → ℕ → Type 0) (step : F → ℕ → Unit {0
   Folds f xs last = FoldsTo (λ p x q. step p x tt q) f xs last
 
   takes_first : (xs ys : List ℕ) (f : F) → Takes pre step (xs ++ ys) f → Takes pre step xs f
-  takes_first [] ys f takes_holds = tt
-  takes_first (x ∷ xs) ys f takes_holds = (takes_holds.0, λ next did. takes_first xs ys next (takes_holds.1 next did))
+  takes_first [] ys f may_take = tt
+  takes_first (x ∷ xs) ys f may_take = (may_take.0, λ next did. takes_first xs ys next (may_take.1 next did))
 
   takes_rest : (xs ys : List ℕ) (f last : F) → Takes pre step (xs ++ ys) f → Folds f xs last → Takes pre step ys last
-  takes_rest [] ys f last takes_holds is = subst (Takes pre step ys) is takes_holds
-  takes_rest (x ∷ xs) ys f last takes_holds went = takes_rest xs ys went.0 last (takes_holds.1 went.0 went.1) went.2
+  takes_rest [] ys f last may_take is = subst (Takes pre step ys) is may_take
+  takes_rest (x ∷ xs) ys f last may_take went = takes_rest xs ys went.0 last (may_take.1 went.0 went.1) went.2
 
   goes_further : (xs ys : List ℕ) (f mid last : F) → Folds f xs mid → Folds mid ys last → Folds f (xs ++ ys) last
   goes_further [] ys f mid last is went = subst (λ m. Folds m ys last) (sym is) went
@@ -148,7 +148,7 @@ module _ {F : Type 0} (pre : F → ℕ → Type 0) (step : F → ℕ → Unit {0
         let list = next_in found place end low
         ∙ ap (λ b. if b then place ∷ standing_in found (place + 1) (end - (place + 1)) else standing_in found (place + 1) (end - (place + 1))) some in
         record {
-          same = λ q below high. others q (λ e. let f = e in absurd (omega arith)) ∙ visiting.same q (omega arith) high;
+          same = λ q below high. others q (λ e. absurd (omega (arith, e))) ∙ visiting.same q (omega arith) high;
           takes = (both place left visit low visiting some).1 later (did refl);
           calls = λ last f. visiting.calls last (subst (λ xs. Folds visit xs last) (sym list) (later, did refl, f));
         }
@@ -158,7 +158,7 @@ module _ {F : Type 0} (pre : F → ℕ → Type 0) (step : F → ℕ → Unit {0
         ∙ ap (λ b. if b then place ∷ standing_in found (place + 1) (end - (place + 1)) else standing_in found (place + 1) (end - (place + 1))) none in
         subst (Visiting (place + 1) next) (sym (same refl))
         (record {
-          same = λ q below high. others q (λ e. let f = e in absurd (omega arith)) ∙ visiting.same q (omega arith) high;
+          same = λ q below high. others q (λ e. absurd (omega (arith, e))) ∙ visiting.same q (omega arith) high;
           takes = subst (λ xs. Takes pre step xs visit) list visiting.takes;
           calls = λ last f. visiting.calls last (subst (λ xs. Folds visit xs last) (sym list) f);
         })
@@ -237,14 +237,13 @@ module _ {F : Type 0} (pre : F → ℕ → Type 0) (step : F → ℕ → Unit {0
             takes_first (standing_in found place (end - place)) (left capacity before end) visit
             (subst (λ xs. Takes pre step xs visit) splits h.takes)
 
-        -- once the places of an element are handed out, its word is 0 and the emptying goes on at
-        -- the next element
+        -- once the places of an element are handed out, its word is 0 and the emptying goes on at the next element
         pub empties_one : (next : ResetAll) (now : List ℕ) (later : F) → now ≡ slice_set words call.word 0
             → (call.word + 1 < call.end → next ≡ record { word = call.word + 1; end = call.end })
             → Folds visit (standing_in found place (end - place)) later → Emptying (element + 1) end next now later
         empties_one next now later writes goes went =
             let e = here in
-            let long : 1 + element < length words = let l = h.long in let f = h.fits.long in omega arith in
+            let long : 1 + element < length words = omega (arith, h.long, h.fits.long) in
             let wrote : now ≡ slice_set words (1 + element) 0 = writes ∙ ap (λ (c : ResetAll). slice_set words c.word 0) (h.at some) in
             record {
               fits = h.fits;
@@ -282,7 +281,7 @@ module _ {F : Type 0} (pre : F → ℕ → Type 0) (step : F → ℕ → Unit {0
         (h : Emptying (elements capacity) place call words visit) where
       at_end : place ≡ capacity
       at_end = let w = h.within in let f = h.far in
-          ⊎_elim (λ (low : place < capacity). let e = f low in absurd (omega arith)) (λ (high : capacity ≤ place). omega arith) (cases_lt place capacity)
+          ⊎_elim (λ (low : place < capacity). absurd (omega (arith, f low))) (λ (high : capacity ≤ place). omega arith) (cases_lt place capacity)
 
       none : (q : ℕ) → q < capacity → stands words q ≡ false
       none q low =

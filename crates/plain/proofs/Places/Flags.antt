@@ -50,7 +50,7 @@ module _ (capacity : ℕ) (words : List ℕ) where
   pub flag_past : (p : ℕ) → capacity ≤ p
       → slice_index_or (flags_in capacity words) p false ≡ false
   flag_past p high =
-      get_or_past (flags_in capacity words) p false (let n = flags_length in omega arith)
+      get_or_past (flags_in capacity words) p false (omega (arith, flags_length))
 
 pub same_flags : (capacity : ℕ) (ws vs : List ℕ)
     → ((p : ℕ) → slice_index vs (element_of p) ≡ slice_index ws (element_of p))

@@ -115,7 +115,7 @@ module _ (capacity : ℕ) (words : List ℕ) (fits : Represents capacity words) 
       (λ i below. clear_head k clear i (omega arith) (inl (omega arith)))
       (flag_at capacity words (start + k - capacity) (omega arith) ∙ (sym (ap (stands words) here) ∙ is)) in
       ap (λ xs. or_else (slice_get xs 0) (slice_get (standing_from 0 flags) 0)) none
-      ∙ (found ∙ ap Some (let e = here in omega arith)))
+      ∙ (found ∙ ap Some (omega (arith, here))))
       (cases_lt (start + k) capacity)
 
   -- where all places are clear there is no next place
@@ -138,6 +138,7 @@ module _ (capacity : ℕ) (words : List ℕ) (fits : Represents capacity words) 
   Ends n end last call =
       EndsIn (λ c (given : Unit {0}). reset_want c) (λ c given old. reset_after c old) (λ c (room : Unit {0}) old. room) tt n end tt last call tt words
 
+  -- a reset of the next bit ends from there within so many steps, with this answer and these words
   abbrev From : ℕ → Option ℕ → List ℕ → After ResetNext (Option ℕ) → List ℕ → Type 0
   From n end last a ws =
       EndsFrom (λ c (given : Unit {0}). reset_want c) (λ c given old. reset_after c old) (λ c (room : Unit {0}) old. room) tt n end tt last a tt ws
@@ -169,7 +170,7 @@ module _ (capacity : ℕ) (words : List ℕ) (fits : Represents capacity words) 
     within = grind (arith, ahead, behind)
 
     near : element_of place < length words
-    near = let long = fits.long in let w = within in omega arith
+    near = omega (arith, fits.long, within)
 
     -- at a place that stands the search clears it and ends with it
     finds : Clear k → has_flag found place ≡ true → (most : ℕ) → 3 ≤ most → Comes most k
@@ -221,7 +222,7 @@ module _ (capacity : ℕ) (words : List ℕ) (fits : Represents capacity words) 
   comes_on most k low not_there rest =
       record {
         steps = suc rest.steps;
-        few = let f = rest.few in omega arith;
+        few = omega (arith, rest.few);
         end = rest.end;
         last = rest.last;
         ends = by_test (λ a. From rest.steps rest.end rest.last a words) (has_flag (slice_index words (element_of (at k))) (at k)) _ _
@@ -261,7 +262,7 @@ module _ (capacity : ℕ) (words : List ℕ) (fits : Represents capacity words) 
       let t : nat_lt 0 capacity ≡ true = let c : 0 < capacity = omega arith in grind (arith, nat_tests, c) in
       record {
         steps = suc rest.steps;
-        few = let f = rest.few in omega arith;
+        few = omega (arith, rest.few);
         end = rest.end;
         last_room = tt;
         last_words = rest.last;

@@ -30,7 +30,7 @@ module _ (capacity place : ℕ) (low : place < capacity) (words : List ℕ) (fit
   now = slice_set words (element_of place) (with_flag found place)
 
   near : element_of place < length words
-  near = let long = fits.long in omega arith
+  near = omega (arith, fits.long)
 
   stood : has_flag found place ≡ true → SetRuns first_set
   stood = grind (arith, map_changed, stands, false, by_test, has_flag, true≢false, flag_at)

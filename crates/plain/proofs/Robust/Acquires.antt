@@ -120,19 +120,19 @@ module _ (capacity owner g : ℕ) (cells : List ℕ) (small : g < 2 ^ 64) (long 
       let next = next_below g other less small in
       let at : front cells ≡ i = omega arith in
       let own : owner_in owner ≡ Some owner = owner_some owner (λ e. absurd (omega arith)) in
-      let lt : nat_lt (front cells) (length (map owner_in cells)) ≡ true =
+      let tests_below : nat_lt (front cells) (length (map owner_in cells)) ≡ true =
       let low : front cells < length (map owner_in cells) = omega arith in
       grind (arith, nat_tests, low) in
       so (Ok i) (next_generation g ∷ slice_set cells i owner)
       (some_cells some (next_generation g) (slice_set cells i owner) (length-set cells i owner) (omega (arith, other)))
-      (looks ∙ (ap (λ b. ok_or (cond b (Some (front cells)) None) failures.OutOfIndices) lt ∙ ap Ok at))
+      (looks ∙ (ap (λ b. ok_or (cond b (Some (front cells)) None) failures.OutOfIndices) tests_below ∙ ap Ok at))
       (λ j. record { owners = (map-set owner_in cells i owner ∙ ap (slice_set (map owner_in cells) i) own) j; generation = next_generation g }))
       (λ e.
-      let ge : nat_lt (front cells) (length (map owner_in cells)) ≡ false =
+      let not_below : nat_lt (front cells) (length (map owner_in cells)) ≡ false =
       let far : length (map owner_in cells) ≤ front cells = omega arith in
       grind (arith, nat_tests, far) in
       so (Err failures.OutOfIndices) (g ∷ cells) kept
-      (looks ∙ ap (λ b. ok_or (cond b (Some (front cells)) None) failures.OutOfIndices) ge) refl)))
+      (looks ∙ ap (λ b. ok_or (cond b (Some (front cells)) None) failures.OutOfIndices) not_below) refl)))
 
   pub take_runs : 1 ≤ capacity
       → Runs acquire_want (λ c given old. acquire_after c old) (λ c (room : Unit {0}) old. room) owner (λ e room ws. Took e ws) first tt (g ∷ cells)

@@ -27,6 +27,7 @@ module _ {F : Type 0} (step : F → ℕ → CallbackProgression → F → Type 0
   abbrev all : List ℕ
   all = indices_of (owners_in (g ∷ cells)) owner
 
+  -- the call stops at the next of the owner's indices that are left, or ends with so many counted
   abbrev HaltsAt : ℕ → List ℕ → Find → Type 0
   HaltsAt count left call =
       Halts (λ c (given : ℕ). find_want c) find_after (λ c (room : Unit {0}) old. room) owner
@@ -51,8 +52,7 @@ module _ {F : Type 0} (step : F → ℕ → CallbackProgression → F → Type 0
   found_all before now n joined calls number =
       record { before = before; now = now; calls = calls; ended = inl (sym (append-nil before) ∙ joined, refl, number) }
 
-  -- over the cells that are left the find halts where it ends, or where it asks about the next
-  -- index of the owner
+  -- over the cells that are left the find halts where it ends, or where it asks about the next index of the owner
   goes_on : (rest before left : List ℕ) (now : F) (a : After Find ℕ) (done : ℕ) → length rest ≤ capacity → before ++ left ≡ all
       → FoldsTo (λ p x q. step p x Continue q) f before now → length before ≡ done → done ≤ capacity
       → Goes (λ c. find_want c) (λ c old. find_after c owner old) (suc (length rest)) (StopsAt capacity owner g cells long few lives done left) a (g ∷ cells)
@@ -105,8 +105,7 @@ module _ {F : Type 0} (step : F → ℕ → CallbackProgression → F → Type 0
       pub onward : (a : CallbackProgression) (next : F) → step now (index_in question) a next
           → Onward (done + 1) (find_after asks owner (as_answer a)) next
       onward Continue next t =
-          let long_rest : length at.rest ≤ capacity =
-          let l = length-drop (at.index + 1) cells in let e = ap length at.rest_is in omega arith in
+          let long_rest : length at.rest ≤ capacity = omega (arith, length-drop (at.index + 1) cells, ap length at.rest_is) in
           let near = at.near in
           let low = at.low in
           subst (λ c. Onward (done + 1) (find_after c owner 1) next) (sym at.stands)

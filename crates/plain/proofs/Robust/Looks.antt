@@ -45,7 +45,7 @@ module _ (capacity g : ℕ) (cells : List ℕ) (small : g < 2 ^ 64) (long : leng
   borrowed_runs some =
       runs (λ (c : BorrowedIndices) (given : Unit {0}). borrowed_want c) (λ c given old. borrowed_after c old) tt
       (plus (suc (suc (suc (length cells)))) 0) Counted (first_borrowed capacity) (g ∷ cells)
-      (let e = plus_sum (suc (suc (suc (length cells)))) 0 in omega arith) (borrowed_walks some)
+      (omega (arith, plus_sum (suc (suc (suc (length cells)))) 0)) (borrowed_walks some)
 
   abbrev pub Looked : Bool → List ℕ → Type 0
   Looked end last = BehavesAs (Represents capacity) owners_in is_locked (λ s. s) (g ∷ cells) end last
@@ -57,7 +57,7 @@ module _ (capacity g : ℕ) (cells : List ℕ) (small : g < 2 ^ 64) (long : leng
 
 -- ---- the same over any words that fit
 
--- so it is over any words that fit
+-- a count of the borrowed indices is walked over any words that fit
 pub borrowed_at : (capacity : ℕ) (call : BorrowedIndices) → call ≡ first_borrowed capacity → (words : List ℕ) → Represents capacity words
     → Runs (λ (c : BorrowedIndices) (given : Unit {0}). borrowed_want c) (λ c given old. borrowed_after c old) (λ c (room : Unit {0}) old. room) tt
     (λ e room ws. BehavesAs (Represents capacity) owners_in borrowed raised words e ws) call tt words

@@ -33,6 +33,7 @@ abbrev pub tail_of : List ℕ → List ℕ
 tail_of [] = []
 tail_of (x ∷ xs) = xs
 
+-- a list of cells that goes on with this word from this index has a cell there
 pub here : (cells : List ℕ) (index word : ℕ) (rest : List ℕ) → drop index cells ≡ word ∷ rest
     → Here cells index word rest
 here cells index word rest is =
@@ -40,14 +41,11 @@ here cells index word rest is =
     let more = drop_more cells index 0 near in
     record { near = near; word_is = ap (head_or 0) (sym more ∙ is); rest_is = ap tail_of (sym more ∙ is) })
     (λ (far : length cells ≤ index).
-    let long = length-drop index cells in
-    let e : suc (length rest) ≡ length (drop index cells) = sym (ap length is) in absurd (omega arith))
+    let e : suc (length rest) ≡ length (drop index cells) = sym (ap length is) in absurd (omega (arith, length-drop index cells)))
     (cases_lt index (length cells))
 
 pub past : (cells : List ℕ) (index : ℕ) → drop index cells ≡ [] → length cells ≤ index
-past cells index is =
-    let long = length-drop index cells in
-    let e : length (drop index cells) ≡ 0 = ap length is in omega arith
+past cells index is = let e : length (drop index cells) ≡ 0 = ap length is in omega (arith, length-drop index cells)
 
 -- a cell stands behind the counter
 pub next_cell : (g i : ℕ) (cells : List ℕ) → slice_index (g ∷ cells) (cell_word i) ≡ slice_index cells i

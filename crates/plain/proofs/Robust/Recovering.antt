@@ -74,7 +74,7 @@ locked_leaves LockIfLastIndex g emptied n i small other e =
     ⊎_elim
     (λ (t : ((number emptied == 0) ≡ true) × (number emptied ≡ 0)).
     none_left (taken_from i (map owner_in (drop n emptied)))
-    (let h = taken_within n i 0 emptied in let z = t.1 in omega arith))
+    (omega (arith, taken_within n i 0 emptied, t.1)))
     (λ (t : ((number emptied == 0) ≡ false) × (number emptied ≢ 0)).
     let stays : locking (next_generation g) emptied ≡ next_generation (next_generation g) =
     ap (λ b. if b && not (next_generation (next_generation g) == greatest) then locked else next_generation (next_generation g)) t.0 in
@@ -249,9 +249,7 @@ module _ {F S : Type 0} (step : F → ℕ → ℕ → Bool → F → Type 0) (te
               (StopsAt capacity (counter_then mode t.g emptied) emptied left_then)
               (at_recover (first_recover capacity) (recovers.EmptiesCell at.index at.owner))
               (t.g ∷ t.cells)
-              (let a = plus_sum (plus (suc (suc (suc (length emptied)))) 1) (suc (suc (length at.rest))) in
-              let b = plus_sum (suc (suc (suc (length emptied)))) 1 in
-              omega arith)
+              (omega (arith, plus_sum (plus (suc (suc (suc (length emptied)))) 1) (suc (suc (length at.rest))), plus_sum (suc (suc (suc (length emptied)))) 1))
               (frees_on capacity t.g t.cells t.fits.small long t.fits.few opens at.index at.rest at.rest_is mode at.owner at.word_is));
         }
 
@@ -367,7 +365,7 @@ few_rounds step tell mode f s capacity (g ∷ cells) fits done call p q words re
     let most : length (to_recover (owners_in (g ∷ cells))) ≤ length cells =
     by_test (λ l. length l ≤ length cells) (g == locked) [] (taken (owners_in (g ∷ cells)))
     (λ _. omega arith)
-    (λ _. let h = taken_most 0 (map owner_in cells) in let m = length-map cells owner_in in omega arith) in
+    (λ _. omega (arith, taken_most 0 (map owner_in cells), length-map cells owner_in)) in
     omega arith
 
 pub questions_at : {F : Type 0} {pre : F → ℕ → ℕ → Type 0} {step : F → ℕ → ℕ → Bool → F → Type 0} {a b : List Owned} {f : F}

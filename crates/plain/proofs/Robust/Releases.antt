@@ -102,8 +102,7 @@ module _ (capacity index owner g : ℕ) (cells : List ℕ) (small : g < 2 ^ 64) 
   has_is : has old index owner ≡ (slice_index (g ∷ cells) (cell_word index) == owner)
   has_is = grind (arith, owns, get_or-map, owns_is, next_cell)
 
-  -- a release is walked, whether the index is the owner's or not, and does to the owners what it
-  -- should
+  -- a release is walked, whether the index is the owner's or not, and does to the owners what it should
   pub give_walks : (mode : ReleaseMode) → 1 ≤ capacity → Ends mode (suc (suc (suc fuel))) (GaveBack mode) first (g ∷ cells)
   give_walks mode some =
       by_eq (λ a. From mode (suc (suc fuel)) (GaveBack mode) a
@@ -134,8 +133,7 @@ module _ (capacity index owner g : ℕ) (cells : List ℕ) (small : g < 2 ^ 64) 
       → Runs release_want release_after (λ c (room : Unit {0}) old. room) (given mode) (λ e room ws. GaveBack mode e ws) first tt (g ∷ cells)
   give_runs mode some =
       runs release_want release_after (given mode) (suc (suc (suc fuel))) (GaveBack mode) first (g ∷ cells)
-      (let a = plus_sum (plus (suc (suc (suc (length emptied)))) 1) 0 in let b = plus_sum (suc (suc (suc (length emptied)))) 1 in
-      let l = emptied_long in omega arith)
+      (omega (arith, plus_sum (plus (suc (suc (suc (length emptied)))) 1) 0, plus_sum (suc (suc (suc (length emptied)))) 1, emptied_long))
       (give_walks mode some)
 
 -- the same over any words that fit

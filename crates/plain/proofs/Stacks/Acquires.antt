@@ -89,7 +89,7 @@ module _ (capacity : ℕ) where
     own = fits.below (p words) first_in
 
     rest_below : (i : ℕ) → is_in i (chain words (next words) m) ≡ true → i < capacity
-    rest_below i is_in_true = fits.below i (ap (is_in i) free_is ∙ in_rest i (p words) (chain words (next words) m) is_in_true)
+    rest_below i within = fits.below i (ap (is_in i) free_is ∙ in_rest i (p words) (chain words (next words) m) within)
 
     clear : claimed capacity (headed words) (p words) ≡ false
     clear = grind (arith, claimed_elsewhere, own, first_in)
@@ -101,13 +101,13 @@ module _ (capacity : ℕ) where
     head_is = grind (arith, get_or-set_other, flag, get_or-set_same)
 
     open_head : borrowed (h words) < locked
-    open_head = let few = fits.few in omega arith
+    open_head = omega (arith, fits.few)
 
     new_number : borrowed (head_taken (h words) (next words)) ≡ borrowed (h words) + 1
-    new_number = let o = open_head in omega arith
+    new_number = omega (arith, open_head)
 
     new_next : proposed (head_taken (h words) (next words)) ≡ next words
-    new_next = let o = open_head in omega arith
+    new_next = omega (arith, open_head)
 
     new_small : head_taken (h words) (next words) < 2 ^ 64
     new_small = omega arith
@@ -125,9 +125,7 @@ module _ (capacity : ℕ) where
     last_free : free_in capacity (last words) ≡ chain words (next words) m
     last_free =
         let number : capacity - borrowed_number (slice_index (last words) 0) ≡ m =
-        let a = number_of (last words) last_unlocked in
-        let b = ap borrowed head_is in
-        let c = new_number in omega arith in
+        omega (arith, number_of (last words) last_unlocked, ap borrowed head_is, new_number) in
         let start : proposed (slice_index (last words) 0) ≡ next words = ap proposed head_is ∙ new_next in
         (λ i. chain (last words) (start i) (number i))
         ∙ sym (chain_same words (last words) (next words) m (λ i h. sym (kept_next i (rest_below i h))))
@@ -141,7 +139,7 @@ module _ (capacity : ℕ) where
           some = fits.some;
           few = fits.few;
           small = subst (λ n. n < 2 ^ 64) (sym head_is) new_small;
-          count = (let a = number_of (last words) last_unlocked in let b = ap borrowed head_is in let c = new_number in omega arith);
+          count = omega (arith, number_of (last words) last_unlocked, ap borrowed head_is, new_number);
           distinct = subst (IsDistinct eqb) (sym last_free) apart.1;
           below = λ i h. rest_below i (sym (ap (is_in i) last_free) ∙ h);
           flags = λ i low.

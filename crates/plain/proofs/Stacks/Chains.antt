@@ -19,7 +19,7 @@ or_true true = refl
 or_true false = refl
 
 pub in_rest : (i j : ℕ) (xs : List ℕ) → is_in i xs ≡ true → is_in i (j ∷ xs) ≡ true
-in_rest i j xs is_in_true = ap (λ b. eqb i j || b) is_in_true ∙ or_true (eqb i j)
+in_rest i j xs within = ap (λ b. eqb i j || b) within ∙ or_true (eqb i j)
 
 pub in_other : (i j : ℕ) (xs : List ℕ) → i ≢ j → is_in i (j ∷ xs) ≡ is_in i xs
 in_other i j xs other = ap (λ b. b || is_in i xs) (ne_eqb i j other)
@@ -31,8 +31,8 @@ or_false true b e = absurd (true≢false e)
 or_false false b e = (refl, e)
 
 apart : (i : ℕ) (xs : List ℕ) → is_in i xs ≡ false → AllByRecursion (λ y. eqb i y ≡ false) xs
-apart i [] is_in_false = tt
-apart i (x ∷ xs) is_in_false = let e = or_false (eqb i x) (is_in i xs) is_in_false in (e.0, apart i xs e.1)
+apart i [] outside = tt
+apart i (x ∷ xs) outside = let e = or_false (eqb i x) (is_in i xs) outside in (e.0, apart i xs e.1)
 
 not_in : (i : ℕ) (xs : List ℕ) → AllByRecursion (λ y. eqb i y ≡ false) xs → is_in i xs ≡ false
 not_in i [] h = refl
@@ -52,11 +52,11 @@ one_less i xs h = (not_in i xs h.0, h.1)
 pub chain_same : (ws vs : List ℕ) (k n : ℕ)
     → ((i : ℕ) → is_in i (chain ws k n) ≡ true → slice_index ws (next_word i) ≡ slice_index vs (next_word i))
     → chain ws k n ≡ chain vs k n
-chain_same ws vs k zero same_slice_index = refl
-chain_same ws vs k (suc n) same_slice_index =
+chain_same ws vs k zero same_words = refl
+chain_same ws vs k (suc n) same_words =
     let next = slice_index ws (next_word k) % 2 ^ 24 in
-    let rest = chain_same ws vs next n (λ i there. same_slice_index i (in_rest i k (chain ws next n) there)) in
-    let same = same_slice_index k (in_first k (chain ws next n)) in
+    let rest = chain_same ws vs next n (λ i there. same_words i (in_rest i k (chain ws next n) there)) in
+    let same = same_words k (in_first k (chain ws next n)) in
     ap (λ xs. k ∷ xs) (rest ∙ ap (λ x. chain vs (x % 2 ^ 24) n) same)
 
 pub chain_length : (ws : List ℕ) (k n : ℕ) → length (chain ws k n) ≡ n

@@ -32,13 +32,13 @@ in_range i a (suc n) low high =
     in_rest i a (range_with_len (a + 1) n) (in_range i (a + 1) n (omega (arith, other)) (omega arith)))
     (eqb_tells i a)
 
--- and what is in it lies within its bounds
+-- a number that is in a range lies within its bounds
 pub range_within : (i a n : ℕ) → is_in i (range_with_len a n) ≡ true → (a ≤ i) × (i < a + n)
-range_within i a zero is_in_true = absurd (true≢false (sym is_in_true))
-range_within i a (suc n) is_in_true =
+range_within i a zero within = absurd (true≢false (sym within))
+range_within i a (suc n) within =
     ⊎_elim (λ (t : (eqb i a ≡ true) × (i ≡ a)). let e = t.1 in (omega arith, omega arith))
     (λ (t : (eqb i a ≡ false) × (i ≢ a)).
-    let r = range_within i (a + 1) n (sym (in_other i a (range_with_len (a + 1) n) t.1) ∙ is_in_true) in
+    let r = range_within i (a + 1) n (sym (in_other i a (range_with_len (a + 1) n) t.1) ∙ within) in
     let low = r.0 in let high = r.1 in (omega arith, omega arith))
     (eqb_tells i a)
 
@@ -48,7 +48,7 @@ unfolding IsDistinct
 range_distinct a zero = tt
 range_distinct a (suc n) =
     one_more a (range_with_len (a + 1) n)
-    (⊎_elim (λ h. let r = range_within a (a + 1) n h in let low = r.0 in absurd (omega arith)) (λ h. h)
+    (⊎_elim (λ h. let r = range_within a (a + 1) n h in absurd (omega (arith, r.0))) (λ h. h)
     (cases_Bool (is_in a (range_with_len (a + 1) n))))
     (range_distinct (a + 1) n)
 
@@ -82,7 +82,7 @@ module _ (capacity : ℕ) (words : List ℕ) (some : 1 ≤ capacity) (few : capa
         distinct = subst (IsDistinct eqb) (sym free_is) (range_distinct 0 capacity);
         below = λ i there.
             let r = range_within i 0 capacity (sym (ap (is_in i) free_is) ∙ there) in
-            let high = r.1 in omega arith;
+            omega (arith, r.1);
         flags = λ i low.
             none_claimed i
             ∙ sym (ap not (ap (is_in i) free_is ∙ in_range i 0 capacity (omega arith) (omega arith)));

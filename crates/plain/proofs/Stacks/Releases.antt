@@ -56,7 +56,7 @@ module _ (lock : Bool) (capacity index : ℕ) (words : List ℕ) where
         let all = length-le_from_distinct_below (index ∷ free) capacity (one_more index free is_out.1 fits.distinct)
         (λ q there. ⊎_elim (λ (t : (eqb q index ≡ true) × (q ≡ index)). subst (λ z. z < capacity) (sym t.1) is_out.0)
         (λ t. fits.below q (sym (in_other q index free t.1) ∙ there)) (eqb_tells q index)) in
-        let n = free_length in omega arith
+        omega (arith, free_length)
 
     unlocked : says_locked h ≡ false
     unlocked = grind (arith, borrowed, some_out, cases_Bool)
@@ -65,7 +65,7 @@ module _ (lock : Bool) (capacity index : ℕ) (words : List ℕ) where
     number = ap (λ b. if b then 0 else borrowed h) unlocked
 
     low : flag_word capacity index < length words
-    low = let l = fits.long in let o = is_out.0 in omega arith
+    low = omega (arith, fits.long, is_out.0)
 
     one : slice_index cleared 0 ≡ h
     one = get_or-set_other words (flag_word capacity index) 0 _ 0 (λ e. absurd (omega arith))
@@ -227,8 +227,7 @@ module _ (M : Type 0) (capacity index : ℕ) (words : List ℕ) (fits : Represen
         },
       )
 
-  -- a release in mode LockIfLastIndex that runs alone does so, or locks where it was the last one
-  -- that was out
+  -- a release in mode LockIfLastIndex that runs alone does so, or locks where it was the last one that was out
   locks_first : LockRuns (first_release capacity)
   locks_first =
       let free_one = unlocked true capacity index words fits is_out in

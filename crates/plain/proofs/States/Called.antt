@@ -11,7 +11,7 @@ module _ {V : Type 0} where
   pub shown_then : (old now last : Contents V) (owner : ℕ) (value : V) (seen after : Snapshot V) → MayChange old
       → Follows old seen → now ≡ after_add old owner value → last ≡ now → after ≡ updated now seen
       → Follows last after × (after.values ≡ last.values)
-  shown_then old now last owner value seen after may follows_holds add stays update =
-      let follows = subst (λ s. Follows s seen) (sym add) ((adds old owner value may).follows seen follows_holds) in
+  shown_then old now last owner value seen after may followed add stays update =
+      let follows = subst (λ s. Follows s seen) (sym add) ((adds old owner value may).follows seen followed) in
       subst (λ s. Follows s after × (after.values ≡ s.values)) (sym stays)
       (subst (λ x. Follows now x × (x.values ≡ now.values)) (sym update) (updates now seen follows))

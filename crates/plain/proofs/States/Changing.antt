@@ -23,12 +23,12 @@ use Rattle.plain.specs.Following.{MayChange, IsCounted, Follows, Keeps}
 -- ---- numbers
 
 is_odd : (n : ℕ) → is_even n ≡ false → n % 2 ≡ 1
-is_odd n is_even_false =
+is_odd n odd =
     let other : n % 2 ≡ 0 → ⊥ = grind (arith, nat_tests) in
     omega arith
 
 even_is : (n : ℕ) → is_even n ≡ true → n % 2 ≡ 0
-even_is n is_even_true = grind (arith, nat_tests)
+even_is n tested_even = grind (arith, nat_tests)
 
 is_even_so : (n : ℕ) → n % 2 ≡ 0 → is_even n ≡ true
 is_even_so n e = grind (arith, nat_tests)
@@ -69,7 +69,7 @@ module _ {V : Type 0} where
           few = λ i.
               let more = m.changes in
               let was = c.few i in
-              ⊎_elim (λ same. let n = same.0 in omega arith) (λ moved. let n = moved.few in omega arith) (m.at i);
+              ⊎_elim (λ same. omega (arith, same.0)) (λ moved. omega (arith, moved.few)) (m.at i);
           even = λ i e. ⊎_elim (λ same. same.1 ∙ c.even i (subst (λ n. is_even n ≡ true) same.0 e)) (λ moved. moved.even e) (m.at i);
         }
 
@@ -80,14 +80,14 @@ module _ {V : Type 0} where
           counted = counted_then;
           counts = follows.counts ∙ sym m.places;
           values = follows.values ∙ sym m.places;
-          fewer = let few = follows.fewer in let more = m.changes in omega arith;
+          fewer = omega (arith, follows.fewer, m.changes);
           numbers = λ i.
               let low = follows.numbers i in
-              ⊎_elim (λ same. let n = same.0 in omega arith) (λ moved. let n = moved.more in omega arith) (m.at i);
+              ⊎_elim (λ same. omega (arith, same.0)) (λ moved. omega (arith, moved.more)) (m.at i);
           same = λ i e.
               let low = follows.numbers i in
-              ⊎_elim (λ same. follows.same i (sym same.0 ∙ e) ∙ sym same.1) (λ moved. let n = moved.more in absurd (omega arith)) (m.at i);
-          all = λ e. let few = follows.fewer in let more = m.changes in absurd (omega arith);
+              ⊎_elim (λ same. follows.same i (sym same.0 ∙ e) ∙ sym same.1) (λ moved. absurd (omega (arith, moved.more))) (m.at i);
+          all = λ e. absurd (omega (arith, follows.fewer, m.changes));
         }
 
   moves_keep : (s t : Contents V) → (IsCounted s → Moves s t) → Keeps s t
@@ -101,7 +101,7 @@ module _ {V : Type 0} where
   module _ (s : Contents V) (c : IsCounted s) (may : MayChange s) where
     -- a number that may go up by 2
     small : (i : ℕ) → count_at s i < 2 ^ 64 - 2
-    small i = let few = c.few i in let far = may in omega arith
+    small i = omega (arith, c.few i, may)
 
     module _ (set_now : Owners) (places : owners.capacity set_now ≡ capacity s) (index : ℕ) (value : Option V) where
       abbrev t : Contents V
@@ -110,10 +110,10 @@ module _ {V : Type 0} where
       abbrev n : ℕ
       n = count_at s index
 
-      -- by what stands there then, and by the number that it had
+      -- at the index, number and value stay, or the number grows by one or two, and no value stands where it is even
       here : (v : Option V) (b : Bool) → is_even n ≡ b → (count : ℕ) → count ≡ count_with v n → (w : Option V) → w ≡ v
           → ((count ≡ n) × (w ≡ value_at s index)) ⊎ ((n < count) × (count ≤ n + 2) × (is_even count ≡ true → w ≡ None))
-      here v b is_even_is count count_is w w_is_v = grind (arith, count_with, one_more, inl, small, inr, even_is, is_odd)
+      here v b parity count count_is w w_is_v = grind (arith, count_with, one_more, inl, small, inr, even_is, is_odd)
 
       within : index < capacity s → (i : ℕ) → i ≡ index → IsSame s t i ⊎ HasMoved s t i
       within index_below i i_is_index = grind (arith, inl, inr, here, get_or-set_same, count_with)
@@ -175,7 +175,7 @@ module _ {V : Type 0} where
       go (Ok index) = changed_keeps s may (owners.granted s.owners owner (Ok index)) (length-set s.owners.owners index (Some owner)) index (Some value)
       go (Err failure) = keeps_same s
 
-  -- so does a remove
+  -- a remove keeps that the contents are counted, and that a snapshot follows them
   pub removes : (s : Contents V) (handle : ContainerHandle) (mode : ReleaseMode) → MayChange s → Keeps s (after_remove s handle mode)
   removes s handle mode may = go (names s handle)
     where
@@ -183,7 +183,7 @@ module _ {V : Type 0} where
       go true = changed_keeps s may (owners.given_back mode s.owners handle.index) (given_back_long mode s.owners handle.index) handle.index None
       go false = keeps_same s
 
-  -- and a replace
+  -- a replace keeps that the contents are counted, and that a snapshot follows them
   pub replaces : (s : Contents V) (handle : ContainerHandle) (value : V) → MayChange s → Keeps s (after_replace s handle value)
   replaces s handle value may = go (names s handle)
     where
@@ -191,6 +191,7 @@ module _ {V : Type 0} where
       go true = changed_keeps s may s.owners refl handle.index (Some value)
       go false = keeps_same s
 
+  -- a count of the values changes nothing that a state has seen
   pub counts : (s : Contents V) → Keeps s (counted s)
   counts s = grind (arith, counted)
 
@@ -215,7 +216,7 @@ module _ {V : Type 0} where
       abbrev u : Contents V
       u = freed mode t index
 
-      -- by the number that it has, as the first index of this value has it
+      -- at the index that is freed, number and value stay, or the number is one more and even, and no value stands
       gone : (b : Bool) → is_even (count_at t index) ≡ b → (count : ℕ) → count ≡ count_without (count_at t index) → (w : Option V) → w ≡ None
           → ((count ≡ count_at s index) × (w ≡ value_at s index)) ⊎ ((count ≡ count_at s index + 1) × (is_even count ≡ true) × (w ≡ None))
       gone true e count is w none =

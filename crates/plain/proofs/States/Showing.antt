@@ -47,7 +47,7 @@ module _ {V : Type 0} where
         go true t = let same : get_or s.counts i 0 ≡ get_or seen.counts i 0 = grind (arith, nat_tests) in f.same i same
         go false t = refl
 
-    -- and so are all of the values
+    -- what it should show of all indices is all of the values
     now_is : now ≡ s.values
     now_is =
         let a = length-map-range_with_len (value_then s seen) 0 (capacity s) in
@@ -65,6 +65,7 @@ module _ {V : Type 0} where
   pub updates : (s : Contents V) (seen : Snapshot V) → Follows s seen → Follows s (updated s seen) × ((updated s seen).values ≡ s.values)
   updates s seen follows = go (s.changes == seen.changes) refl
     where
+      -- whether the container has changed since or not, the state that is brought up to date follows it and shows its values
       go : (b : Bool) → (s.changes == seen.changes) ≡ b
           → Follows s (if b then seen else record { changes = s.changes; counts = s.counts; values = map (value_then s seen) (range_with_len 0 (capacity s)) })
           × ((if b then seen else

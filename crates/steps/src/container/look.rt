@@ -88,6 +88,7 @@ impl<T: Words> Look<T> {
         Want::Ask(Ask { word, op })
     }
 
+    /// The look goes on at this stage.
     #[inline(always)]
     fn at(self, stage: LookStage) -> After<Look<T>, bool>
         ensures { result ≡ at_look self stage }

@@ -99,6 +99,7 @@ impl<T: Words, R: Room<T>> Recover<T, R> {
         }
     }
 
+    /// The recovery goes on at this stage.
     #[inline(always)]
     fn goes_to(self, stage: RecoverStage) -> After<Recover<T, R>, ReleaseState>
         ensures { result ≡ goes_to self stage }
@@ -140,6 +141,7 @@ impl<T: Words, R: Room<T>> Recover<T, R> {
         })
     }
 
+    /// The recovery goes on to raise the counter.
     #[inline(always)]
     fn raises(self, index: u32) -> After<Recover<T, R>, ReleaseState>
         ensures { result ≡ recover_raises self index }

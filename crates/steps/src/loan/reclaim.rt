@@ -104,6 +104,7 @@ impl Reclaim {
         }
     }
 
+    /// The reclaim goes on at this stage.
     #[inline(always)]
     fn at(self, stage: ReclaimStage) -> After<Reclaim, u64>
         ensures { result ≡ at_reclaim self stage }

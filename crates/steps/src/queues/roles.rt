@@ -4,6 +4,7 @@ ghost use Rattle.steps.specs.Queues.Roles.{acquire_want, acquire_after, release_
 use crate::ask::{After, Ask, Op, Want};
 use crate::routine::{Ends, Routine};
 
+/// A role of a queue.
 #[derive(Debug, Clone, Copy, PartialEq, Eq)]
 pub enum Role {
     Producer,

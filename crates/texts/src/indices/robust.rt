@@ -16,6 +16,7 @@ use steps::indices::enums::RobustUniqueIndexSetReleaseError;
 
 // What holds an owner is passed on by a match: the borrow checker has no rule for `?` on it.
 
+/// An acquire, by an owner.
 #[tactic(auto, unfolding(crate::specs::Indices::Robust::acquire))]
 fn acquire(words: Rest<'_>) -> Result<(RobustStart, Rest<'_>), Cause>
     ensures { Gives (λ x. (x.0, words_left x.1)) result (acquire (words_left words.entry)) }
@@ -27,6 +28,7 @@ fn acquire(words: Rest<'_>) -> Result<(RobustStart, Rest<'_>), Cause>
     Ok((RobustStart::Acquire(owner), rest))
 }
 
+/// A release, by an index, an owner and a mode.
 #[tactic(auto, unfolding(crate::specs::Indices::Robust::release))]
 fn release(words: Rest<'_>) -> Result<(RobustStart, Rest<'_>), Cause>
     ensures { Gives (λ x. (x.0, words_left x.1)) result (release (words_left words.entry)) }
@@ -40,6 +42,7 @@ fn release(words: Rest<'_>) -> Result<(RobustStart, Rest<'_>), Cause>
     Ok((RobustStart::Release(index as u64, owner, mode), rest))
 }
 
+/// A find, by an owner.
 #[tactic(auto, unfolding(crate::specs::Indices::Robust::find))]
 fn find(words: Rest<'_>) -> Result<(RobustStart, Rest<'_>), Cause>
     ensures { Gives (λ x. (x.0, words_left x.1)) result (find (words_left words.entry)) }
@@ -51,6 +54,7 @@ fn find(words: Rest<'_>) -> Result<(RobustStart, Rest<'_>), Cause>
     Ok((RobustStart::Find(owner), rest))
 }
 
+/// A recovery, by a mode.
 #[tactic(auto, unfolding(crate::specs::Indices::Robust::recover))]
 fn recover(words: Rest<'_>) -> Result<(RobustStart, Rest<'_>), Cause>
     ensures { Gives (λ x. (x.0, words_left x.1)) result (recover (words_left words.entry)) }
@@ -59,6 +63,7 @@ fn recover(words: Rest<'_>) -> Result<(RobustStart, Rest<'_>), Cause>
     Ok((RobustStart::Recover(mode), rest))
 }
 
+/// The call of the robust set with this name, and the words that are left.
 #[tactic(auto, unfolding(crate::specs::Indices::Robust::any_robust_call))]
 fn any_robust_call<'a>(name: &[u8], words: Rest<'a>) -> Result<(RobustStart, Rest<'a>), Cause>
     ensures { Gives (λ x. (x.0, words_left x.1)) result

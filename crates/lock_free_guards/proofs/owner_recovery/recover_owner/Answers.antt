@@ -10,8 +10,7 @@ use Rattle.lock_free_guards.specs.contracts.owner_recovery.fn.recover_owner.reco
 use Rattle.lock_free_guards.specs.contracts.owner_recovery.fn.recover_owner.recover+arg4 as told
 use Rattle.lock_free_guards.proofs.owner_recovery.recover_owner.Goals as goal
 
--- the second closure may be called with each index that was freed: the number of those before is
--- below the capacity
+-- the second closure may be called with each index that was freed: the number of those before is below the capacity
 pub recover-state-requires-clause-freed : goal.recover-state-requires-clause-freed
 recover-state-requires-clause-freed g c free =
     record {

@@ -6,6 +6,7 @@ use Rattle.plain.proofs.Places.Empties.{Emptying, takes_element, empties_one, al
 use Rattle.plain.proofs.bits.empty.Given as given
 use Rattle.plain.proofs.bits.empty.Goals as goal
 
+-- its call of `visit_element` meets the requirement `takes`
 pub visit_element-requires-clause-takes : goal.visit_element-requires-clause-takes
 visit_element-requires-clause-takes g c =
     takes_element (given.F-pre g) (given.F-step g) c.args.capacity c.args.words.now.items c.args.visit.now c.loop.counter
@@ -15,6 +16,7 @@ visit_element-requires-clause-takes g c =
     c.end_of_element-end.ensures.order c.end_of_element-end.ensures.below c.end_of_element-end.ensures.near
     c.end_of_element-end.ensures.far
 
+-- each iteration keeps the invariant of the loop
 pub loop-preserved : goal.loop-preserved
 loop-preserved g c =
     empties_one (given.F-pre g) (given.F-step g) c.args.capacity c.args.words.now.items c.args.visit.now c.loop.counter
@@ -26,6 +28,7 @@ loop-preserved g c =
     c.visit_element.new.visit c.swap_next-found.ensures.words c.swap_next-found.ensures.call
     c.visit_element.ensures
 
+-- its return meets the clause `places`
 pub returns-clause-places : goal.returns-clause-places
 returns-clause-places g c =
     let end : c.loop.counter ≡ elements c.args.capacity =
@@ -36,6 +39,7 @@ returns-clause-places g c =
     c.loop.first c.loop.call c.loop.words.items c.loop.visit)
     end c.loop.invariant)
 
+-- its return meets the clause `calls`
 pub returns-clause-calls : goal.returns-clause-calls
 returns-clause-calls g c =
     let end : c.loop.counter ≡ elements c.args.capacity =

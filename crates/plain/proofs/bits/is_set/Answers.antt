@@ -1,4 +1,4 @@
--- `is_set` (src/bits.rt): its call of `drive` meets what that requires, and its return meets what it ensures.
+-- `is_set` (src/bits.rt): its call of `drive` can end, and its return is whether the place stands; the set stays.
 use Rattle.plain.proofs.Alone.{can_end, ends_so}
 use Rattle.plain.proofs.Places.Looks.{look_runs}
 use Rattle.plain.proofs.bits.is_set.Goals as goal

@@ -1,4 +1,5 @@
--- `reset_next` (src/bits.rt): its call of `drive` meets what that requires, and its return meets what it ensures.
+-- `reset_next` (src/bits.rt): its call of `drive` can end, and its return is the next place that stood, which is clear
+-- now, or None.
 use Rattle.plain.proofs.Alone.{can_end, ends_so}
 use Rattle.plain.proofs.Places.Resets.{reset_runs}
 use Rattle.plain.proofs.bits.reset_next.Goals as goal

@@ -1,4 +1,4 @@
--- `set` (src/bits.rt): its call of `drive` meets what that requires, and its return meets what it ensures.
+-- `set` (src/bits.rt): its call of `drive` can end, and its return is whether the place was clear; it stands now.
 use Rattle.plain.proofs.Alone.{can_end, ends_so}
 use Rattle.plain.proofs.Places.Sets.{set_runs}
 use Rattle.plain.proofs.bits.set.Goals as goal

@@ -1,10 +1,11 @@
--- `add` (src/container.rt): its call of `drive` meets what that requires, and its return meets what it ensures.
+-- `add` (src/container.rt): its call of `drive` can end, and the contents have the value, or it answers why they do not.
 use Rattle.plain.proofs.Alone.{can_end, ends_so}
 use Rattle.plain.proofs.Elements.Adds.{add_at}
 use Rattle.plain.proofs.Elements.Filled.{still, values_long, filled_add}
 use Rattle.plain.specs.Contents.{added, after_add, contents_in}
 use Rattle.plain.proofs.container.add.Goals as goal
 
+-- its call of `drive` meets what that requires
 pub drive-requires : goal.drive-requires
 drive-requires g c = record {
   ends = can_end _ _ _ _ _ _ _ _
@@ -13,6 +14,7 @@ drive-requires g c = record {
       c.value.ensures.number c.value.ensures.named c.new.result c.new.ensures c.args.words.now.items c.requires.0);
 }
 
+-- where the answer is `Ok`, its return meets what it ensures
 pub returns-in-Ok : goal.returns-in-Ok
 returns-in-Ok g c =
     still g.T.Words.value_of g.T.Words.WORDS c.args.capacity c.args.id (λ s. added s c.args.given.now.owner)
@@ -28,6 +30,7 @@ returns-in-Ok g c =
     c.value.ensures.number c.value.ensures.named c.new.result c.new.ensures c.args.words.now.items c.requires.0)
     _ _ _ c.in-Ok.ensures.alone)
 
+-- where the answer is `Err`, its return meets what it ensures
 pub returns-in-Err : goal.returns-in-Err
 returns-in-Err g c =
     still g.T.Words.value_of g.T.Words.WORDS c.args.capacity c.args.id (λ s. added s c.args.given.now.owner)

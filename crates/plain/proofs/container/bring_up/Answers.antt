@@ -4,6 +4,7 @@ use Rattle.plain.proofs.Elements.Updates.{look_runs}
 use Rattle.plain.proofs.Elements.Snapshots.{words_kept, brought_if, brought_not}
 use Rattle.plain.proofs.container.bring_up.Goals as goal
 
+-- its call of `drive` meets what that requires
 pub drive-requires : goal.drive-requires
 drive-requires g c = record {
   ends =
@@ -11,6 +12,7 @@ drive-requires g c = record {
       c.args.words.now.items c.requires.0 c.args.state.now.seen c.args.state.now.shown c.new.result c.new.ensures);
 }
 
+-- where `drive` answers true, its return meets the clause `words`
 pub returns-then-drive-clause-words : goal.returns-then-drive-clause-words
 returns-then-drive-clause-words g c =
     words_kept g.T.Words.value_of g.T.Words.WORDS g.met.T.Words.some g.met.T.Words.few c.args.capacity c.args.id
@@ -19,6 +21,7 @@ returns-then-drive-clause-words g c =
     c.args.words.now.items c.requires.0 c.args.state.now.seen c.args.state.now.shown c.new.result c.new.ensures)
     _ _ _ c.drive.ensures.alone)
 
+-- where `drive` answers true, its return meets the clause `brought`
 pub returns-then-drive-clause-brought : goal.returns-then-drive-clause-brought
 returns-then-drive-clause-brought g c =
     brought_if g.T.Words.value_of g.T.Words.WORDS g.met.T.Words.some g.met.T.Words.few c.args.capacity c.args.id
@@ -28,6 +31,7 @@ returns-then-drive-clause-brought g c =
     _ _ _ c.drive.ensures.alone)
     c.if-drive.true c.settle.new.self c.settle.ensures
 
+-- its return meets the clause `words`
 pub returns-clause-words : goal.returns-clause-words
 returns-clause-words g c =
     words_kept g.T.Words.value_of g.T.Words.WORDS g.met.T.Words.some g.met.T.Words.few c.args.capacity c.args.id
@@ -36,6 +40,7 @@ returns-clause-words g c =
     c.args.words.now.items c.requires.0 c.args.state.now.seen c.args.state.now.shown c.new.result c.new.ensures)
     _ _ _ c.drive.ensures.alone)
 
+-- its return meets the clause `brought`
 pub returns-clause-brought : goal.returns-clause-brought
 returns-clause-brought g c =
     brought_not g.T.Words.value_of g.T.Words.WORDS g.met.T.Words.some g.met.T.Words.few c.args.capacity c.args.id

@@ -11,6 +11,7 @@ drive-requires g c = record {
       (count_at g.T.Words.value_of g.T.Words.WORDS c.args.capacity c.args.id c.new.result c.new.ensures c.args.words.now.items c.requires.0);
 }
 
+-- its return meets what it ensures
 pub returns : goal.returns
 returns g c =
     still g.T.Words.value_of g.T.Words.WORDS c.args.capacity c.args.id (number) (counted) c.args.words.now.items

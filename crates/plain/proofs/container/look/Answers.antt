@@ -11,6 +11,7 @@ drive-requires g c = record {
       (look_at g.T.Words.value_of g.T.Words.WORDS c.args.capacity c.args.id _ c.args.words.now.items c.requires.0);
 }
 
+-- its return meets what it ensures
 pub returns : goal.returns
 returns g c =
     still g.T.Words.value_of g.T.Words.WORDS c.args.capacity c.args.id (is_locked) (λ s. s) c.args.words.now.items (c.requires.1) _ _

@@ -1,10 +1,12 @@
--- `remove` (src/container.rt): its call of `drive` meets what that requires, and its return meets what it ensures.
+-- `remove` (src/container.rt): its call of `drive` can end, and the contents have lost the value, or it answers why
+-- they have not.
 use Rattle.plain.proofs.Alone.{can_end, ends_so}
 use Rattle.plain.proofs.Elements.Removes.{remove_at}
 use Rattle.plain.proofs.Elements.Filled.{still, filled_remove}
 use Rattle.plain.specs.Contents.{removed, after_remove}
 use Rattle.plain.proofs.container.remove.Goals as goal
 
+-- its call of `drive` meets what that requires
 pub drive-requires : goal.drive-requires
 drive-requires g c = record {
   ends = can_end _ _ _ _ _ _ _ _
@@ -13,6 +15,7 @@ drive-requires g c = record {
       c.value.ensures.named c.new.result c.new.ensures c.args.words.now.items c.requires.0);
 }
 
+-- its return meets what it ensures
 pub returns : goal.returns
 returns g c =
     still g.T.Words.value_of g.T.Words.WORDS c.args.capacity c.args.handle.container

@@ -1,10 +1,11 @@
--- `replace` (src/container.rt): its call of `drive` meets what that requires, and its return meets what it ensures.
+-- `replace` (src/container.rt): its call of `drive` can end, and the index has the new value, or it answers why it does not.
 use Rattle.plain.proofs.Alone.{can_end, ends_so}
 use Rattle.plain.proofs.Elements.Replaces.{replace_at}
 use Rattle.plain.proofs.Elements.Filled.{still, filled_replace}
 use Rattle.plain.specs.Contents.{replaced, after_replace}
 use Rattle.plain.proofs.container.replace.Goals as goal
 
+-- its call of `drive` meets what that requires
 pub drive-requires : goal.drive-requires
 drive-requires g c = record {
   ends = can_end _ _ _ _ _ _ _ _
@@ -14,6 +15,7 @@ drive-requires g c = record {
       c.value.ensures.number c.value.ensures.named c.new.result c.new.ensures c.args.words.now.items c.requires.0);
 }
 
+-- its return meets what it ensures
 pub returns : goal.returns
 returns g c =
     still g.T.Words.value_of g.T.Words.WORDS c.args.capacity c.args.handle.container (λ s. replaced s c.args.handle)

@@ -5,6 +5,7 @@ use Rattle.plain.proofs.Emptied.{Emptying, callable, empties_one, ends}
 use Rattle.plain.proofs.counts.empty.Given as given
 use Rattle.plain.proofs.counts.empty.Goals as goal
 
+-- its call of `call_counted` meets what that requires
 pub call_counted-requires : goal.call_counted-requires
 call_counted-requires g c some =
     let test = c.loop-place-test.true in
@@ -12,6 +13,7 @@ call_counted-requires g c some =
     (omega arith) c.loop-place.call c.loop-place.words.items c.loop-place.visit c.loop-place.invariant
     c.swap_next-count.result c.swap_next-count.ensures.answer some
 
+-- each iteration keeps the invariant of the loop
 pub loop-place-preserved : goal.loop-place-preserved
 loop-place-preserved g c =
     let test = c.loop-place-test.true in
@@ -21,6 +23,7 @@ loop-place-preserved g c =
     c.swap_next-count.new.call c.swap_next-count.new.words.items c.swap_next-count.ensures.words c.swap_next-count.ensures.call
     c.call_counted.new.visit c.call_counted.ensures.called c.call_counted.ensures.passed
 
+-- its return meets the clause `counts`
 pub returns-clause-counts : goal.returns-clause-counts
 returns-clause-counts g c =
     let end : c.loop-place.place ≡ c.args.capacity = let test = c.loop-place-test.false in omega arith in
@@ -29,6 +32,7 @@ returns-clause-counts g c =
     c.loop-place.call c.loop-place.words.items c.loop-place.visit)
     end c.loop-place.invariant)).0
 
+-- its return meets the clause `calls`
 pub returns-clause-calls : goal.returns-clause-calls
 returns-clause-calls g c =
     let end : c.loop-place.place ≡ c.args.capacity = let test = c.loop-place-test.false in omega arith in

@@ -3,6 +3,7 @@ use Rattle.std.proofs.Common.{refl, arith, slice_index}
 use Rattle.steps.specs.Objects.Counts.{counted}
 use Rattle.plain.proofs.counts.set.Goals as goal
 
+-- its call of `drive` meets what that requires
 pub drive-requires : goal.drive-requires
 drive-requires c = record {
   ends = record {

@@ -6,6 +6,7 @@ use Rattle.plain.specs.Alone.{StopsAlike}
 use Rattle.plain.proofs.Alone.{begins_later, goes_on, stops, stops_early}
 use Rattle.plain.proofs.drive.drive_words_to_stop.Goals as goal
 
+-- where the answer is `Done`, its return meets what it ensures
 pub returns-in-Done : goal.returns-in-Done
 returns-in-Done g c = record {
   alone =
@@ -23,6 +24,7 @@ loop-init g c =
 pub loop-preserved : goal.loop-preserved
 loop-preserved = grind (arith, goes_on)
 
+-- where `step` answers `Done`, its return meets what it ensures
 pub returns-in-Done-step : goal.returns-in-Done-step
 returns-in-Done-step g c = record {
   alone =

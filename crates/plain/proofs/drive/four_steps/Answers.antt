@@ -2,6 +2,7 @@
 use Rattle.plain.proofs.Alone.{more_steps}
 use Rattle.plain.proofs.drive.four_steps.Goals as goal
 
+-- where the answer is `GoOn`, its return meets what it ensures
 pub returns-in-GoOn : goal.returns-in-GoOn
 returns-in-GoOn g c =
     more_steps g.C.Routine.want_of g.C.Routine.after g.C.Routine.kept c.args.given.now c.args.call c.in-GoOn.next

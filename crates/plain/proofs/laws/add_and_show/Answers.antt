@@ -3,6 +3,7 @@ use Rattle.plain.specs.States.{snapshot_of}
 use Rattle.plain.proofs.States.Called.{shown_then}
 use Rattle.plain.proofs.laws.add_and_show.Goals as goal
 
+-- its return meets the clause `follows`
 pub returns-clause-follows : goal.returns-clause-follows
 returns-clause-follows g c =
     (shown_then c.args.container.now c.add-answer.new.self c.update_state.new.self c.args.owner c.args.value
@@ -10,6 +11,7 @@ returns-clause-follows g c =
     c.add-answer.ensures.map c.update_state.ensures.map
     (c.update_state.ensures.shows c.requires.settled).1).0
 
+-- its return meets the clause `shows`
 pub returns-clause-shows : goal.returns-clause-shows
 returns-clause-shows g c =
     (shown_then c.args.container.now c.add-answer.new.self c.update_state.new.self c.args.owner c.args.value

@@ -1,4 +1,4 @@
--- `pop` (src/overflowing.rt): its call of `drive` meets what that requires, and its return meets what it ensures.
+-- `pop` (src/overflowing.rt): its call of `drive` can end, and its return is the oldest value, which the list has lost, or None.
 use Rattle.std.proofs.Common.{◌∙◌}
 use Rattle.plain.proofs.Alone.{can_end, ends_so}
 use Rattle.plain.proofs.Lists.Overflows.{pop_runs}
@@ -10,6 +10,7 @@ drive-end-requires c = record {
       (pop_runs c.args.capacity (record { 0 = 0 }) c.args.words.now.items c.new.result c.new.ensures c.requires);
 }
 
+-- its return meets what it ensures
 pub returns : goal.returns
 returns c =
     let so = ends_so _ _ _ _ _ _ _ _

@@ -1,4 +1,4 @@
--- `push` (src/overflowing.rt): its call of `drive` meets what that requires, and its return meets what it ensures.
+-- `push` (src/overflowing.rt): its call of `drive` can end, and its return is the value that a full list hands back for this one.
 use Rattle.std.proofs.Common.{◌∙◌}
 use Rattle.plain.proofs.Alone.{can_end, ends_so}
 use Rattle.plain.proofs.Lists.Overflows.{push_runs}
@@ -10,6 +10,7 @@ drive-end-requires c = record {
       (push_runs c.args.capacity c.args.value c.new.result c.new.ensures (record { 0 = 0 }) c.args.words.now.items c.requires);
 }
 
+-- its return meets what it ensures
 pub returns : goal.returns
 returns c =
     let so = ends_so _ _ _ _ _ _ _ _

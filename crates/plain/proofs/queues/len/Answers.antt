@@ -1,4 +1,4 @@
--- `len` (src/queues.rt): its call of `drive` meets what that requires, and its return meets what it ensures.
+-- `len` (src/queues.rt): its call of `drive` can end, and its return is the number of values; the list stays.
 use Rattle.std.proofs.Common.{subst, sym, ap}
 use Rattle.plain.specs.Queues.{list_in, Represents}
 use Rattle.plain.proofs.Alone.{can_end, ends_so}
@@ -11,6 +11,7 @@ drive-requires g c = record {
       (count_runs g.T.Words.value_of g.T.Words.WORDS c.args.capacity c.new.result c.new.ensures c.args.words.now.items c.requires);
 }
 
+-- its return meets what it ensures
 pub returns : goal.returns
 returns g c =
     let so = ends_so _ _ _ _ _ _ _ _

@@ -1,10 +1,11 @@
--- `peek` (src/queues.rt): its call of `drive` meets what that requires, and its return meets what it ensures.
+-- `peek` (src/queues.rt): its call of `drive` can end, and its return is the oldest value, or None; the list stays.
 use Rattle.std.proofs.Common.{refl, set, arith, ◌∙◌}
 use Rattle.plain.proofs.Names.{Buffer}
 use Rattle.plain.proofs.Alone.{can_end, ends_so}
 use Rattle.plain.proofs.Lists.Peeks.{peek_runs}
 use Rattle.plain.proofs.queues.peek.Goals as goal
 
+-- its call of `drive` meets what that requires
 pub drive-end-requires : goal.drive-end-requires
 drive-end-requires g c =
     let few = g.met.T.Words.few in
@@ -16,6 +17,7 @@ drive-end-requires g c =
           c.requires);
     }
 
+-- its return meets what it ensures
 pub returns : goal.returns
 returns g c =
     let few = g.met.T.Words.few in

@@ -1,8 +1,9 @@
--- `push` (src/queues.rt): its call of `drive` meets what that requires, and its return meets what it ensures.
+-- `push` (src/queues.rt): its call of `drive` can end, and the list has one value more, where there was room.
 use Rattle.plain.proofs.Alone.{can_end, ends_so}
 use Rattle.plain.proofs.Lists.Pushes.{push_runs}
 use Rattle.plain.proofs.queues.push.Goals as goal
 
+-- its call of `drive` meets what that requires
 pub drive-requires : goal.drive-requires
 drive-requires g c = record {
   ends = can_end _ _ _ _ _ _ _ _
@@ -11,6 +12,7 @@ drive-requires g c = record {
       c.args.words.now.items c.requires);
 }
 
+-- its return meets what it ensures
 pub returns : goal.returns
 returns g c = ends_so _ _ _ _ _ _ _ _
     (push_runs g.T.Words.words_of g.T.Words.value_of g.T.Words.WORDS g.met.T.Words.sized g.met.T.Words.given_back

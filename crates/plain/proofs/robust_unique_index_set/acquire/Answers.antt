@@ -1,8 +1,10 @@
--- `acquire` (src/robust_unique_index_set.rt): its call of `drive` meets what that requires, and its return meets what it ensures.
+-- `acquire` (src/robust_unique_index_set.rt): its call of `drive` can end, and its return is a free index, which the
+-- owner has now, or why there is none.
 use Rattle.plain.proofs.Alone.{can_end, ends_so}
 use Rattle.plain.proofs.Robust.Acquires.{take_at}
 use Rattle.plain.proofs.robust_unique_index_set.acquire.Goals as goal
 
+-- its call of `drive` meets what that requires
 pub drive-requires : goal.drive-requires
 drive-requires c = record {
   ends = can_end _ _ _ _ _ _ _ _

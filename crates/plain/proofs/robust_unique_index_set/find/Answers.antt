@@ -24,6 +24,7 @@ returns-in-Ended-clause-found g c =
     c.loop.counter c.loop.call c.loop.visit c.loop.words.items c.in-Ended.found c.drive_to_stop.new.room
     c.drive_to_stop.new.words.items c.loop.invariant c.in-Ended.ensures.alone).0
 
+-- its call of `visit_at` meets what that requires
 pub visit_at-said-requires : goal.visit_at-said-requires
 visit_at-said-requires g c =
     may_so (λ p x a q. given.F-step g p x a q) c.args.visit.now c.args.capacity c.args.owner c.args.words.now.items
@@ -31,6 +32,7 @@ visit_at-said-requires g c =
     c.drive_to_stop.new.room c.drive_to_stop.new.words.items c.loop.invariant c.in-Asked.ensures.alone c.index_in.result
     c.index_in.ensures c.requires.indices
 
+-- where the answer is `Done`, its return meets the clause `words`
 pub returns-in-Done-clause-words : goal.returns-in-Done-clause-words
 returns-in-Done-clause-words g c =
     (further_so (λ p x a q. given.F-step g p x a q) c.args.visit.now c.args.capacity c.args.owner c.args.words.now.items
@@ -39,6 +41,7 @@ returns-in-Done-clause-words g c =
     c.index_in.ensures c.visit_at-said.result c.visit_at-said.new.visit c.visit_at-said.ensures
     c.as_answer-answer.result c.as_answer-answer.ensures _ (sym c.in-Done.is ∙ c.take.ensures.goes)).1
 
+-- where the answer is `Done`, its return meets the clause `found`
 pub returns-in-Done-clause-found : goal.returns-in-Done-clause-found
 returns-in-Done-clause-found g c =
     (further_so (λ p x a q. given.F-step g p x a q) c.args.visit.now c.args.capacity c.args.owner c.args.words.now.items
@@ -47,6 +50,7 @@ returns-in-Done-clause-found g c =
     c.index_in.ensures c.visit_at-said.result c.visit_at-said.new.visit c.visit_at-said.ensures
     c.as_answer-answer.result c.as_answer-answer.ensures _ (sym c.in-Done.is ∙ c.take.ensures.goes)).0
 
+-- each iteration keeps the invariant of the loop
 pub loop-preserved : goal.loop-preserved
 loop-preserved g c =
     further_so (λ p x a q. given.F-step g p x a q) c.args.visit.now c.args.capacity c.args.owner c.args.words.now.items

@@ -1,4 +1,5 @@
--- `is_locked` (src/robust_unique_index_set.rt): its call of `drive` meets what that requires, and its return meets what it ensures.
+-- `is_locked` (src/robust_unique_index_set.rt): its call of `drive` can end, and its return is whether the set is
+-- locked; it stays.
 use Rattle.plain.proofs.Alone.{can_end, ends_so}
 use Rattle.plain.proofs.Robust.Looks.{looked_at}
 use Rattle.plain.proofs.robust_unique_index_set.is_locked.Goals as goal

@@ -18,6 +18,7 @@ returns-in-Ended-clause-fits = grind (arith, ended_so)
 pub returns-in-Ended-clause-state : goal.returns-in-Ended-clause-state
 returns-in-Ended-clause-state = grind (arith, ended_so)
 
+-- where the answer is `Ended`, its return meets the clause `calls`
 pub returns-in-Ended-clause-calls : goal.returns-in-Ended-clause-calls
 returns-in-Ended-clause-calls g c =
     (ended_so (λ p o i b q. given.F-step g p o i b q) (λ s o i t. given.S-step g s o i tt t) c.args.mode
@@ -25,6 +26,7 @@ returns-in-Ended-clause-calls g c =
     c.loop.recovered c.loop.words.items c.loop.invariant c.in-Ended.state c.drive_to_stop.new.room
     c.drive_to_stop.new.words.items c.in-Ended.ensures.alone).calls
 
+-- its call of `ask_about` meets what that requires
 pub ask_about-yes-requires : goal.ask_about-yes-requires
 ask_about-yes-requires g c =
     may_ask (λ p o i b q. given.F-step g p o i b q) (λ s o i t. given.S-step g s o i tt t) c.args.mode c.args.predicate.now
@@ -36,6 +38,7 @@ ask_about-yes-requires g c =
     c.drive_to_stop.new.words.items c.in-Asked.ensures.alone)
     c.in-Owned.owner c.in-Owned.index c.in-Owned.is c.requires.questions
 
+-- its call of `tell_where` meets what that requires
 pub tell_where-requires : goal.tell_where-requires
 tell_where-requires g c agrees =
     may_tell (λ p o i b q. given.F-step g p o i b q) (λ s o i t. given.S-step g s o i tt t) c.args.mode c.args.predicate.now
@@ -48,6 +51,7 @@ tell_where-requires g c agrees =
     c.in-Owned.owner c.in-Owned.index c.in-Owned.is c.requires.freed c.ask_about-yes.new.predicate c.ask_about-yes.result
     c.ask_about-yes.ensures agrees
 
+-- each iteration keeps the invariant of the loop
 pub loop-preserved : goal.loop-preserved
 loop-preserved g c =
     onward_so (λ p o i b q. given.F-step g p o i b q) (λ s o i t. given.S-step g s o i tt t) c.args.mode

@@ -1,8 +1,9 @@
--- `release` (src/robust_unique_index_set.rt): its call of `drive` meets what that requires, and its return meets what it ensures.
+-- `release` (src/robust_unique_index_set.rt): its call of `drive` can end, and it frees the index, or answers why it does not.
 use Rattle.plain.proofs.Alone.{can_end, ends_so}
 use Rattle.plain.proofs.Robust.Releases.{give_at}
 use Rattle.plain.proofs.robust_unique_index_set.release.Goals as goal
 
+-- its call of `drive` meets what that requires
 pub drive-requires : goal.drive-requires
 drive-requires c = record {
   ends = can_end _ _ _ _ _ _ _ _

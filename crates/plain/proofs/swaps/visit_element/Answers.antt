@@ -13,6 +13,7 @@ call_standing-requires g c stood =
     c.loop-place.left c.loop-place.visit (let test = c.loop-place-test.true in omega arith) c.loop-place.invariant
     c.has_flag.result c.has_flag.ensures stood
 
+-- each iteration keeps the invariant of the loop
 pub loop-place-preserved : goal.loop-place-preserved
 loop-place-preserved g c =
     visits_one (given.F-pre g) (given.F-step g) c.args.found c.args.end c.args.first c.args.visit.now c.loop-place.place

@@ -4,6 +4,7 @@ use Rattle.plain.proofs.Stacks.Releases.{give_runs}
 use Rattle.steps.specs.declared.indices.unique.DefaultMode.{DefaultMode}
 use Rattle.plain.proofs.unique.release.Goals as goal
 
+-- its call of `drive` meets what that requires
 pub drive-requires : goal.drive-requires
 drive-requires c =
     record {

@@ -1,9 +1,10 @@
--- `release_or_lock` (src/unique.rt): its call of `drive` meets what that requires, and its return meets what it ensures.
+-- `release_or_lock` (src/unique.rt): its call of `drive` can end, and the index is free; the set is locked where it was the last.
 use Rattle.plain.proofs.Alone.{can_end, ends_so}
 use Rattle.plain.proofs.Stacks.Releases.{lock_runs}
 use Rattle.steps.specs.declared.indices.unique.LockMode.{LockMode}
 use Rattle.plain.proofs.unique.release_or_lock.Goals as goal
 
+-- its call of `drive` meets what that requires
 pub drive-requires : goal.drive-requires
 drive-requires c =
     record {

@@ -1,10 +1,11 @@
--- `load` (src/value.rt): its call of `drive` meets what that requires, and its return meets what it ensures.
+-- `load` (src/value.rt): its call of `drive` can end, and its return is the value; the words still represent it.
 use Rattle.std.proofs.Common.{refl, set, arith, ◌∙◌}
 use Rattle.plain.proofs.Names.{Buffer}
 use Rattle.plain.proofs.Alone.{can_end, ends_so}
 use Rattle.plain.proofs.Values.{load_runs}
 use Rattle.plain.proofs.value.load.Goals as goal
 
+-- its call of `drive` meets what that requires
 pub drive-requires : goal.drive-requires
 drive-requires g c =
     let few = g.met.T.Words.few in
@@ -15,6 +16,7 @@ drive-requires g c =
           c.new.result c.new.ensures c.new-room.result (let long = c.new-room.ensures in omega arith) c.requires);
     }
 
+-- its return meets what it ensures
 pub returns : goal.returns
 returns g c =
     let few = g.met.T.Words.few in

@@ -2,6 +2,7 @@
 use Rattle.std.proofs.Common.{refl, arith, slice_index}
 use Rattle.plain.proofs.value.version.Goals as goal
 
+-- its call of `drive` meets what that requires
 pub drive-requires : goal.drive-requires
 drive-requires c = record {
   ends = record {

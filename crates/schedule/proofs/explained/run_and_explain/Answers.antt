@@ -1,4 +1,5 @@
--- `run_and_explain` (src/explained.rt): its return meets what it ensures.
+-- `run_and_explain` (src/explained.rt): its return is the exit status of the run, and the errors have the text of what
+-- went wrong.
 use Rattle.std.proofs.Common.{None, Err}
 use Rattle.schedule.proofs.Known.{run_known, run_unread, told_alone}
 use Rattle.schedule.proofs.explained.run_and_explain.Goals as goal
@@ -7,6 +8,7 @@ pub returns-in-Err : goal.returns-in-Err
 returns-in-Err g c =
     (Err c.in-Err.e, None, None, run_unread _ c.in-Err.e c.in-Err.ensures.failed, c.status.ensures.exit, told_alone _ _ _ c.status.ensures.told)
 
+-- its return meets what it ensures
 pub returns : goal.returns
 returns g c =
     let ran = c.run_and_tell-exit.ensures in (

@@ -5,6 +5,7 @@ use Rattle.schedule.proofs.Writing.{wrote_more, wrote_none}
 use Rattle.schedule.proofs.output.put.Goals as goal
 use Rattle.schedule.proofs.output.put.Goals.{in-Ok, in-Err+else-ne}
 
+-- each iteration keeps the invariant of the loop
 pub loop-preserved : goal.loop-preserved
 loop-preserved g c =
     let i = c.loop.invariant in

@@ -5,6 +5,7 @@ use Rattle.texts.specs.Print.{event_text}
 use Rattle.schedule.proofs.Writing.{part_within, events_more}
 use Rattle.schedule.proofs.output.put_events.Goals as goal
 
+-- where the answer is `Err`, its return meets what it ensures
 pub returns-in-Err : goal.returns-in-Err
 returns-in-Err g c =
     let i = c.loop-event.invariant in
@@ -14,6 +15,7 @@ returns-in-Err g c =
     (omega arith) i.1 (c.as_bytes.ensures ∙ c.print_event.ensures ∙ ap event_text c.event-item.is) in
     (e.0, part_within _ _ _ i.0 c.as_bytes.result.now _ _ i.2 e.1 more)
 
+-- each iteration keeps the invariant of the loop
 pub loop-event-preserved : goal.loop-event-preserved
 loop-event-preserved g c =
     let i = c.loop-event.invariant in

@@ -10,6 +10,7 @@ use Rattle.schedule.proofs.runs.do_lines.Goals.{then-not-is_empty+in-Ok+in-Ok-do
 pub loop-line-init : goal.loop-line-init
 loop-line-init g c = record { numbered = omega arith; written = ([], [], λ more. refl, Appends-nil _) }
 
+-- where the answer is `Err`, its return meets what it ensures
 pub returns-in-Err : goal.returns-in-Err
 returns-in-Err g c =
     let i = c.loop-line.invariant.written in
@@ -17,6 +18,7 @@ returns-in-Err g c =
     (world_of c.loop-line.machine) _ _ i.0 i.1 c.in-Err.cause i.2 i.3 c.in-Some.ensures
     (some_of _ c.if-not-is_empty.ensures) c.in-Err.ensures
 
+-- where `do_command` answers `Err`, its return meets what it ensures
 pub returns-in-Err-do_command : goal.returns-in-Err-do_command
 returns-in-Err-do_command g c =
     let i = c.loop-line.invariant.written in
@@ -30,6 +32,7 @@ returns g c =
     let i = c.loop-line.invariant.written in
     lines_ended c.args.kind _ _ c.loop-line.number (world_of c.args.machine.now) (world_of c.loop-line.machine) _ _ i.0 i.1 i.2 i.3 c.in_default.ensures
 
+-- each iteration keeps the invariant of the loop
 pub loop-line-preserved : goal.loop-line-preserved
 loop-line-preserved g c =
     let i = c.loop-line.invariant.written in

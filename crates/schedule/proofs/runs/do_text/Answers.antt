@@ -21,6 +21,7 @@ returns-in-Err-opened g c =
     text_unopened c.args.input.now c.in-Some.first.now _ _ c.in-Ok.setup c.in-Err-opened.e (sym c.lines.ensures ∙ c.in-Some.ensures)
     c.in-Ok.ensures c.in-Err-opened.ensures.refused
 
+-- where `opened` answers `Ok`, its return meets what it ensures
 pub returns-in-Ok-opened : goal.returns-in-Ok-opened
 returns-in-Ok-opened g c =
     text_lines c.args.input.now c.in-Some.first.now _ c.in-Ok.setup c.kind.result (world_of c.in-Ok-opened.machine) _ _ c.do_lines.result

@@ -11,6 +11,7 @@ use Rattle.schedule.proofs.Turns.{events_behind, ran_of, ran_is, all_taken, call
 use Rattle.schedule.proofs.runs.take_nexts.Goals as goal
 use Rattle.schedule.proofs.runs.take_nexts.Goals.{else-stopped-gt0-via-then-stopped-gt0+else-not-is_going, else-stopped-gt0-via-else-stopped-gt0}
 
+-- its call of `events_from` meets what that requires
 pub events_from-requires : goal.events_from-requires
 events_from-requires g c =
     let e = c.nexts-stopped.ensures in
@@ -21,6 +22,7 @@ events_from-requires g c =
     ap length (c.events.ensures ∙ ran.events) ∙ length-append c.args.machine.now.events ran.told in
     omega (arith, before, now)
 
+-- where the answer is `Err`, its return meets what it ensures
 pub returns-in-Err : goal.returns-in-Err
 returns-in-Err g c =
     let e = c.nexts-stopped.ensures in
@@ -34,6 +36,7 @@ returns-in-Err g c =
     behind c.in-Err.ensures.1) in
     (c.in-Err.ensures.0, failed.0, failed.1)
 
+-- where `stopped` answers `Ok`, its return meets what it ensures
 pub returns-in-Ok-stopped : goal.returns-in-Ok-stopped
 returns-in-Ok-stopped g c =
     let e = c.in-Ok-stopped.ensures in
@@ -45,6 +48,7 @@ returns-in-Ok-stopped g c =
     all_taken c.args.most c.args.party (world_of c.args.machine.now) (world_of c.nexts-stopped.new.self) ran.0 _ _ ran.2
     (subst (λ l. Appends (g.W.Write.contents c.args.writer.now) (g.W.Write.contents c.put_events.new.writer) (events_text l)) behind c.in-Ok.ensures)
 
+-- where `is_going` answers false, its return meets what it ensures
 pub returns-then-not-is_going : goal.returns-then-not-is_going
 returns-then-not-is_going g c =
     let e = c.in-Err-stopped.ensures in
@@ -59,6 +63,7 @@ returns-then-not-is_going g c =
     (sym c.if-not-is_going.ensures) ran.2
     (subst (λ l. Appends (g.W.Write.contents c.args.writer.now) (g.W.Write.contents c.put_events.new.writer) (events_text l)) behind c.in-Ok.ensures)
 
+-- where no turn was taken, or the call goes on, the refusal of the next turn is printed
 pub returns-else-stopped-gt0 : goal.returns-else-stopped-gt0
 returns-else-stopped-gt0 g c =
     let e = c.in-Err-stopped.ensures in

@@ -1,4 +1,4 @@
--- `take_turn` (src/runs.rt): its return meets what it ensures.
+-- `take_turn` (src/runs.rt): the machine and the text are those of the outcome of this turn.
 use Rattle.std.proofs.Common.{◌++◌, ap, sym, ◌∙◌, subst}
 use Rattle.model.specs.Turns.{events_of}
 use Rattle.texts.specs.Print.{events_text}
@@ -7,6 +7,7 @@ use Rattle.schedule.specs.Output.{world_of}
 use Rattle.schedule.proofs.Turns.{events_behind, taken_told, refused_told}
 use Rattle.schedule.proofs.runs.take_turn.Goals as goal
 
+-- where the answer is `Ok`, its return meets what it ensures
 pub returns-in-Ok : goal.returns-in-Ok
 returns-in-Ok g c =
     let behind =

@@ -27,6 +27,7 @@ returns-then-sum-greatest-clause-value c =
     let digit = digit_value_digit _ c.if-not-is_ascii_digit.ensures.cases in
     too_great c.args.greatest c.args.word.now (c.loop-digit.digit-index + 1) (omega (arith, more, digit, c.in-Some-checked_add.ensures, c.ranges.greatest))
 
+-- each iteration keeps the invariant of the loop
 pub loop-digit-preserved : goal.loop-digit-preserved
 loop-digit-preserved c =
     let more = digits_value_more 10 c.args.word.now c.loop-digit.digit-index (omega arith) in

@@ -1,4 +1,4 @@
--- `place_of` (src/text.rt): its return meets what it ensures.
+-- `place_of` (src/text.rt): its return is the place of the byte in the text, or the length of the text.
 use Rattle.std.proofs.Common.{◌==◌, sym, arith, eq-eqb}
 use Rattle.std.proofs.lemmas.List.Sums.{position_or_len_is}
 use Rattle.texts.proofs.text.place_of.Goals as goal

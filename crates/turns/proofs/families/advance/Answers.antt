@@ -32,8 +32,7 @@ use Rattle.turns.proofs.families.advance.Goals.{in_default-via-in-Container+in_d
 use Rattle.turns.proofs.families.advance.Goals.{in_default-via-in-Loan+in-Loan+in_default}
 use Rattle.turns.proofs.families.advance.Goals.{in_default-via-in-Loan+in_default}
 
--- of each family: what the call came to, what is kept and what was written is that of the step of
--- a machine's call
+-- of each family: what the call came to, what is kept and what was written is that of the step of a machine's call
 pub returns-clause-step : goal.returns-clause-step
 returns-clause-step g c =
     let code : Coding g.row.T.Denot = record { size = g.T.Words.WORDS; words_of = g.T.Words.words_of; value_of = g.T.Words.value_of } in

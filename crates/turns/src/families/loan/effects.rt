@@ -84,6 +84,8 @@ fn given_back_at(base: usize, slots: u32, words: &Vec<u64>, position: u64) -> u6
     word_at(words, base.wrapping_add(word))
 }
 
+/// What the next step of a send's push does, handed this answer. Where the queue is full it acts only once the read
+/// position goes on.
 fn push_effect(
     base: usize,
     queue: u32,
@@ -110,6 +112,7 @@ fn push_effect(
     }
 }
 
+/// What the next step of a release does: its first one frees the index.
 fn release_effect(index: u32, stage: ReleaseStage) -> Effect
     ensures { result ≡ release_effect index stage }
 {
@@ -139,6 +142,7 @@ fn receive_effect(
     }
 }
 
+/// What the next step of a take-back does: it takes an index out, and then frees it.
 fn take_back_effect(stage: TakeBackStage) -> Effect
     ensures { result ≡ take_back_effect stage }
 {
@@ -152,6 +156,7 @@ fn take_back_effect(stage: TakeBackStage) -> Effect
     }
 }
 
+/// What the next step of a give-back does: the index is back as the write position moves.
 fn give_back_effect(index: u64, stage: ring::PushStage) -> Effect
     ensures { result ≡ give_back_effect index stage }
 {
@@ -161,6 +166,7 @@ fn give_back_effect(index: u64, stage: ring::PushStage) -> Effect
     }
 }
 
+/// What the next step of a reclaim does that drains the submission queue.
 fn drains_effect(
     base: usize,
     queue: u32,
@@ -178,6 +184,7 @@ fn drains_effect(
     }
 }
 
+/// What the next step of a reclaim does that empties the completion queue.
 fn empties_effect(base: usize, slots: u32, words: &Vec<u64>, stage: ring::PopStage) -> Effect
     ensures { result ≡ empties_effect base slots words.now.items stage }
 {
@@ -189,6 +196,8 @@ fn empties_effect(base: usize, slots: u32, words: &Vec<u64>, stage: ring::PopSta
     }
 }
 
+/// What the next step of a reclaim does: it drains the submission queue, empties the completion queue, or frees an
+/// index.
 fn reclaim_effect(call: Reclaim, words: &Vec<u64>, answer: u64) -> Effect
     ensures { result ≡ reclaim_effect call.slots call.queue words.now.items call.stage answer }
 {

@@ -64,6 +64,7 @@ fn asks_for(start: LoanStart) -> Option<u64>
     }
 }
 
+/// Whether the call names an index that the channel has not.
 fn is_past(slots: u32, index: Option<u64>) -> bool
     ensures { result ≡ is_past slots index }
 {

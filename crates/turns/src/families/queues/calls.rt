@@ -86,6 +86,7 @@ fn push_value_of<T: Words>(capacity: u32, value: T) -> QueueFlight<T>
     }))
 }
 
+/// The pop as it begins, in a queue of this kind and capacity.
 fn pop_of<T: Words>(
     alloc: Global,
     kind: QueueKind,
@@ -138,6 +139,7 @@ fn peek_of<T: Words>(
     Ok(flight)
 }
 
+/// A call on the length as it begins.
 fn length_of<T>(which: LengthOf, capacity: u32) -> QueueFlight<T>
     ensures { result ≡ length_of which capacity }
 {
@@ -179,6 +181,7 @@ pub fn first<T: Words>(
     Ok(flight)
 }
 
+/// What a pop of an index answers.
 fn popped<T: Copy>(answer: Option<u64>) -> Answer<T>
     ensures { result ≡ popped answer }
 {
@@ -188,6 +191,7 @@ fn popped<T: Copy>(answer: Option<u64>) -> Answer<T>
     }
 }
 
+/// What a pop of a value answers.
 fn popped_value<T: Copy>(answer: Option<T>) -> Answer<T>
     ensures { result ≡ popped_value answer }
 {

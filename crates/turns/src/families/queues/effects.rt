@@ -101,6 +101,7 @@ fn pop_effect<T: Copy>(item: Item<T>, stage: &ring::PopStage) -> Effect<T>
     }
 }
 
+/// What the next step of a push of an overflowing queue does, handed this answer.
 fn overflow_push_effect<T: Copy>(
     words: &Vec<u64>,
     capacity: u32,
@@ -133,6 +134,8 @@ fn overflow_push_effect<T: Copy>(
     }
 }
 
+/// What the next step of a pop of an overflowing queue does, handed this answer; `pending` is the push that waits for
+/// the read position.
 fn overflow_pop_effect<T: Copy>(
     words: &Vec<u64>,
     pending: Option<(u32, u64)>,

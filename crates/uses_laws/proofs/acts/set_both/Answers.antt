@@ -17,8 +17,7 @@ set_ends_none : (p place : ℕ) (answer : Bool) → EndsNone p (set_wrote {T = �
 set_ends_none p place true = tt
 set_ends_none p place false = tt
 
--- both calls stand in an order of all acts, with their answers, and the first ended before the
--- second began
+-- both calls stand in an order of all acts, with their answers, and the first ended before the second began
 pub returns : goal.returns
 returns g c =
     let first = c.args.first in

@@ -1,4 +1,4 @@
--- `clear` (src/counted.rt): its call of `reset_all` meets the requirement `places`, and its return meets what it ensures.
+-- `clear` (src/counted.rt): its call of `reset_all` meets the requirement `places`, and its return is how many places it cleared.
 use Rattle.std.proofs.Common.{rules, arith}
 use Rattle.lock_free.specs.Bits.Calls.{view}
 use Rattle.lock_free.proofs.Closures.{counted, few_below}

@@ -1,4 +1,4 @@
--- `take` (src/counted.rt): its call of `reset_all` meets what that requires, and its return meets what it ensures.
+-- `take` (src/counted.rt): its call of `reset_all` meets what that requires, and its return is how much it took out.
 use Rattle.std.proofs.Common.{rules, arith}
 use Rattle.steps.specs.declared.bits.counting_bit_set.BitState.{BitState}
 use Rattle.lock_free.specs.Counts.Handles.{knows}

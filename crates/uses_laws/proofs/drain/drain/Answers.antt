@@ -1,4 +1,4 @@
--- `drain` (src/drain.rt): its return meets what it ensures.
+-- `drain` (src/drain.rt): what was taken out of each place in all is then what was counted there.
 use Rattle.std.proofs.Common.{sym, subst}
 use Rattle.lock_free.specs.Coding.{one_word}
 use Rattle.lock_free.specs.Shares.{IsAll}

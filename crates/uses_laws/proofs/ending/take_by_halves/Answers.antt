@@ -32,8 +32,7 @@ within capacity aside v law knows few n below =
     subst (λ (b : ℕ). v.asked ≤ v.aside + load b (begun v.seen)) is asks in
     omega (most, arith)
 
--- where both halves have acquired, what the pass has asked for is within its load and what was
--- aside
+-- where both halves have acquired, what the pass has asked for is within its load and what was aside
 pub returns : goal.returns
 returns g c =
     let old = view c.args.pass.now in

@@ -1,4 +1,4 @@
--- `lease_apart` (src/leases.rt): its return meets what it ensures.
+-- `lease_apart` (src/leases.rt): an index that nobody has given back or freed was granted only where nobody held it.
 use Rattle.std.proofs.Common.{◌≡◌, IfOk, refl, sym, subst}
 use Rattle.lock_free.specs.Event.TheVariants.{Granted}
 use Rattle.lock_free.specs.GrantLaws.{times_freed}

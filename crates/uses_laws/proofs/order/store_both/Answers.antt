@@ -10,8 +10,7 @@ use Rattle.lock_free.specs.Value.Contracts.{HasStored}
 use Rattle.uses_laws.proofs.Linear.{stored_in_order}
 use Rattle.uses_laws.proofs.order.store_both.Goals as goal
 
--- in a linearization of all stores and loads the first store stands before the second, where both
--- were taken
+-- in a linearization of all stores and loads the first store stands before the second, where both were taken
 pub returns : goal.returns
 returns c both =
     let first = c.args.first in

@@ -95,8 +95,7 @@ with_the_second =
       alone = tt;
     }
 
--- the history of both pushes does not end with the response to the push of 5 after which the
--- producer does nothing else
+-- the history of both pushes does not end with the response to the push of 5 after which the producer does nothing else
 not_first : (before during : List (machine.Event page.Call page.Answer))
     → both ≡ before ++ machine.Invoked 0 (page.Push 5) ∷ (during ++ machine.Responded 0 (page.Pushed true) ∷ []) → IsSilent 0 during → ⊥
 not_first [] [] is alone = absurd (cc)
@@ -111,4 +110,4 @@ not_first (a ∷ b ∷ c ∷ d ∷ e ∷ before) during is alone = absurd (cc)
 
 -- with the first it does not end, whose response stands earlier
 not_with_the_first : EndsWithPush 5 both → ⊥
-not_with_the_first h = not_first h.before h.during h.is h.alone
+not_with_the_first ends_with_push = not_first ends_with_push.before ends_with_push.during ends_with_push.is ends_with_push.alone

@@ -1,4 +1,4 @@
--- `take_beside_a_half` (src/runs.rt): its return meets what it ensures.
+-- `take_beside_a_half` (src/runs.rt): what the pass knows in the end goes on from what it knew before.
 use Rattle.std.proofs.Common.{◌≡◌, ◌≤◌, ℕ, ◌+◌, ap, subst, ◌∙◌, arith}
 use Rattle.model.specs.declared.turn.Kind.TheVariants.{Indices}
 use Rattle.model.specs.LockFree.{Bound, stretch}
@@ -9,7 +9,7 @@ use Rattle.uses_laws.proofs.Running.{Laws, ends_within}
 use Rattle.uses_laws.proofs.runs.take_beside_a_half.Goals as goal
 
 same_size : {one other : SetId} → one ≡ other → one.capacity ≡ other.capacity
-same_size e = ap (λ (z : SetId). z.capacity) e
+same_size one_is_other = ap (λ (z : SetId). z.capacity) one_is_other
 
 -- where a half was split off, the run goes on over the split, the acquire and the join, and its
 -- steps are within the bound of unique index sets

@@ -24,8 +24,7 @@ returns-clause-sole g c index is =
           (holds_first by index old new got.taken.called c.requires.fresh),
     )
 
--- whenever an index was claimed, it lay below the capacity, had no holder, and the set was not
--- locked
+-- whenever an index was claimed, it lay below the capacity, had no holder, and the set was not locked
 pub returns-clause-claimed : goal.returns-clause-claimed
 returns-clause-claimed g c by index before after is =
     let new = c.acquire_raw_index-taken.new.pass in

@@ -1,4 +1,4 @@
--- `total` (src/totals.rt): its arithmetic does not overflow, and its return meets what it ensures.
+-- `total` (src/totals.rt): its arithmetic does not overflow, and its return is how often the place was counted.
 use Rattle.std.proofs.Common.{sym, subst, arith}
 use Rattle.lock_free.specs.Coding.{one_word}
 use Rattle.lock_free.specs.Shares.{IsAll}

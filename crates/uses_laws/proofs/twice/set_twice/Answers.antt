@@ -1,4 +1,4 @@
--- `set_twice` (src/twice.rt): its return meets what it ensures.
+-- `set_twice` (src/twice.rt): where both calls have set the place, somebody has cleared it meanwhile.
 use Rattle.std.proofs.Common.{true, subst}
 use Rattle.lock_free.specs.Coding.{one_word}
 use Rattle.lock_free.specs.Bits.Calls.{view, history, set_of}

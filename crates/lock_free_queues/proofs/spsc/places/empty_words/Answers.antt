@@ -1,4 +1,4 @@
--- `empty_words` (src/spsc/places.rt): its return meets what it ensures.
+-- `empty_words` (src/spsc/places.rt): its return has both positions, both free roles, and cells of zeros.
 use Rattle.lock_free_queues.proofs.Names.{◌≡◌, ℕ, ◌+◌, suc, List, [], ◌∷◌, ◌++◌, set, replicate, ap, ◌∙◌, arith}
 use Rattle.lock_free_queues.proofs.Names.{common_steps, one_more}
 use Rattle.lock_free_queues.proofs.spsc.places.empty_words.Goals as goal

@@ -1,4 +1,4 @@
--- `BitSet::capacity` (src/bits.rt): its return meets what it ensures.
+-- `BitSet::capacity` (src/bits.rt): its return is how many places there are.
 use Rattle.std.proofs.Common.{arith}
 use Rattle.std.proofs.Common.{length}
 use Rattle.plain.proofs.Places.Flags.{flags_length}

@@ -11,6 +11,7 @@ returns-clause-map g c =
     opens_grown g.T.Words.value_of g.T.Words.WORDS c.args.capacity c.args.id c.resize.result c.in-Ok.words.items _ c.total_words.result c.in-Ok.words.len
     (c.in-Ok.ensures.items_if_clones_equal (λ y e. e)) c.resize.ensures.items (sym c.is_err.ensures.value ∙ c.if-is_err.false) (omega arith)
 
+-- the result meets the invariant of its type
 pub invariant_of-result : goal.invariant_of-result
 invariant_of-result g c = (
   record { long = search rules; some = search rules; few = search rules; small = search rules },

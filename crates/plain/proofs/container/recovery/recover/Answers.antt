@@ -19,6 +19,7 @@ returns-in-Ended-clause-holds = grind (arith, ended_so)
 pub returns-in-Ended-clause-state : goal.returns-in-Ended-clause-state
 returns-in-Ended-clause-state = grind (arith, ended_so)
 
+-- where the answer is `Ended`, its return meets the clause `calls`
 pub returns-in-Ended-clause-calls : goal.returns-in-Ended-clause-calls
 returns-in-Ended-clause-calls g c =
     (ended_so g.T.Words.value_of (λ (x : Buffer 128). x.words)
@@ -28,6 +29,7 @@ returns-in-Ended-clause-calls g c =
     c.loop.invariant c.in-Ended.state c.drive_to_stop.new.room c.drive_to_stop.new.words.items
     c.in-Ended.ensures.alone).calls
 
+-- its call of `ask_about` meets what that requires
 pub ask_about-yes-requires : goal.ask_about-yes-requires
 ask_about-yes-requires g c =
     may_so g.T.Words.value_of (λ (x : Buffer 128). x.words)
@@ -37,6 +39,7 @@ ask_about-yes-requires g c =
     c.loop.invariant _ c.in-Asked.asks c.drive_to_stop.new.room c.drive_to_stop.new.words.items c.in-Asked.ensures.alone
     c.value-value.result c.value-value.ensures (given.F-pre g) c.requires.questions
 
+-- each iteration keeps the invariant of the loop
 pub loop-preserved : goal.loop-preserved
 loop-preserved g c =
     further_so g.T.Words.value_of (λ (x : Buffer 128). x.words)

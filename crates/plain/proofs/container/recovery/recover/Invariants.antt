@@ -5,6 +5,7 @@ use Rattle.plain.proofs.Names.{Buffer}
 use Rattle.plain.proofs.Elements.Recovering.{Searching}
 use Rattle.plain.proofs.container.recovery.recover.Given as given
 
+-- the recovery is under way, with so many questions asked
 abbrev pub invariant-loop : given.invariant-loop
 invariant-loop g l =
     Searching g.T.Words.value_of (λ (x : Buffer 128). x.words)

@@ -10,6 +10,7 @@ use Rattle.plain.proofs.container.visits.find.Given as given
 pub loop-init : goal.loop-init
 loop-init = grind (arith, starts)
 
+-- its call of `drive_to_stop` meets what that requires
 pub drive_to_stop-requires : goal.drive_to_stop-requires
 drive_to_stop-requires g c =
     record {
@@ -20,6 +21,7 @@ drive_to_stop-requires g c =
           c.args.words.now.items c.loop.counter c.loop.call c.loop.room c.loop.visit c.loop.words.items c.loop.invariant;
     }
 
+-- where the answer is `Ended`, its return meets the clause `words`
 pub returns-in-Ended-clause-words : goal.returns-in-Ended-clause-words
 returns-in-Ended-clause-words g c =
     (ended_so g.T.Words.value_of (λ (x : Buffer 128). x.words)
@@ -28,6 +30,7 @@ returns-in-Ended-clause-words g c =
     c.args.words.now.items c.loop.counter c.loop.call c.loop.room c.loop.visit c.loop.words.items c.loop.invariant
     c.in-Ended.found c.drive_to_stop.new.room c.drive_to_stop.new.words.items c.in-Ended.ensures.alone).1
 
+-- where the answer is `Ended`, its return meets the clause `found`
 pub returns-in-Ended-clause-found : goal.returns-in-Ended-clause-found
 returns-in-Ended-clause-found g c =
     (ended_so g.T.Words.value_of (λ (x : Buffer 128). x.words)
@@ -36,6 +39,7 @@ returns-in-Ended-clause-found g c =
     c.args.words.now.items c.loop.counter c.loop.call c.loop.room c.loop.visit c.loop.words.items c.loop.invariant
     c.in-Ended.found c.drive_to_stop.new.room c.drive_to_stop.new.words.items c.in-Ended.ensures.alone).0
 
+-- the cast of `handle` loses nothing
 pub overflow_cast-handle : goal.overflow_cast-handle
 overflow_cast-handle g c =
     let near =
@@ -48,6 +52,7 @@ overflow_cast-handle g c =
     let same = c.index_in.ensures in
     let few = c.requires.holds.0.few in omega arith
 
+-- its call of `visit_value` meets what that requires
 pub visit_value-said-requires : goal.visit_value-said-requires
 visit_value-said-requires g c =
     may_so g.T.Words.value_of (λ (x : Buffer 128). x.words)
@@ -58,6 +63,7 @@ visit_value-said-requires g c =
     c.in-Asked.ensures.alone c.value-value.result c.value-value.ensures c.index_in.result c.index_in.ensures
     (given.F-pre g) c.requires.visits
 
+-- where the answer is `Done`, its return meets the clause `words`
 pub returns-in-Done-clause-words : goal.returns-in-Done-clause-words
 returns-in-Done-clause-words g c =
     (further_so g.T.Words.value_of (λ (x : Buffer 128). x.words)
@@ -69,6 +75,7 @@ returns-in-Done-clause-words g c =
     c.visit_value-said.result c.visit_value-said.new.visit c.visit_value-said.ensures c.as_answer-answer.result
     c.as_answer-answer.ensures _ (sym c.in-Done.is ∙ c.take.ensures.goes) c.take.new.room c.take.ensures.keeps).1
 
+-- where the answer is `Done`, its return meets the clause `found`
 pub returns-in-Done-clause-found : goal.returns-in-Done-clause-found
 returns-in-Done-clause-found g c =
     (further_so g.T.Words.value_of (λ (x : Buffer 128). x.words)
@@ -80,6 +87,7 @@ returns-in-Done-clause-found g c =
     c.visit_value-said.result c.visit_value-said.new.visit c.visit_value-said.ensures c.as_answer-answer.result
     c.as_answer-answer.ensures _ (sym c.in-Done.is ∙ c.take.ensures.goes) c.take.new.room c.take.ensures.keeps).0
 
+-- each iteration keeps the invariant of the loop
 pub loop-preserved : goal.loop-preserved
 loop-preserved g c =
     further_so g.T.Words.value_of (λ (x : Buffer 128). x.words)

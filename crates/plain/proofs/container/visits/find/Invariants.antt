@@ -5,6 +5,7 @@ use Rattle.plain.proofs.Names.{Buffer}
 use Rattle.plain.proofs.Elements.Finding.{Searching}
 use Rattle.plain.proofs.container.visits.find.Given as given
 
+-- the find is under way, with so many values visited
 abbrev pub invariant-loop : given.invariant-loop
 invariant-loop g l =
     Searching g.T.Words.value_of (λ (x : Buffer 128). x.words)

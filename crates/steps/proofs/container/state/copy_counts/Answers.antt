@@ -7,6 +7,7 @@ use Rattle.steps.proofs.Elements.{numbers_more}
 use Rattle.steps.proofs.container.state.copy_counts.Goals as goal
 use Rattle.steps.proofs.container.state.copy_counts.Goals.{then-index-counts, else-index-counts}
 
+-- each iteration over `elements` keeps the invariant of the loop
 pub elements-preserved : goal.elements-preserved
 elements-preserved g c =
     let es = c.args.elements.now in

@@ -1,3 +1,5 @@
+-- `visit_elements` (src/container/state.rt): each iteration keeps the invariant of its loop, and the closure has been
+-- called with each value that is shown.
 use Rattle.std.proofs.Common.{rules, ◌≡◌, ◌≤◌, ◌%◌, length, refl, arith, of_calls}
 use Rattle.std.specs.Prelude.{Some, slice_get}
 use Rattle.std.proofs.lemmas.Option.{slice_get_read}
@@ -9,6 +11,7 @@ use Rattle.steps.specs.declared.enums.CallbackProgression.TheVariants.{Continue}
 use Rattle.steps.proofs.container.state.visit_elements.Goals as goal
 use Rattle.steps.proofs.container.state.visit_elements.Given as given
 
+-- an element that shows no value is passed, and the closure stays as it was
 pub elements-preserved-then-element-eq0 : goal.elements-preserved-then-element-eq0
 elements-preserved-then-element-eq0 g c =
     let es = c.args.elements.now in
@@ -21,6 +24,7 @@ elements-preserved-then-element-eq0 g c =
           c.args.visit c.elements.visit es c.elements.index e at even c.elements.invariant.1,
     )
 
+-- each iteration over `elements` keeps the invariant of the loop
 pub elements-preserved : goal.elements-preserved
 elements-preserved g c =
     let es = c.args.elements.now in
@@ -38,6 +42,7 @@ elements-preserved g c =
           c.visit.ensures c.in-Continue.is refl),
     )
 
+-- where the answer is `Stop`, its return meets what it ensures
 pub returns-in-Stop : goal.returns-in-Stop
 returns-in-Stop g c =
     let es = c.args.elements.now in
@@ -51,6 +56,7 @@ returns-in-Stop g c =
     (called_at (λ f i r said h. Called g.F.FnMut f (i, (r, tt)) said h) _ _ _ _ _ _ _
     c.visit.ensures c.in-Stop.is refl)
 
+-- its return meets what it ensures
 pub returns : goal.returns
 returns g c =
     let es = c.args.elements.now in

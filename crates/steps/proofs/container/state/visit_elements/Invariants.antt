@@ -4,6 +4,7 @@ use Rattle.steps.specs.Container.State.{at_value, shown_from}
 use Rattle.steps.specs.declared.enums.CallbackProgression.TheVariants.{Continue}
 use Rattle.steps.proofs.container.state.visit_elements.Given as given
 
+-- the closure can still be called, and was called for each element so far that shows a value
 abbrev pub invariant-elements : given.invariant-elements
 invariant-elements g l =
     given.F-IsAlwaysCallable g l.visit

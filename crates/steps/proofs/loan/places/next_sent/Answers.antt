@@ -1,4 +1,5 @@
--- `next_sent` (src/loan/places.rt): each iteration keeps the invariant of its loop, and its return meets what it ensures.
+-- `next_sent` (src/loan/places.rt): each iteration keeps the invariant of its loop, and its return is the first index
+-- from there on that is Sent.
 use Rattle.std.proofs.Common.{◌∙◌, sym}
 use Rattle.steps.proofs.Places.{found_here, goes_further}
 use Rattle.steps.proofs.loan.places.next_sent.Goals as goal
@@ -9,6 +10,7 @@ slots-preserved c =
     ∙ goes_further c.args.places.now.items c.args.slots c.slots.index c.slots-test.true
     (sym c.has_sent.ensures ∙ c.if-has_sent.false)
 
+-- where `has_sent` answers true, its return meets what it ensures
 pub returns-then-has_sent : goal.returns-then-has_sent
 returns-then-has_sent c =
     sym

@@ -4,6 +4,7 @@ use Rattle.std.proofs.Common.{◌+◌, ◌-◌, ◌%◌, ◌++◌, ap, ◌∙◌
 use Rattle.texts.proofs.Digits.{digit_more, length-decimal_tenth, digit_first, length-decimal_digit, length-decimal_wide, taken_to_end}
 use Rattle.texts.proofs.line.Line.push_number.Goals as goal
 
+-- the invariant of the loop holds at its start
 pub loop-rest-init : goal.loop-rest-init
 loop-rest-init c =
     record {
@@ -18,6 +19,7 @@ pub overflow_sub-at : goal.overflow_sub-at
 overflow_sub-at c =
     omega (arith, length-decimal_tenth c.loop-rest.rest c.loop-rest-test.true c.loop-rest.invariant.fits, c.loop-rest.invariant.room)
 
+-- each iteration keeps the invariant of the loop
 pub loop-rest-preserved : goal.loop-rest-preserved
 loop-rest-preserved c =
     let i = c.loop-rest.invariant in
@@ -33,6 +35,7 @@ loop-rest-preserved c =
 pub overflow_sub-at-2 : goal.overflow_sub-at-2
 overflow_sub-at-2 c = omega (arith, length-decimal_digit c.loop-rest.rest (omega arith), c.loop-rest.invariant.room)
 
+-- its return meets the clause `text`
 pub returns-clause-text : goal.returns-clause-text
 returns-clause-text c =
     let i = c.loop-rest.invariant in

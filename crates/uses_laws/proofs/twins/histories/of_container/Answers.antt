@@ -23,8 +23,7 @@ returns-clause-asked c p index owner before after is =
     let sound = c.container_histories_are_sound.ensures (code_of pass) (container_of pass).capacity (history pass) c.history.ensures.history in
     let asks = sound.asks before after (Asked p index owner) is in asks.0
 
--- whenever a recovery frees an index, this is of the owner that it recovers, and it said yes about
--- it, or was shown it
+-- whenever a recovery frees an index, this is of the owner that it recovers, and it said yes about it, or was shown it
 pub returns-clause-freed : goal.returns-clause-freed
 returns-clause-freed c p index owner other mode wrote before after is span =
     let pass = c.args.pass.now in

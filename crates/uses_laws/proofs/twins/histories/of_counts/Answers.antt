@@ -1,4 +1,4 @@
--- `of_counts` (src/twins/histories.rt): its return meets what it ensures.
+-- `of_counts` (src/twins/histories.rt): each answer about counts in the history is right.
 use Rattle.lock_free.specs.Coding.{one_word}
 use Rattle.lock_free.specs.Sets.Calls.{history, set_of}
 use Rattle.uses_laws.proofs.twins.histories.of_counts.Goals as goal

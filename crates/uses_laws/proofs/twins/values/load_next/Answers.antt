@@ -1,4 +1,4 @@
--- `load_next` (src/twins/values.rt): its return meets what it ensures.
+-- `load_next` (src/twins/values.rt): its return has a version that is not below that of any load the pass knew.
 use Rattle.std.proofs.Common.{◌+◌, length}
 use Rattle.lock_free.specs.Value.Calls.{view}
 use Rattle.lock_free.specs.Value.Contracts.{HasLoaded}

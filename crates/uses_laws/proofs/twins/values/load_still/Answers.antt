@@ -1,4 +1,4 @@
--- `load_still` (src/twins/values.rt): its return meets what it ensures.
+-- `load_still` (src/twins/values.rt): where it returns a value, that is the last one stored as the second look ends.
 use Rattle.std.proofs.Common.{◌≡◌, sym, subst}
 use Rattle.lock_free.specs.Value.Calls.{view}
 use Rattle.lock_free.specs.Value.Contracts.{HasLoaded, HasSeenVersion}

@@ -10,6 +10,7 @@ use Rattle.uses_streams.specs.Streams.{values_in, popped_by, CameUpTo}
 use Rattle.uses_streams.proofs.Streams.{receives, found_nothing, found_value}
 use Rattle.uses_streams.proofs.ends.Receiver.receive.Goals as goal
 
+-- `self` still meets the invariant of its type
 pub invariant_of-self : goal.invariant_of-self
 invariant_of-self g c =
     let came = receives (consumer_view c.args.self.now.consumer) (consumer_view c.pop.new.self) c.pop.ensures.same.goes c.pop.result

@@ -7,6 +7,7 @@ use Rattle.uses_streams.proofs.ends.Receiver.receive_all.Goals as goal
 pub loop-init : goal.loop-init
 loop-init g c = record { queue = refl; came = gain_none _ _ }
 
+-- each iteration keeps the invariant of the loop
 pub loop-preserved : goal.loop-preserved
 loop-preserved g c =
     let l = c.loop in

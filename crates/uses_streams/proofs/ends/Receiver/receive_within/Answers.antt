@@ -10,6 +10,7 @@ use Rattle.uses_streams.proofs.ends.Receiver.receive_within.Goals as goal
 pub loop-empty-init : goal.loop-empty-init
 loop-empty-init g c = record { queue = refl; received = refl; going = c.args.self.now.came.1 ∙ c.if-self.false; empty = refl; steps = omega arith }
 
+-- each iteration keeps the invariant of the loop
 pub loop-empty-preserved : goal.loop-empty-preserved
 loop-empty-preserved g c =
     let l = c.loop-empty in
@@ -42,6 +43,7 @@ returns-in-Value-clause-popped g c =
     popped_within l._empty (receiver_view c.args.self.now) (receiver_view l.self) (receiver_view c.receive.new.self) l.invariant.empty
     c.args.tries (Value (elements.Value c.in-Value.value)) (omega arith) c.in-Value.ensures.popped
 
+-- where the answer is `Value`, its return meets the clause `steps`
 pub returns-in-Value-clause-steps : goal.returns-in-Value-clause-steps
 returns-in-Value-clause-steps g c =
     let l = c.loop-empty in
@@ -59,6 +61,7 @@ returns-in-End-clause-received g c = c.in-End.ensures.received ∙ ap (λ xs. xs
 pub returns-in-End-clause-still : goal.returns-in-End-clause-still
 returns-in-End-clause-still g c ended = absurd (true≢false (sym ended ∙ (c.args.self.now.came.1 ∙ c.if-self.false)))
 
+-- where the answer is `End`, its return meets the clause `steps`
 pub returns-in-End-clause-steps : goal.returns-in-End-clause-steps
 returns-in-End-clause-steps g c =
     let l = c.loop-empty in

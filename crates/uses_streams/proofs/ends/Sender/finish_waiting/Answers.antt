@@ -7,6 +7,7 @@ use Rattle.uses_streams.specs.Streams.{has_values, values_in}
 use Rattle.uses_streams.proofs.Streams.{finishes, pushes_none}
 use Rattle.uses_streams.proofs.ends.Sender.finish_waiting.Goals as goal
 
+-- each iteration keeps the invariant of the loop
 pub loop-preserved : goal.loop-preserved
 loop-preserved g c =
     let l = c.loop in
@@ -14,6 +15,7 @@ loop-preserved g c =
     l.invariant.1 (c.push.ensures.full c.if-push.false) in
     (c.push.ensures.same.queue ∙ l.invariant.0, none.0, none.1 ∙ l.invariant.2)
 
+-- the result meets the invariant of its type
 pub invariant_of-result : goal.invariant_of-result
 invariant_of-result g c =
     let l = c.loop in
@@ -22,6 +24,7 @@ invariant_of-result g c =
     c.release-pass.ensures.same.goes c.release-pass.ensures.released c.release-pass.ensures.list in
     record { alone = done.0 }
 
+-- where `push` answers true, its return meets the clause `sent`
 pub returns-then-push-clause-sent : goal.returns-then-push-clause-sent
 returns-then-push-clause-sent g c =
     let l = c.loop in
@@ -30,6 +33,7 @@ returns-then-push-clause-sent g c =
     c.release-pass.ensures.same.goes c.release-pass.ensures.released c.release-pass.ensures.list).1
     ∙ ap values_in l.invariant.2
 
+-- where `push` answers true, its return meets the clause `finished`
 pub returns-then-push-clause-finished : goal.returns-then-push-clause-finished
 returns-then-push-clause-finished g c =
     let l = c.loop in
@@ -37,6 +41,7 @@ returns-then-push-clause-finished g c =
     (ap has_values l.invariant.2 ∙ c.args.self.unended) c.push.ensures.same.goes (c.push.ensures.pushed c.if-push.true)
     c.release-pass.ensures.same.goes c.release-pass.ensures.released c.release-pass.ensures.list).2
 
+-- where `push` answers true, its return meets the clause `end`
 pub returns-then-push-clause-end : goal.returns-then-push-clause-end
 returns-then-push-clause-end g c =
     let l = c.loop in

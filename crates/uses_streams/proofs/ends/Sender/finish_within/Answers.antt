@@ -15,6 +15,7 @@ use Rattle.uses_streams.proofs.ends.Sender.finish_within.Goals as goal
 pub loop-refused-init : goal.loop-refused-init
 loop-refused-init g c = record { queue = refl; alone = c.args.self.alone; same = refl; full = refl; steps = omega arith }
 
+-- each iteration keeps the invariant of the loop
 pub loop-refused-preserved : goal.loop-refused-preserved
 loop-refused-preserved g c =
     let l = c.loop-refused in
@@ -31,6 +32,7 @@ loop-refused-preserved g c =
           (producer_view c.push.new.self) l.invariant.steps c.push.ensures.steps;
     }
 
+-- the result meets the invariant of its type
 pub invariant_of-result : goal.invariant_of-result
 invariant_of-result g c =
     let l = c.loop-refused in
@@ -39,6 +41,7 @@ invariant_of-result g c =
     c.release-pass.ensures.same.goes c.release-pass.ensures.released c.release-pass.ensures.list in
     record { alone = done.0 }
 
+-- where `push` answers true, its return meets the clause `sent`
 pub returns-then-push-clause-sent : goal.returns-then-push-clause-sent
 returns-then-push-clause-sent g c =
     let l = c.loop-refused in
@@ -47,6 +50,7 @@ returns-then-push-clause-sent g c =
     c.release-pass.ensures.same.goes c.release-pass.ensures.released c.release-pass.ensures.list).1
     ∙ ap values_in l.invariant.same
 
+-- where `push` answers true, its return meets the clause `finished`
 pub returns-then-push-clause-finished : goal.returns-then-push-clause-finished
 returns-then-push-clause-finished g c =
     let l = c.loop-refused in
@@ -54,6 +58,7 @@ returns-then-push-clause-finished g c =
     (ap has_values l.invariant.same ∙ c.args.self.unended) c.push.ensures.same.goes (c.push.ensures.pushed c.if-push.true)
     c.release-pass.ensures.same.goes c.release-pass.ensures.released c.release-pass.ensures.list).2
 
+-- where `push` answers true, its return meets the clause `end`
 pub returns-then-push-clause-end : goal.returns-then-push-clause-end
 returns-then-push-clause-end g c =
     let l = c.loop-refused in
@@ -61,6 +66,7 @@ returns-then-push-clause-end g c =
     (ap has_values l.invariant.same ∙ c.args.self.unended) c.push.ensures.same.goes (c.push.ensures.pushed c.if-push.true)
     c.release-pass.ensures.same.goes c.release-pass.ensures.released c.release-pass.ensures.list).3
 
+-- where `push` answers true, its return meets the clause `steps`
 pub returns-then-push-clause-steps : goal.returns-then-push-clause-steps
 returns-then-push-clause-steps g c =
     let l = c.loop-refused in

@@ -5,6 +5,7 @@ use Rattle.uses_streams.specs.Streams.{values_in}
 use Rattle.uses_streams.proofs.Streams.{pushes_value, pushes_none, pushes_either}
 use Rattle.uses_streams.proofs.ends.Sender.send.Goals as goal
 
+-- `self` still meets the invariant of its type
 pub invariant_of-self : goal.invariant_of-self
 invariant_of-self g c =
     let either = pushes_either (producer_view c.args.self.now.producer) (producer_view c.push.new.self) c.push.ensures.same.goes c.args.value

@@ -10,6 +10,7 @@ use Rattle.uses_streams.proofs.ends.Sender.send_within.Goals as goal
 pub loop-refused-init : goal.loop-refused-init
 loop-refused-init g c = record { queue = refl; same = refl; full = refl; steps = omega arith }
 
+-- each iteration keeps the invariant of the loop
 pub loop-refused-preserved : goal.loop-refused-preserved
 loop-refused-preserved g c =
     let l = c.loop-refused in
@@ -30,6 +31,7 @@ pub returns-then-send-clause-sent : goal.returns-then-send-clause-sent
 returns-then-send-clause-sent g c is =
     c.send.ensures.sent c.if-send.true ∙ ap (λ xs. xs ++ c.args.value ∷ []) c.loop-refused.invariant.same
 
+-- where `send` answers true, its return meets the clause `pushed`
 pub returns-then-send-clause-pushed : goal.returns-then-send-clause-pushed
 returns-then-send-clause-pushed g c is =
     let l = c.loop-refused in
@@ -37,6 +39,7 @@ returns-then-send-clause-pushed g c is =
     l._refused (sender_view c.args.self.now) (sender_view l.self) (sender_view c.send.new.self) l.invariant.full c.args.tries
     (omega arith) (c.send.ensures.pushed c.if-send.true)
 
+-- where `send` answers true, its return meets the clause `steps`
 pub returns-then-send-clause-steps : goal.returns-then-send-clause-steps
 returns-then-send-clause-steps g c =
     let l = c.loop-refused in

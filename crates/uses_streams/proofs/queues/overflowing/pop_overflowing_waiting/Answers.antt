@@ -9,6 +9,7 @@ use Rattle.uses_streams.proofs.queues.overflowing.pop_overflowing_waiting.Goals 
 pub loop-init : goal.loop-init
 loop-init g c = record { queue = refl; share = refl; none = λ some. (0, refl) }
 
+-- each iteration keeps the invariant of the loop
 pub loop-preserved : goal.loop-preserved
 loop-preserved g c =
     let was = c.loop.invariant in
@@ -31,6 +32,7 @@ returns-in-Some-pop-clause-queue g c = c.pop.ensures.same.queue ∙ c.loop.invar
 pub returns-in-Some-pop-clause-share : goal.returns-in-Some-pop-clause-share
 returns-in-Some-pop-clause-share g c = keeps_share c.loop.consumer c.pop.new.self c.pop.ensures.same ∙ c.loop.invariant.share
 
+-- where `pop` answers `Some`, its return meets the clause `taken`
 pub returns-in-Some-pop-clause-taken : goal.returns-in-Some-pop-clause-taken
 returns-in-Some-pop-clause-taken g c =
     let was = c.loop.invariant in

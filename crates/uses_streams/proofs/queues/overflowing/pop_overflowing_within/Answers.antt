@@ -9,6 +9,7 @@ use Rattle.uses_streams.proofs.queues.overflowing.pop_overflowing_within.Goals a
 pub loop-empty-init : goal.loop-empty-init
 loop-empty-init g c = record { queue = refl; share = refl; none = λ some. refl; still = λ none. refl }
 
+-- each iteration keeps the invariant of the loop
 pub loop-empty-preserved : goal.loop-empty-preserved
 loop-empty-preserved g c =
     let l = c.loop-empty in
@@ -29,6 +30,7 @@ returns-in-Some-clause-queue g c = c.pop.ensures.same.queue ∙ c.loop-empty.inv
 pub returns-in-Some-clause-share : goal.returns-in-Some-clause-share
 returns-in-Some-clause-share g c = keeps_share c.loop-empty.consumer c.pop.new.self c.pop.ensures.same ∙ c.loop-empty.invariant.share
 
+-- where the answer is `Some`, its return meets the clause `taken`
 pub returns-in-Some-clause-taken : goal.returns-in-Some-clause-taken
 returns-in-Some-clause-taken g c =
     let l = c.loop-empty in
@@ -46,6 +48,7 @@ returns-in-Some-clause-none g c none =
     let same = ap (λ (q : QueueId). q.capacity) l.invariant.queue in
     absurd (omega arith)
 
+-- where the answer is `Some`, its return meets the clause `still`
 pub returns-in-Some-clause-still : goal.returns-in-Some-clause-still
 returns-in-Some-clause-still g c none =
     let l = c.loop-empty in

@@ -11,6 +11,7 @@ use Rattle.uses_streams.proofs.queues.pops.pop_all.Goals as goal
 pub loop-count-init : goal.loop-count-init
 loop-count-init g c = record { received = receiving_none refl; rest = refl; popped = refl; steps = omega arith }
 
+-- each iteration keeps the invariant of the loop
 pub loop-count-preserved : goal.loop-count-preserved
 loop-count-preserved g c =
     let l = c.loop-count in
@@ -54,6 +55,7 @@ returns-clause-rest g c =
     let all : l.count ≡ length l.values = omega arith in
     subst (λ n. drop n l.values ≡ drop n c.args.values.now) all l.invariant.rest
 
+-- its return meets the clause `tried`
 pub returns-clause-tried : goal.returns-clause-tried
 returns-clause-tried g c =
     let l = c.loop-count in

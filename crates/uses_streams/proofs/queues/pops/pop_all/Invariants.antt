@@ -1,4 +1,4 @@
--- so many values were popped, and are the first ones
+-- So many values were popped, and they are the first ones.
 use Rattle.std.proofs.Common.{◌≡◌, ◌*◌, take, drop}
 use Rattle.history.specs.Steps.{TakesAtMost}
 use Rattle.lock_free_queues.specs.Queues.Relays.{Receiving}

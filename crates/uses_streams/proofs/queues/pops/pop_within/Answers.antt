@@ -9,6 +9,7 @@ use Rattle.uses_streams.proofs.queues.pops.pop_within.Goals as goal
 pub loop-empty-init : goal.loop-empty-init
 loop-empty-init g c = record { received = receiving_none refl; empty = refl; steps = omega arith }
 
+-- each iteration keeps the invariant of the loop
 pub loop-empty-preserved : goal.loop-empty-preserved
 loop-empty-preserved g c =
     let l = c.loop-empty in
@@ -31,6 +32,7 @@ returns-in-Some-clause-popped g c =
     popped_within l._empty (consumer_view c.args.consumer.now) (consumer_view l.consumer) (consumer_view c.pop.new.consumer)
     l.invariant.empty c.args.tries (g.E.BoundedKind.named c.in-Some.value) (omega arith) c.in-Some.ensures.popped
 
+-- where the answer is `Some`, its return meets the clause `steps`
 pub returns-in-Some-clause-steps : goal.returns-in-Some-clause-steps
 returns-in-Some-clause-steps g c =
     let l = c.loop-empty in

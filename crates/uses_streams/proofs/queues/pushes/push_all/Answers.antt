@@ -12,6 +12,7 @@ use Rattle.uses_streams.proofs.queues.pushes.push_all.Goals as goal
 pub loop-count-init : goal.loop-count-init
 loop-count-init g c = record { sent = sending_none refl; pushed = refl; steps = omega arith }
 
+-- each iteration keeps the invariant of the loop
 pub loop-count-preserved : goal.loop-count-preserved
 loop-count-preserved g c =
     let l = c.loop-count in
@@ -31,6 +32,7 @@ pub returns-then-not-push-clause-sent : goal.returns-then-not-push-clause-sent
 returns-then-not-push-clause-sent g c =
     sending_still c.loop-count.invariant.sent c.push.ensures.same c.if-not-push.true c.push.ensures.full
 
+-- where `push` answers false, the values before this one were pushed, and this one was refused
 pub returns-then-not-push-clause-tried : goal.returns-then-not-push-clause-tried
 returns-then-not-push-clause-tried g c =
     let l = c.loop-count in
@@ -52,6 +54,7 @@ returns-clause-sent g c =
     let all : l.count ≡ length c.args.values.now = omega arith in
     subst (λ n. Sending g.E.BoundedKind.named c.args.producer.now (take n c.args.values.now) l.producer) all l.invariant.sent
 
+-- its return meets the clause `tried`
 pub returns-clause-tried : goal.returns-clause-tried
 returns-clause-tried g c =
     let l = c.loop-count in

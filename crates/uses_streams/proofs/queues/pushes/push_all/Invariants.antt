@@ -1,4 +1,4 @@
--- so many of the first values were pushed
+-- So many of the first values were pushed.
 use Rattle.std.proofs.Common.{◌*◌, take}
 use Rattle.history.specs.Steps.{TakesAtMost}
 use Rattle.lock_free_queues.specs.Queues.Relays.{Sending}

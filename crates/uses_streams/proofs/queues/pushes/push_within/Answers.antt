@@ -9,6 +9,7 @@ use Rattle.uses_streams.proofs.queues.pushes.push_within.Goals as goal
 pub loop-refused-init : goal.loop-refused-init
 loop-refused-init g c = record { sent = sending_none refl; full = refl; steps = omega arith }
 
+-- each iteration keeps the invariant of the loop
 pub loop-refused-preserved : goal.loop-refused-preserved
 loop-refused-preserved g c =
     let l = c.loop-refused in
@@ -25,6 +26,7 @@ pub returns-then-push-clause-sent : goal.returns-then-push-clause-sent
 returns-then-push-clause-sent g c is =
     sending_one [] c.args.value.now c.loop-refused.invariant.sent c.push.ensures.same c.if-push.true c.push.ensures.pushed
 
+-- where `push` answers true, its return meets the clause `pushed`
 pub returns-then-push-clause-pushed : goal.returns-then-push-clause-pushed
 returns-then-push-clause-pushed g c is =
     let l = c.loop-refused in
@@ -32,6 +34,7 @@ returns-then-push-clause-pushed g c is =
     (g.E.BoundedKind.named c.args.value.now) l._refused (producer_view c.args.producer.now) (producer_view l.producer)
     (producer_view c.push.new.producer) l.invariant.full c.args.tries (omega arith) (c.push.ensures.pushed c.if-push.true)
 
+-- where `push` answers true, its return meets the clause `steps`
 pub returns-then-push-clause-steps : goal.returns-then-push-clause-steps
 returns-then-push-clause-steps g c =
     let l = c.loop-refused in

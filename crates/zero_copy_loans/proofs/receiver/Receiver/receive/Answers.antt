@@ -13,6 +13,7 @@ returns-then-place-places-clause-receives g c =
     received_one c.parts-number.result.0 c.parts-number.result.1 _ _ _ c.parts-number.ensures.within (search rules) refl refl (search rules)
     c.parts-number.ensures.is c.in_ok-word.ensures.popped.0
 
+-- the word names a place that is none of the pool's: nothing is received
 pub returns-else-place-places-clause-none : goal.returns-else-place-places-clause-none
 returns-else-place-places-clause-none g c =
     inr (inr (
@@ -21,6 +22,7 @@ returns-else-place-places-clause-none g c =
       c.in_ok-word.ensures.popped,
     ))
 
+-- a word that names no place of the pool adds nothing to what was received
 pub returns-else-place-places-clause-receives : goal.returns-else-place-places-clause-receives
 returns-else-place-places-clause-receives g c =
     received_none _ _ _ refl (search rules) refl refl (search rules)

@@ -14,6 +14,7 @@ returns-in_err-back-clause-sends g c loaned has =
     sent_one _ c.word-word.result _ _ _ c.from_residual.ensures has c.args.self.now.layout.fits (search rules) refl refl (search rules) (search rules)
     c.in_err-back.ensures.added
 
+-- its return meets the clause `handed_back`
 pub returns-clause-handed_back : goal.returns-clause-handed_back
 returns-clause-handed_back g c =
     inl (
@@ -22,6 +23,7 @@ returns-clause-handed_back g c =
           c.in_ok-back.ensures.handed_back,
     )
 
+-- its return meets the clause `sends`
 pub returns-clause-sends : goal.returns-clause-sends
 returns-clause-sends g c loaned has =
     sent_back _ c.word-word.result _ _ c.in_ok-back.back _ _ has c.args.self.now.layout.fits

@@ -8,6 +8,7 @@ use Rattle.zero_copy_loans.proofs.sender.Sender.send_each.Goals as goal
 pub loop-init : goal.loop-init
 loop-init g c = none_sent _ _ c.new-back.ensures.items
 
+-- each iteration keeps the invariant of the loop
 pub loop-preserved : goal.loop-preserved
 loop-preserved g c =
     let l = c.in_ok-loan.ensures.sends in

@@ -7,6 +7,7 @@ use Rattle.zero_copy_streams.proofs.receiver.Receiver.read_all.Goals as goal
 pub loop-init : goal.loop-init
 loop-init g c = record { queue = refl; read = read_none g.R.Reads.tells _ _ }
 
+-- each iteration keeps the invariant of the loop
 pub loop-preserved : goal.loop-preserved
 loop-preserved g c =
     let l = c.loop in

@@ -11,8 +11,7 @@ use Rattle.lock_free_loans.proofs.Loan.Contracts.{sent_below, freed_more, freed_
 use Rattle.lock_free_loans.proofs.spsc.loan.LoanSender.reclaim.Goals as goal
 use Rattle.lock_free_loans.proofs.spsc.loan.LoanSender.reclaim.Goals.{then-has_sent, else-has_sent}
 
--- after each index all up to it that were sent are free, counted, and given back to the set in
--- turn
+-- after each index all up to it that were sent are free, counted, and given back to the set in turn
 pub loop-index-preserved : goal.loop-index-preserved
 loop-index-preserved g c =
     let old = pass_view c.args.self.now in
@@ -66,8 +65,7 @@ loop-index-preserved g c =
           }
     ]
 
--- all that were sent are free and counted, the set got them back in turn, and the queue of what
--- came back is emptied
+-- all that were sent are free and counted, the set got them back in turn, and the queue of what came back is emptied
 pub returns-clause-reclaimed : goal.returns-clause-reclaimed
 returns-clause-reclaimed g c =
     let ps = places_of c.args.self.now in

@@ -1,4 +1,4 @@
--- `of_zeros` (src/spsc/queue/make.rt): its return meets what it ensures.
+-- `of_zeros` (src/spsc/queue/make.rt): its return is the value that words of zeros make.
 use Rattle.lock_free_queues.proofs.Names.{◌∙◌}
 use Rattle.lock_free_queues.proofs.Queues.Filled.{zeros_in}
 use Rattle.lock_free_queues.proofs.spsc.queue.make.of_zeros.Goals as goal

@@ -8,6 +8,7 @@ use Rattle.lock_free_queues.proofs.spsc.ring.lengths.count_on.Goals as goal
 pub step_count-requires-clause-at : goal.step_count-requires-clause-at
 step_count-requires-clause-at g c = (c.requires.at.0, c.loop.invariant.2 c.requires.at.0 c.requires.at.1)
 
+-- each iteration keeps the invariant of the loop
 pub loop-preserved : goal.loop-preserved
 loop-preserved g c =
     let so_far = c.loop.invariant in
@@ -19,6 +20,7 @@ loop-preserved g c =
           (called.ensures.goes base (so_far.2 base at)) c.in-GoOn.next c.in-GoOn.is,
     )
 
+-- where the answer is `Done`, its return meets the clause `ends`
 pub returns-in-Done-clause-ends : goal.returns-in-Done-clause-ends
 returns-in-Done-clause-ends g c base at =
     let called = c.step_count in

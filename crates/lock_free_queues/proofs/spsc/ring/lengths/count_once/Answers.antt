@@ -7,6 +7,7 @@ use Rattle.lock_free_queues.proofs.spsc.ring.lengths.count_once.Goals as goal
 pub step_count-one-requires-clause-at : goal.step_count-one-requires-clause-at
 step_count-one-requires-clause-at g c = (seen c.args.seat.now, c.requires.at)
 
+-- where the answer is `Done`, its return meets the clause `goes`
 pub returns-in-Done-clause-goes : goal.returns-in-Done-clause-goes
 returns-in-Done-clause-goes g c =
     let base = seen c.args.seat.now in
@@ -14,6 +15,7 @@ returns-in-Done-clause-goes g c =
     let code : Coding g.row.T.Denot = coding_by g.T.Words in
     has_ended code g.E.Kind.KIND g.W.Measure.WHICH base (seen a.new.seat) a.result (a.ensures.goes base c.requires.at) c.in-Done.number c.in-Done.is
 
+-- its second call of `step_count` meets the requirement `at`
 pub step_count-two-requires-clause-at : goal.step_count-two-requires-clause-at
 step_count-two-requires-clause-at g c =
     let base = seen c.args.seat.now in
@@ -21,6 +23,7 @@ step_count-two-requires-clause-at g c =
     let code : Coding g.row.T.Denot = coding_by g.T.Words in
     (base, gone_on code g.E.Kind.KIND g.W.Measure.WHICH base (seen a.new.seat) a.result (a.ensures.goes base c.requires.at) c.in-GoOn.next c.in-GoOn.is)
 
+-- where the second answer is `Done`, its return meets the clause `goes`
 pub returns-in-Done-two-clause-goes : goal.returns-in-Done-two-clause-goes
 returns-in-Done-two-clause-goes g c =
     let base = seen c.args.seat.now in
@@ -30,6 +33,7 @@ returns-in-Done-two-clause-goes g c =
     let at = gone_on code g.E.Kind.KIND g.W.Measure.WHICH base (seen a.new.seat) a.result (a.ensures.goes base c.requires.at) c.in-GoOn.next c.in-GoOn.is in
     has_ended code g.E.Kind.KIND g.W.Measure.WHICH base (seen b.new.seat) b.result (b.ensures.goes base at) c.in-Done-two.number c.in-Done-two.is
 
+-- its third call of `step_count` meets the requirement `at`
 pub step_count-three-requires-clause-at : goal.step_count-three-requires-clause-at
 step_count-three-requires-clause-at g c =
     let base = seen c.args.seat.now in
@@ -39,6 +43,7 @@ step_count-three-requires-clause-at g c =
     let at = gone_on code g.E.Kind.KIND g.W.Measure.WHICH base (seen a.new.seat) a.result (a.ensures.goes base c.requires.at) c.in-GoOn.next c.in-GoOn.is in
     (base, gone_on code g.E.Kind.KIND g.W.Measure.WHICH base (seen b.new.seat) b.result (b.ensures.goes base at) c.in-GoOn-two.next c.in-GoOn-two.is)
 
+-- where the third answer is `Done`, its return meets the clause `goes`
 pub returns-in-Done-three-clause-goes : goal.returns-in-Done-three-clause-goes
 returns-in-Done-three-clause-goes g c =
     let base = seen c.args.seat.now in
@@ -50,6 +55,7 @@ returns-in-Done-three-clause-goes g c =
     let then = gone_on code g.E.Kind.KIND g.W.Measure.WHICH base (seen b.new.seat) b.result (b.ensures.goes base at) c.in-GoOn-two.next c.in-GoOn-two.is in
     has_ended code g.E.Kind.KIND g.W.Measure.WHICH base (seen d.new.seat) d.result (d.ensures.goes base then) c.in-Done-three.number c.in-Done-three.is
 
+-- its call of `step_count` meets the requirement `at`
 pub step_count-requires-clause-at : goal.step_count-requires-clause-at
 step_count-requires-clause-at g c =
     let base = seen c.args.seat.now in
@@ -61,6 +67,7 @@ step_count-requires-clause-at g c =
     let then = gone_on code g.E.Kind.KIND g.W.Measure.WHICH base (seen b.new.seat) b.result (b.ensures.goes base at) c.in-GoOn-two.next c.in-GoOn-two.is in
     (base, gone_on code g.E.Kind.KIND g.W.Measure.WHICH base (seen d.new.seat) d.result (d.ensures.goes base then) c.in-GoOn-three.next c.in-GoOn-three.is)
 
+-- its return meets the clause `goes`
 pub returns-clause-goes : goal.returns-clause-goes
 returns-clause-goes g c =
     let base = seen c.args.seat.now in

@@ -3,6 +3,7 @@ use Rattle.lock_free_queues.proofs.Names.{Coding, IsCoding, coding_by}
 use Rattle.lock_free_queues.proofs.Queues.Kinds.{lengths_keep}
 use Rattle.lock_free_queues.proofs.spsc.ring.lengths.step_count.Goals as goal
 
+-- its call of `step` meets the requirement `rule`
 pub step-requires-clause-rule : goal.step-requires-clause-rule
 step-requires-clause-rule g c base v call m key =
     let met = g.met.T.Words in

@@ -11,8 +11,7 @@ use Rattle.lock_free_value.specs.Roles.{LacksProducer}
 use Rattle.lock_free_value.proofs.Opens.{filling, first_is, begins, turns, ends, opened_some, opened_lacks}
 use Rattle.lock_free_value.proofs.spmc.unrestricted_atomic.UnrestrictedAtomic.of.Goals as goal
 
--- before the first word is written the words have the first version, a free role, and zeros in
--- both cells
+-- before the first word is written the words have the first version, a free role, and zeros in both cells
 pub loop-at-init : goal.loop-at-init
 loop-at-init g c =
     let met = g.met.T.Words in

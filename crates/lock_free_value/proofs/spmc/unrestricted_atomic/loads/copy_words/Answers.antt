@@ -26,8 +26,7 @@ words-preserved g c =
           (called.ensures.goes base (so_far.2 base at))),
     )
 
--- where the load has left the words of the cell, it has gone on from where it stood as the call
--- began
+-- where the load has left the words of the cell, it has gone on from where it stood as the call began
 pub returns-in_default-clause-goes : goal.returns-in_default-clause-goes
 returns-in_default-clause-goes g c base at =
     let called = c.step_load in

@@ -11,6 +11,7 @@ invariant-loop-next g l =
 abbrev pub decreases-loop-next : given.decreases-loop-next
 decreases-loop-next g l = g.C.Ends.left l.call
 
+-- what the seat is told of the call when it has been driven once
 abbrev pub ghosts-once : given.ghosts-once
 ghosts-once g a =
     record {

@@ -13,6 +13,7 @@ invariant-alike g l =
     IsSame l.fn.self l.self × (g.Q.Rule.capacity_seen (seen l.self) ≡ g.Q.Rule.capacity_seen (seen l.fn.self))
     × g.D.Drives.at l.fn.given (seen l.fn.self) (seen l.self) l.call l.room
 
+-- what the seat is told of the call when it has been driven once
 abbrev pub ghosts-once : given.ghosts-once
 ghosts-once g a =
     record {

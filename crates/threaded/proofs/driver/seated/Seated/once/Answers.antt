@@ -1,3 +1,4 @@
+-- `Seated::once` (src/driver/seated.rt): its call of `answer` meets the requirement `owes`, and its return meets the clause `told`.
 use Rattle.std.proofs.Common.{sym, subst, ℕ, List}
 use Rattle.steps.specs.declared.ask.After.{After}
 use Rattle.threaded.specs.Driver.{Next, Told, Owes}
@@ -5,6 +6,7 @@ use Rattle.threaded.specs.Seats.{seen, table_of, key_of}
 use Rattle.threaded.proofs.Driving.{weaker_owes}
 use Rattle.threaded.proofs.driver.seated.Seated.once.Goals as goal
 
+-- its call of `answer` meets the requirement `owes`
 pub answer-old-requires-clause-owes : goal.answer-old-requires-clause-owes
 answer-old-requires-clause-owes g c =
     let t = c.args.self.now in
@@ -23,6 +25,7 @@ answer-old-requires-clause-owes g c =
     (sym t.bare) owed in
     weaker_owes g.Q.Rule.asked holds (table_of t).words (table_of t).slots t.seat.id told g.M.Tells.told want t.seat.me (λ n w. c.requires.takes _ _ w) mine
 
+-- its return meets the clause `told`
 pub returns-clause-told : goal.returns-clause-told
 returns-clause-told g c base began =
     let told_now = c.requires.gives _ _ _ c.answer-old.ensures.told in

@@ -1,6 +1,7 @@
 use Rattle.threaded.specs.Driver.{Told}
 use Rattle.threaded.proofs.driver.seated.Seated.step.Given as given
 
+-- what the seat is told of the call when it has been driven once
 abbrev pub ghosts-once : given.ghosts-once
 ghosts-once g a =
     record {

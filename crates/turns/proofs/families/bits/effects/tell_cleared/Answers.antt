@@ -7,8 +7,7 @@ use Rattle.turns.proofs.Places.{clears_so_far, stood_more, clear_more}
 use Rattle.turns.proofs.families.bits.effects.tell_cleared.Goals as goal
 use Rattle.turns.proofs.families.bits.effects.tell_cleared.Goals.{then-has_flag, else-has_flag}
 
--- with each bit the events are those of the bits so far whose flag was found, and there is room
--- for the rest
+-- with each bit the events are those of the bits so far whose flag was found, and there is room for the rest
 pub bits-preserved : goal.bits-preserved
 bits-preserved g c =
     let number = c.args.number in

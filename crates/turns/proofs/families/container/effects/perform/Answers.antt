@@ -1,5 +1,4 @@
--- `perform` (src/families/container/effects.rt): its return meets the clauses `after`, `states`
--- and `wrote`.
+-- `perform` (src/families/container/effects.rt): its return meets the clauses `after`, `states` and `wrote`.
 use Rattle.std.proofs.Common.{◌≡◌, List, ◌++◌, sym, ap, ◌∙◌, append_assoc, append-nil}
 use Rattle.std.specs.Prelude.{option_to_list}
 use Rattle.model.specs.declared.event.Event.{Event}

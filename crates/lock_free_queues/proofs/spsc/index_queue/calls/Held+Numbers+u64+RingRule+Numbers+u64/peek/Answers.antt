@@ -23,8 +23,7 @@ drive-end-requires-clause-at c =
     (ap first_peek mine.known ∙ sym c.new-call.ensures)
     (peek_first one_word v mine.idle mine.alone mine.some.0 (subst (λ n. n < 2 ^ 32) (sym mine.known) mine.small) c.requires)
 
--- the peek answers the oldest number that waits as it ends, and since all that was seen none was
--- taken out
+-- the peek answers the oldest number that waits as it ends, and since all that was seen none was taken out
 pub returns-clause-peeked : goal.returns-clause-peeked
 returns-clause-peeked c =
     let mine = c.args.self.now in

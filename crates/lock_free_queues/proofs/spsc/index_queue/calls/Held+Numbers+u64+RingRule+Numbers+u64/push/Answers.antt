@@ -24,8 +24,7 @@ drive-end-requires-clause-at c =
     (push_first one_word c.args.value v tt mine.idle mine.alone mine.some.0
     (subst (λ n. n < 2 ^ 32) (sym mine.known) mine.small) c.requires)
 
--- a push that answers false found the capacity waiting, or was a look at a queue whose last
--- position is reached
+-- a push that answers false found the capacity waiting, or was a look at a queue whose last position is reached
 pub returns-clause-full : goal.returns-clause-full
 returns-clause-full c is =
     let mine = c.args.self.now in

@@ -34,8 +34,7 @@ drive-end-requires-clause-at g c =
     (ap first_push mine.known ∙ sym c.new-call.ensures)
     (value_push_first code law x v tt mine.idle mine.alone mine.some.0 (subst (λ n. n < 2 ^ 32) (sym mine.known) mine.small) c.requires)
 
--- a push that answers false found the capacity waiting, or was a look at a queue whose last
--- position is reached
+-- a push that answers false found the capacity waiting, or was a look at a queue whose last position is reached
 pub returns-clause-full : goal.returns-clause-full
 returns-clause-full g c is =
     let mine = c.args.self.now in

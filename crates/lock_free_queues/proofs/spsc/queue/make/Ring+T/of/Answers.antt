@@ -52,8 +52,7 @@ loop-at-preserved g c =
           ∙ fills_more (g.T.Words.words_of value) size capacity start start 1 1 at c.word-word.result (omega arith) word;
     }
 
--- with the words of what was pushed in the cells that were used, the words open as the queue's
--- machine at this position
+-- with the words of what was pushed in the cells that were used, the words open as the queue's machine at this position
 pub of_words-requires-clause-opens : goal.of_words-requires-clause-opens
 of_words-requires-clause-opens g c =
     let met = g.met.T.Words in

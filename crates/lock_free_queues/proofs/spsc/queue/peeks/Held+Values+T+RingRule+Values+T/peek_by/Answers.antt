@@ -23,8 +23,7 @@ drive-end-requires-clause-rule g c base v call m key =
     let law : IsCoding code = record { some = met.some; few = met.few; sized = met.sized; given_back = met.given_back } in
     value_peek_keeps code law g.R.Room.words_in g.R.Room.with_word g.met.R.Room.put_in base v call m key.capacity
 
--- the peek is about to begin with a room of zeros, as a call that its queue does not refuse to the
--- consumer
+-- the peek is about to begin with a room of zeros, as a call that its queue does not refuse to the consumer
 pub drive-end-requires-clause-at : goal.drive-end-requires-clause-at
 drive-end-requires-clause-at g c =
     let mine = c.args.self.now in
@@ -39,8 +38,7 @@ drive-end-requires-clause-at g c =
     (value_peek_first code law g.R.Room.words_in g.R.Room.with_word g.met.R.Room.put_in v c.args.room zeros mine.idle
     mine.alone mine.some.0 (subst (λ n. n < 2 ^ 32) (sym mine.known) mine.small) c.requires.role)
 
--- the peek answers the oldest value that waits as it ends, and since all that was seen none was
--- taken out
+-- the peek answers the oldest value that waits as it ends, and since all that was seen none was taken out
 pub returns-clause-peeked : goal.returns-clause-peeked
 returns-clause-peeked g c =
     let mine = c.args.self.now in

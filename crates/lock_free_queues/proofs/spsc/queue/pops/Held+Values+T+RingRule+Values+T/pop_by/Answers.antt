@@ -22,8 +22,7 @@ drive-end-requires-clause-rule g c base v call m key =
     let law : IsCoding code = record { some = met.some; few = met.few; sized = met.sized; given_back = met.given_back } in
     value_pop_keeps code law g.R.Room.words_in g.R.Room.with_word g.met.R.Room.put_in base v call m key.capacity
 
--- the pop is about to begin with a room of zeros, as a call that its queue does not refuse to the
--- consumer
+-- the pop is about to begin with a room of zeros, as a call that its queue does not refuse to the consumer
 pub drive-end-requires-clause-at : goal.drive-end-requires-clause-at
 drive-end-requires-clause-at g c =
     let mine = c.args.self.now in

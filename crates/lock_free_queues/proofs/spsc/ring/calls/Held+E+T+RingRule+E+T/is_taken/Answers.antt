@@ -10,8 +10,7 @@ use Rattle.lock_free_queues.proofs.Queues.Sums.{seen_moves}
 use Rattle.lock_free_queues.proofs.Queues.Paid.{look_takes}
 use Rattle.lock_free_queues.proofs.spsc.ring.calls.Held+E+T+RingRule+E+T.is_taken.Goals as goal
 
--- each step of the call that looks at a role keeps the rule of the table, and tells what is known
--- after it
+-- each step of the call that looks at a role keeps the rule of the table, and tells what is known after it
 pub drive-requires-clause-rule : goal.drive-requires-clause-rule
 drive-requires-clause-rule g c base v call m key =
     let met = g.met.T.Words in

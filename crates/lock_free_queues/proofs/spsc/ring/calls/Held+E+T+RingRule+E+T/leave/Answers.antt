@@ -10,8 +10,7 @@ use Rattle.lock_free_queues.proofs.Queues.Sums.{released_moves}
 use Rattle.lock_free_queues.proofs.Queues.Paid.{release_takes}
 use Rattle.lock_free_queues.proofs.spsc.ring.calls.Held+E+T+RingRule+E+T.leave.Goals as goal
 
--- each step of the call that gives a role back keeps the rule of the table, and tells what is
--- known after it
+-- each step of the call that gives a role back keeps the rule of the table, and tells what is known after it
 pub drive-requires-clause-rule : goal.drive-requires-clause-rule
 drive-requires-clause-rule g c base v call m key =
     let met = g.met.T.Words in

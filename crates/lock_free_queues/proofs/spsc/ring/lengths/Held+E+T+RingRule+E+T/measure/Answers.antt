@@ -10,6 +10,7 @@ use Rattle.lock_free_queues.proofs.Queues.Facts.{measured, few}
 use Rattle.lock_free_queues.proofs.Queues.Paid.{length_takes}
 use Rattle.lock_free_queues.proofs.spsc.ring.lengths.Held+E+T+RingRule+E+T.measure.Goals as goal
 
+-- its call of `count_all` meets the requirement `at`
 pub count_all-requires-clause-at : goal.count_all-requires-clause-at
 count_all-requires-clause-at g c =
     let mine = c.args.self.now in
@@ -19,6 +20,7 @@ count_all-requires-clause-at g c =
     (ap first_len mine.known ∙ sym c.new-call.ensures)
     (len_first_on code g.E.Kind.KIND v tt mine.idle mine.alone mine.some.0 g.W.Measure.WHICH v.capacity refl)
 
+-- its return meets the clause `measured`
 pub returns-clause-measured : goal.returns-clause-measured
 returns-clause-measured g c =
     let mine = c.args.self.now in
@@ -29,6 +31,7 @@ returns-clause-measured g c =
     (measured (coding_by g.T.Words) g.E.Kind.KIND v w mine.idle
     g.W.Measure.WHICH c.count_all.result tt c.count_all.ensures.ends)
 
+-- its return meets the clause `few`
 pub returns-clause-few : goal.returns-clause-few
 returns-clause-few g c is =
     let mine = c.args.self.now in
@@ -36,6 +39,7 @@ returns-clause-few g c is =
     (few (coding_by g.T.Words) g.E.Kind.KIND (token_view mine)
     c.count_all.new.seat.seat.me.0 mine.idle g.W.Measure.WHICH is c.count_all.result tt c.count_all.ensures.ends)
 
+-- its return meets the clause `steps`
 pub returns-clause-steps : goal.returns-clause-steps
 returns-clause-steps g c =
     let mine = c.args.self.now in

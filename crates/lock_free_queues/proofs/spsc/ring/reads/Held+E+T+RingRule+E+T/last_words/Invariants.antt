@@ -1,5 +1,4 @@
--- The write position was read as the pass stands now; each turn that finds another finds a higher
--- one.
+-- The write position was read as the pass stands now; each turn that finds another finds a higher one.
 use Rattle.lock_free_queues.proofs.Names.{◌≡◌, ◌<◌, ◌-◌, ◌^◌, length, coding_by}
 use Rattle.lock_free_queues.specs.Queues.Bounded.{machine_kind}
 use Rattle.lock_free_queues.specs.Queues.Rings.{token_queue, token_view}

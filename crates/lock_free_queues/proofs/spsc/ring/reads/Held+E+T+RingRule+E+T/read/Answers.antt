@@ -14,8 +14,7 @@ look-requires-clause-owes g c =
     owes_look (coding_by g.T.Words) g.E.Kind.KIND (key_of s).capacity (table_of s).words
     (table_of s).slots s.seat.id c.args.word (seen s) s.seat.me.1 below s.bare (mine.known ∙ sym mine.keyed) mine.idle mine.some.0
 
--- the load leaves the share and what the pass has made, and with the whole share it sees nothing
--- more
+-- the load leaves the share and what the pass has made, and with the whole share it sees nothing more
 pub returns-clause-read : goal.returns-clause-read
 returns-clause-read g c =
     let mine = c.args.self.now in

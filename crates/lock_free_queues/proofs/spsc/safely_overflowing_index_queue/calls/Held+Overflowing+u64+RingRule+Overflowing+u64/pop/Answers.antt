@@ -46,8 +46,7 @@ returns-clause-empty g c =
     subst (λ z. IfNone z (PopFoundNone x w)) (sym c.answer.ensures)
     (over_empty_if one_word x w ends.history o (over_popped one_word x w mine.idle c.drive_on-end.result c.drive_on-end.new.room ends))
 
--- the pop takes at most four operations, and two more for each change of a word that others make
--- meanwhile
+-- the pop takes at most four operations, and two more for each change of a word that others make meanwhile
 pub returns-clause-steps : goal.returns-clause-steps
 returns-clause-steps g c =
     let mine = c.args.self.now in

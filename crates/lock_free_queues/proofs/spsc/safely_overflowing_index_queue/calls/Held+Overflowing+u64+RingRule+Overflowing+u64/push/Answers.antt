@@ -43,8 +43,7 @@ returns-clause-same c =
           c.drive-end.ensures.end;
     }
 
--- a push that hands nothing back published its number right after all that was seen to be
--- published
+-- a push that hands nothing back published its number right after all that was seen to be published
 pub returns-clause-added : goal.returns-clause-added
 returns-clause-added c =
     let mine = c.args.self.now in

@@ -8,8 +8,7 @@ use Rattle.lock_free_queues.proofs.Queues.Closes.{as_stood}
 use Rattle.lock_free_queues.proofs.Queues.OverCloses.{over_fits, over_closes, newest}
 use Rattle.lock_free_queues.proofs.spsc.safely_overflowing_index_queue.close.SafelyOverflowingIndexQueue.close.Goals as goal
 
--- with the read position that leaves at most the capacity, the words are those of a queue of one
--- caller
+-- with the read position that leaves at most the capacity, the words are those of a queue of one caller
 pub of_words-requires : goal.of_words-requires
 of_words-requires c =
     let size = c.args.self.capacity in

@@ -9,7 +9,7 @@ use Rattle.threaded.proofs.Shares.{positive}
 use Rattle.history.proofs.Passes.{joins}
 use Rattle.lock_free_value.proofs.spmc.unrestricted_atomic.passes.Held+T+ValueRule+T.join.Goals as goal
 
--- that both seats are joined keeps the rule of the table
+-- a join of both seats keeps the rule of the table
 pub join-requires-clause-joins : goal.join-requires-clause-joins
 join-requires-clause-joins g c =
     let mine = c.args.self.now in
