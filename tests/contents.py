@@ -7,7 +7,8 @@ fills up or runs empty, and `last` are those that show what is left. A structure
 from collections import deque
 
 MAX = (1 << 64) - 1
-ROUNDS, OFTEN = 200_000, 70_000
+# More than a number of 16 bits counts, at one capacity, and more than one of 12 bits does, at all others.
+ROUNDS, MANY, SOME = 200_000, 70_000, 5_000
 
 
 def truth(is_so):
@@ -170,6 +171,10 @@ class Value(Roles):
     def opening(self):
         return [("take_producer",)] * self.has_roles
 
+    def each(self):
+        """Many versions, where the first one was not given."""
+        return [("store", number) for number in range(SOME * (self.number < SOME))]
+
     def draw(self, draws, _):
         if self.has_roles and (call := self.drawn_role(draws, ("producer",))):
             return call
@@ -246,7 +251,7 @@ class Counts(Structure):
     def each(self):
         for place in range(self.capacity):
             yield from (("set", place), ("reset_all",))
-        yield from [("set", self.capacity // 2)] * OFTEN
+        yield from [("set", self.capacity // 2)] * (MANY if self.capacity == 5 else SOME)
         yield ("reset_all",)
 
     def draw(self, draws, _):

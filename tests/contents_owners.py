@@ -168,14 +168,14 @@ class Robust(Structure):
         if which == 3:
             return "find", owner, draws.choice((MAX, draws.randrange(1, 8)))
         if which == 4:
-            return "recover", draws.randrange(4) == 0, draws.getrandbits(64)
+            return "recover", int(draws.randrange(4) == 0), draws.getrandbits(64)
         if which == 5 and draws.randrange(2):
-            return "recover_of", draws.randrange(4) == 0, owner
+            return "recover_of", int(draws.randrange(4) == 0), owner
         if (draws.randrange(8) < 6) == fills:
             return "acquire", owner
         index = draws.randrange(self.capacity + (draws.randrange(64) == 0))
         # (of the right owner half of the times)
-        return "release", index, self.owners.get(index, owner) if draws.randrange(2) else owner, draws.randrange(4) == 0
+        return "release", index, self.owners.get(index, owner) if draws.randrange(2) else owner, int(draws.randrange(4) == 0)
 
     def last(self):
         """One more is acquired; half of all are recovered, then the rest: the last one locks."""
@@ -276,12 +276,12 @@ class Container(Robust):
         if which == 5:
             return "find", owner, stop
         if which == 6:
-            return "recover", draws.choice(OWNERS[:4]), draws.randrange(4) == 0, draws.getrandbits(64)
+            return "recover", draws.choice(OWNERS[:4]), int(draws.randrange(4) == 0), draws.getrandbits(64)
         if (draws.randrange(8) < 7) == fills:
             return "add", draws.getrandbits(64), owner
         index = draws.randrange(self.capacity + 1)
         handle = index, self.owners.get(index, owner) if draws.randrange(2) else owner, self.number + (draws.randrange(32) == 0)
-        return ("replace", *handle, draws.getrandbits(64)) if draws.randrange(8) < 3 else ("remove", *handle, draws.randrange(4) == 0)
+        return ("replace", *handle, draws.getrandbits(64)) if draws.randrange(8) < 3 else ("remove", *handle, int(draws.randrange(4) == 0))
 
     def last(self):
         """Each value is shown, replaced and removed, in both owners' names. One comes anew, and is recovered, which locks."""

@@ -5,6 +5,8 @@ turn. Where it waits for a yes or a no it yields ASKS, and goes on with the answ
 that touches no word it yields NOTHING.
 """
 
+from operator import ne
+
 ASKS = "asks"
 NOTHING = "nothing"
 HALF = 1 << 64
@@ -77,7 +79,8 @@ class Machine:
             del self.calls[call.party]
             call.is_open = False
             call.tells("finished", call.text, "->", str(end.value).lower() if isinstance(end.value, bool) else end.value)
-        changes = sum(old != new for old, new in zip(before, self.all_words()))
+        after = self.all_words()
+        changes = sum(map(ne, before, after)) if before != after else 0
         for other in self.calls.values():
             other.others += changes if other is not call else 0
 

@@ -51,11 +51,19 @@ def joined(*words):
 class Block:
     """What the program tells of one turn, or of one line over written words."""
 
-    def __init__(self, line, lines, events):
-        self.line = line
-        self.refusal = next((it[8:] for it in lines if it.startswith("refused ")), None)
-        self.shown = [it for it in lines if it.startswith(("words", "call ", "state ", "said "))]
-        self.events = events + sum(it[0].isdigit() or it.startswith("died ") for it in lines)
+    def __init__(self, text, events):
+        line, *self.lines = text.split("\n")
+        self.line, self.refusal = int(line), None
+        for it in self.lines:
+            if it[0].isdigit() or it.startswith("died "):
+                events.append(it)
+            elif it.startswith("refused ") and self.refusal is None:
+                self.refusal = it[8:]
+        self.events = len(events)
+
+    @property
+    def shown(self):
+        return [it for it in self.lines if it.startswith(("words", "call ", "state ", "said "))]
 
 
 class Turns:
@@ -223,10 +231,8 @@ class Turns:
         options = () if self.is_bare else ("--words" if self.has_words else "--turns",)
         exit, printed, _ = self.run("tests_scripts" if self.is_bare else "tool_schedule", options, joined_lines(self.lines))
         self.exit, self.blocks, self.all_events, number_of = exit, [], [], {}
-        for part in printed.decode().split("\nturn ")[0:] if printed else ():
-            line, *lines = part.removeprefix("turn ").rstrip("\n").split("\n")
-            block = Block(int(line), lines, len(self.all_events))
-            self.all_events += [it for it in lines if it[:1].isdigit() or it.startswith("died ")]
+        for part in printed.decode().split("\nturn ") if printed else ():
+            block = Block(part.removeprefix("turn ").rstrip("\n"), self.all_events)
             number_of.setdefault(block.line, [len(self.blocks), 0])[1] += 1
             self.blocks.append(block)
         self.places = number_of
@@ -272,12 +278,12 @@ class Turns:
     def progress(self, at, party):
         """Steps, turns back, changes by others, and whether it has ended, of the latest call of a party. One of the parties that
         are not always shown is seen as it was at its last turn."""
-        found = self.seen(at, f"call {party} ")
-        for block in reversed(self.blocks[: self.upto[at]] if party >= SHOWN else ()):
-            found = found or [it[len(f"call {party} ") :] for it in block.shown if it.startswith(f"call {party} ")]
+        word = f"call {party} "
+        before = reversed(self.blocks[: self.upto[at] + 1] if party >= SHOWN else [self.before(at)])
+        found = next((it for block in before for it in block.lines if it.startswith(word)), None)
         if not found:
             return (None, None, None, None)
-        steps, backs, others, *ended = found[0].split(" ")
+        steps, backs, others, *ended = found.removeprefix(word).split(" ")
         return int(steps), int(backs), int(others), "done" if ended else "going"
 
     def is_shown(self, word, rest, party, at):
