@@ -47,6 +47,7 @@ module _ {X K : Type 0} {rule : Ghosts K X} where
         few = All-append (λ n. n < 100) h.numbers k.numbers h.few k.few;
       }
 
+  -- a subscriber that has read marks from the first number on has read the marks of rising numbers
   abbrev pub news : (xs : List ℕ) (first : ℕ) (s t : Subscriber X K rule) → expected_at s ≡ first → HasRead [] xs s t → AreNewsFrom first xs
   news xs first s t is h =
       record {

@@ -1,7 +1,7 @@
-//! One thread publishes a hundred blocks of 64 KiB, each full of the mark of its number, and two others read them where they lie.
-//! Proved of what each of them reads: they are the marks of numbers that rise strictly, of the hundred, though nobody copies a block.
-//! Every number that was published went out to both, and of these a beginning was read or came back unread, each once, and both in
-//! order (`hear`).
+//! One thread publishes a hundred blocks of 64 KiB, each full of the mark of its number, and two others read
+//! them where they lie. Proved of what each of them reads: they are the marks of numbers that rise strictly
+//! and are below 100, though nobody copies a block. Every number that was published went out to both, and of
+//! these a beginning was read or came back unread, each once, and both in order (`hear`).
 #![tactic(auto)]
 
 pub mod twins;
@@ -29,9 +29,10 @@ const WORDS: usize = 8192;
 /// How many blocks are published.
 const BLOCKS: u64 = 100;
 
-/// How often a thread lets the others run before it gives up.
+/// How many times a thread tries, and lets another thread run, before it gives up.
 const TRIES: u64 = 1 << 26;
 
+/// The bus: 7 slots, at most 2 subscribers, and a queue of 2 for each.
 const SIZES: Sizes = Sizes {
     slots: 7,
     subscribers: 2,
@@ -47,7 +48,7 @@ impl Keeps<Vec<u64>> for Marked {
     ghost holds = { λ number block. IsBlockOf number block.items };
 }
 
-/// So many blocks to write.
+/// Makes `number` blocks to write, each of 64 KiB.
 fn blocks(alloc: Global, number: usize) -> Option<Vec<Vec<u64>>> {
     let mut blocks = Vec::new(alloc);
     for _ in 0..number {
@@ -67,7 +68,8 @@ fn fill(block: &mut Vec<u64>, word: u64) -> bool
     true
 }
 
-/// Publishes the block of the number that comes next: to how many it went. None where there is no slot, or all are published.
+/// Publishes the block of the number that comes next. Returns to how many subscribers it went. None where no
+/// slot came, or all blocks are published.
 fn publish_one(rt: &impl Wait, publisher: &mut Publisher<'_, Vec<u64>, Marked>) -> Option<usize>
     ensures out { HasPublished publisher.old publisher.new }
     ensures few { next_of publisher.old ≤ 100 → next_of publisher.new ≤ 100 }
@@ -83,7 +85,7 @@ fn publish_one(rt: &impl Wait, publisher: &mut Publisher<'_, Vec<u64>, Marked>) 
     Some(publisher.publish(loan))
 }
 
-/// Publishes all blocks: to how many they went in all.
+/// Publishes all blocks. Returns to how many subscribers each went, added up.
 fn publish_all(rt: &impl Wait, publisher: &mut Publisher<'_, Vec<u64>, Marked>) -> usize
     ensures out { HasPublished publisher.old publisher.new }
     ensures few { next_of publisher.old ≤ 100 → next_of publisher.new ≤ 100 }
@@ -98,7 +100,8 @@ fn publish_all(rt: &impl Wait, publisher: &mut Publisher<'_, Vec<u64>, Marked>) 
     sent
 }
 
-/// The mark of what was received, which is that of its number.
+/// The mark of a block that was received, which is the mark of its number. None where the
+/// block could not be read.
 fn mark_of(subscriber: &Subscriber<'_, Vec<u64>, Marked>, sample: &Sample) -> Option<u64>
     ensures mark { IfSome result (λ m. m ≡ mark (number_of sample.now)) }
     ensures published { IfSome result (λ m. number_of sample.now < 100) }
@@ -107,7 +110,8 @@ fn mark_of(subscriber: &Subscriber<'_, Vec<u64>, Marked>, sample: &Sample) -> Op
     reading.get().first().copied()
 }
 
-/// Receives a block if one waits, and reads its mark: whether it is that of the last number. None where it could not be read.
+/// Receives a block if one waits, and appends its mark to what was read. Answers whether it was the block of
+/// the last number. None where a block could not be read, or there is no memory for its mark.
 fn receive_one(
     rt: &impl Wait,
     subscriber: &mut Subscriber<'_, Vec<u64>, Marked>,
@@ -163,7 +167,8 @@ fn read_both<R: Threads + Wait + Sync>(
     Some((first?, second?))
 }
 
-/// The marks that two subscribers read, each in a thread of its own, of what a third thread publishes.
+/// The marks that two subscribers read, each in a thread of its own, of the blocks that a
+/// third thread publishes.
 fn run<R: Threads + Wait + Sync>(
     rt: &R,
     alloc: Global,
@@ -185,8 +190,8 @@ fn run<R: Threads + Wait + Sync>(
     marks
 }
 
-/// The same, from where the two subscribe until both have left. None where one of them was not seen to take part, or nothing can wait
-/// for it.
+/// Subscribes both, runs the three threads until both have left, and takes both passes in. None where one of
+/// the two was not seen to take part, or its queue has no room.
 fn hear<R: Threads + Wait + Sync>(
     rt: &R,
     alloc: Global,
@@ -225,7 +230,7 @@ fn hear<R: Threads + Wait + Sync>(
     Some(marks)
 }
 
-/// The same on a new bus.
+/// Makes a new bus, and returns the marks that both subscribers read.
 fn relay<R: Threads + Wait + Sync>(rt: &R, alloc: Global) -> Option<(Vec<u64>, Vec<u64>)>
     ensures one { IfSome result (λ r. AreNewsFrom 0 r.0.items) }
     ensures other { IfSome result (λ r. AreNewsFrom 0 r.1.items) }
@@ -246,6 +251,7 @@ fn has_last(marks: &[u64]) -> bool {
     marks.last().copied() == Some(3 * (BLOCKS - 1) + 1)
 }
 
+/// Publishes the hundred blocks, and prints whether both subscribers read the last one.
 fn main(rt: HostRuntime) -> io::Result<ExitCode> {
     let Some((one, other)) = relay(&rt, rt.alloc()) else {
         eprintln!(rt; "no memory, or a block could not be read")?;

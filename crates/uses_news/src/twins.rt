@@ -3,7 +3,9 @@
 //! `WrongSubscribers.antt` and `WrongTries.antt` of the bus.
 ghost use Rattle.std.specs.Prelude.{◌≡◌, ◌+◌, ◌<◌, Bool, List, ℕ, [], ◌∷◌, true, false, Some, slice_get, slice_set, IfErr, IfNone, IfOk, IfSome, OnErr};
 ghost use Rattle.lock_free.specs.Robust.Contracts.{WasFreed};
-ghost use Rattle.zero_copy_bus.specs.Books.{IsLoaned};
+ghost use Rattle.lock_free.specs.Unique.Held.{HoldsNothing};
+ghost use Rattle.lock_free.specs.UniqueIndexSet.{made};
+ghost use Rattle.zero_copy_bus.specs.Books.{AllFree, IsLoaned};
 ghost use Rattle.zero_copy_bus.specs.Ends.{expected_at, layout_at, loaned, number_of, numbers_of, slots_at, slots_of, CanSendToAll, HasHad, HasTried, TookOut};
 ghost use Rattle.zero_copy_bus.specs.Ends.{first_before, inlet_at, inlet_before, lanes_of, layout_before, members_left, members_view};
 ghost use Rattle.zero_copy_bus.specs.Ends.{place_at, place_before, place_left, received, receives_left, record_of, roll_of, slots_before};
@@ -14,13 +16,15 @@ ghost use Rattle.zero_copy_bus.specs.Sequences.{Rises};
 ghost use Rattle.zero_copy_slots.specs.Slots.{number_in, slot_in, value_in};
 
 use lock_free::mpmc::container::{ContainerAddFailure, ContainerRemoveError, OwnerId};
+use lock_free::mpmc::unique_index_set::Pass;
 use std::sync::Wait;
 use zero_copy_bus::error::{LoanFailure, SubscribeFailure};
 use zero_copy_bus::publisher::{Loan, Publisher};
 use zero_copy_bus::subscriber::{Left, Sample, Seat, Subscriber};
 use zero_copy_slots::{Keeps, Reading};
 
-/// Who has subscribed takes part as this owner, as of a look of this call, and who is refused is told why.
+/// A subscriber that `subscribe` returns takes part as this owner, as of a look of this
+/// call. A refusal says why.
 pub fn subscribe<'a, X: Drop, K: Keeps<X>>(
     publisher: &mut Publisher<'a, X, K>,
     rt: &impl Wait,
@@ -35,7 +39,7 @@ pub fn subscribe<'a, X: Drop, K: Keeps<X>>(
     publisher.subscribe(rt, owner)
 }
 
-/// Where nobody gets a seat, a lane is lost at most that nobody had. A seat looks at no registry.
+/// If no seat is given, only free lanes may be lost. `seat` makes no look at the registry.
 pub fn seat<'a, X: Drop, K: Keeps<X>>(publisher: &mut Publisher<'a, X, K>) -> Option<Seat<'a, X, K>>
     ensures none { IfNone result (EachLane StaysOrLost (lanes_of publisher.old) (lanes_of publisher.new)) }
     ensures looks { HasNotLooked (roll_of publisher.old) (roll_of publisher.new) }
@@ -43,7 +47,8 @@ pub fn seat<'a, X: Drop, K: Keeps<X>>(publisher: &mut Publisher<'a, X, K>) -> Op
     publisher.seat()
 }
 
-/// Who joins has the seat's end of the lane, and a seat that comes back is the one that it was.
+/// A subscriber has the end of the lane that its seat had. A seat that comes back from a
+/// refused `join` is unchanged.
 pub fn join<'a, X: Drop, K: Keeps<X>>(
     seat: Seat<'a, X, K>,
     rt: &impl Wait,
@@ -59,14 +64,14 @@ pub fn join<'a, X: Drop, K: Keeps<X>>(
     seat.join(rt, owner)
 }
 
-/// Who looks has asked the registry.
+/// `update` makes one look at the registry.
 pub fn update<X: Drop, K: Keeps<X>>(publisher: &mut Publisher<'_, X, K>, rt: &impl Wait)
     ensures looked { (changed : Bool) × HasLooked changed (roll_of publisher.old) (roll_of publisher.new) }
 {
     publisher.update(rt);
 }
 
-/// A dead owner is taken out of the registry before the look.
+/// `recover` takes the dead owner's records out of the registry, and then looks at it.
 pub fn recover<X: Drop, K: Keeps<X>>(
     publisher: &mut Publisher<'_, X, K>,
     rt: &impl Wait,
@@ -77,14 +82,14 @@ pub fn recover<X: Drop, K: Keeps<X>>(
     publisher.recover(rt, dead);
 }
 
-/// The lanes stay while slots are counted.
+/// `borrowed` changes no lane.
 pub fn borrowed<X: Drop, K: Keeps<X>>(publisher: &mut Publisher<'_, X, K>) -> usize
     ensures lanes { lanes_of publisher.new ≡ lanes_of publisher.old }
 {
     publisher.borrowed()
 }
 
-/// Where a loan is refused since there is no record, there is none. No refused loan uses a record up.
+/// A loan that is refused by `NoRecord` finds no record to write. No refused loan uses a record up.
 pub fn loan<'a, X: Drop, K: Keeps<X>>(
     publisher: &mut Publisher<'a, X, K>,
     rt: &impl Wait,
@@ -95,15 +100,16 @@ pub fn loan<'a, X: Drop, K: Keeps<X>>(
     publisher.loan(rt)
 }
 
-/// What comes back uses no record up.
+/// `collect` uses no record up.
 pub fn collect<X: Drop, K: Keeps<X>>(publisher: &mut Publisher<'_, X, K>)
     ensures spares { spares_in publisher.new ≡ spares_in publisher.old }
 {
     publisher.collect();
 }
 
-/// A loan that is waited for is of a slot that was not on loan, and that no subscriber has. No record is sent meanwhile, none is used
-/// up but that of the loan, and of a subscriber's slots those alone are taken back that came back.
+/// A loan that is waited for is of a slot that was not on loan, and that no subscriber holds. Meanwhile no
+/// record is sent, only the record of the loan is used up, and of a subscriber's slots only those that came
+/// back are taken back.
 pub fn loan_waiting<'a, X: Drop, K: Keeps<X>>(
     publisher: &mut Publisher<'a, X, K>,
     rt: &impl Wait,
@@ -118,7 +124,7 @@ pub fn loan_waiting<'a, X: Drop, K: Keeps<X>>(
     publisher.loan_waiting(rt)
 }
 
-/// So it is where there is a limit, and also where no loan comes.
+/// The clauses of `loan_waiting` hold of `loan_within` too, also if no loan comes.
 pub fn loan_within<'a, X: Drop, K: Keeps<X>>(
     publisher: &mut Publisher<'a, X, K>,
     rt: &impl Wait,
@@ -135,7 +141,7 @@ pub fn loan_within<'a, X: Drop, K: Keeps<X>>(
     publisher.loan_within(rt, tries)
 }
 
-/// A record that is waited for is the next one that came and is not older than what the subscriber takes.
+/// A record that is waited for is the first one that came with a number not below the one expected.
 pub fn receive_waiting<X: Drop, K: Keeps<X>>(
     subscriber: &mut Subscriber<'_, X, K>,
     rt: &impl Wait,
@@ -150,7 +156,8 @@ pub fn receive_waiting<X: Drop, K: Keeps<X>>(
     subscriber.receive_waiting(rt)
 }
 
-/// So it is where there is a limit, and where no record comes each one that came is older.
+/// The clauses of `receive_waiting` hold of `receive_within` too. If no record comes, each number that came
+/// was below the one expected.
 pub fn receive_within<X: Drop, K: Keeps<X>>(
     subscriber: &mut Subscriber<'_, X, K>,
     rt: &impl Wait,
@@ -166,14 +173,14 @@ pub fn receive_within<X: Drop, K: Keeps<X>>(
     subscriber.receive_within(rt, tries)
 }
 
-/// What a loan shows is its value.
+/// A loan derefs to its value.
 pub fn shown<'b, X: Drop, K: Keeps<X>>(loan: &'b Loan<'_, X, K>) -> &'b X
     ensures { result.now ≡ loan.now.value }
 {
     &**loan
 }
 
-/// What a reading shows keeps its rule, and is the value that lies there.
+/// A reading derefs to the value that lies in its slot, which keeps the rule.
 pub fn read_shown<'b, X, K: Keeps<X>>(reading: &'b Reading<'_, X, K>) -> &'b X
     ensures fits { K.holds (number_in reading.now) result.now }
     ensures same { value_in reading.now ≡ Some result.now }
@@ -181,7 +188,7 @@ pub fn read_shown<'b, X, K: Keeps<X>>(reading: &'b Reading<'_, X, K>) -> &'b X
     &**reading
 }
 
-/// What is read lies in the slot of the sample.
+/// The record that is read lies in the slot of the sample, with its number.
 pub fn read<'b, X: Drop, K: Keeps<X>>(
     subscriber: &'b Subscriber<'_, X, K>,
     sample: &Sample,
@@ -191,7 +198,8 @@ pub fn read<'b, X: Drop, K: Keeps<X>>(
     subscriber.read(sample).ok()
 }
 
-/// Who leaves is no more in the registry, or comes back as it was and is told why.
+/// A subscriber that leaves has no record in the registry any more. If the registry refuses, it comes back
+/// unchanged, with the reason.
 pub fn leave<'a, X: Drop, K: Keeps<X>>(
     subscriber: Subscriber<'a, X, K>,
     rt: &impl Wait,
@@ -205,8 +213,9 @@ pub fn leave<'a, X: Drop, K: Keeps<X>>(
     subscriber.leave(rt)
 }
 
-/// The lane of one whose pass is taken in stays his, with what he holds and what he gave back. He takes part no more. The pass is
-/// taken in also where the publisher's end of the lane is gone.
+/// The lane of a subscriber whose pass is taken in does not become free, and the subscriber takes part no
+/// more. The table and the slots that it gave back are unchanged. The pass is taken in also if the publisher
+/// has no guard of the lane any more.
 pub fn rejoin<X: Drop, K: Keeps<X>>(publisher: &mut Publisher<'_, X, K>, left: Left<'_>)
     requires { IsOfLane left publisher.old }
     ensures taken_in { AtLane (place_left left.entry) (WasRejoined (receives_left left.entry)) (lanes_of publisher.old) (lanes_of publisher.new) }
@@ -214,4 +223,12 @@ pub fn rejoin<X: Drop, K: Keeps<X>>(publisher: &mut Publisher<'_, X, K>, left: L
     ensures table { table_of publisher.new ≡ table_of publisher.old }
 {
     publisher.rejoin(left);
+}
+
+/// A publisher by whose table nobody holds a slot gives up a pass that holds none: also a slot that it kept went
+/// back to the pool.
+pub fn finish<X: Drop, K: Keeps<X>>(publisher: Publisher<'_, X, K>) -> (Pass, Vec<X>)
+    ensures free { AllFree (table_of publisher.entry) → HoldsNothing (made result.0) }
+{
+    publisher.finish()
 }

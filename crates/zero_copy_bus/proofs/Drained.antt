@@ -1,4 +1,5 @@
--- What waits in a lane is taken out by a pass of the lane's own: that counts as received, and nothing waits then.
+-- An `update` that frees a lane takes out what waits in it, by a pass that is split off the lane's own: these
+-- words count as received, and nothing waits then.
 use Rattle.std.proofs.Common.{◌≡◌, ℕ, ◌+◌, ◌-◌, ◌/◌, ◌^◌, ◌<◌, List, [], ◌∷◌, ◌++◌, length, sum_by, refl, sym, ap, subst, ◌∙◌, arith}
 use Rattle.std.proofs.Common.{append-nil, append_assoc, length-append}
 use Rattle.std.proofs.lemmas.Grind.{flat_map-append}
@@ -36,19 +37,22 @@ use Rattle.zero_copy_loans.proofs.Merged.{have_passed}
 
 -- ---- one pop after the other
 
+-- before the first pop no words were taken
 pub takes_none_yet : (v : View ℕ) → TakesOn [] v v
 takes_none_yet v t before k = subst (λ ws. HasTaken ws t v) (sym (append-nil before)) k
 
+-- one more pop took one word more
 pub takes_more : (xs : List ℕ) (x : ℕ) (v w u : View ℕ) → TakesOn xs v w → Goes w u → HasPopped (Some (Index x)) w u → TakesOn (xs ++ x ∷ []) v u
 takes_more xs x v w u h goes p t before k =
     subst (λ ws. HasTaken ws t u) (append_assoc before xs (x ∷ [])) (takes_one (before ++ xs) x t w u (h t before k) goes p)
 
+-- a pop that found nothing took no word
 pub takes_end : (xs : List ℕ) (v w u : View ℕ) → TakesOn xs v w → Goes w u → HasPopped None w u → TakesOn xs v u
 takes_end xs v w u h goes p t before k = takes_nothing (before ++ xs) t w u (h t before k) goes p
 
 -- ---- one call after the other
 
--- what is known of the lane's queue stays
+-- a lane that was drained, and whose queue and view are unchanged since, counts as drained from before to now
 pub drained_still : (old mid new : Outlet) → waits_view new ≡ waits_view mid → waits_queue new ≡ waits_queue mid → WasDrained old mid
     → WasDrained old new
 drained_still old mid new same queue d =
@@ -76,7 +80,7 @@ drained_still old mid new same queue d =
 whole_again : (t : Share) → IsAll t → IsAll (both_of (half_of t) (half_of t))
 whole_again t is = let n = t.part in let m = t.parts in rw (sym is) (omega arith)
 
--- who pushes nothing
+-- a pass that does nothing has pushed nothing
 idle : (v : View ℕ) → HasPushedUpTo [] [] v v
 idle v =
     record {
@@ -93,6 +97,7 @@ idle v =
 module _ (s : Shape) (capacity : ℕ) (sent back received words : List ℕ) (old kept other b z : View ℕ) (fits : length sent < 2 ^ 64 - 1)
     (known : HasAll s sent back received old) (cut : HasSplit old kept other) (popped : HasTaken words other b) (both : HasJoined kept b z)
     (all : MissesNothing z) (history : IsHistory one_word kinds.Overflow capacity z.seen) where
+  -- The pass that joined what the lane had and what came back has the whole queue.
   whole : IsAll z.share
   whole =
       let is : z.share ≡ both_of kept.share b.share = both.share in

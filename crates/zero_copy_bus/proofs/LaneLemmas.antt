@@ -1,4 +1,5 @@
--- What goes on from lane to lane.
+-- How facts about lists and lanes go on from one lane to the next in loops over all
+-- lanes (`DoneTo`, `done_more`).
 use Rattle.std.proofs.Common.{◌≡◌, ◌≢◌, ◌⊎◌, ℕ, zero, suc, ◌+◌, ◌<◌, ◌≤◌, Bool, false, cond, Some, List, [], ◌∷◌}
 use Rattle.std.proofs.Common.{◌++◌, length, map, take, set, get_or, refl, ap, sym, ◌∙◌, subst, inl, inr, ⊎_elim}
 use Rattle.std.proofs.Common.{arith}
@@ -64,7 +65,8 @@ module _ {X : Type 0} where
   got_or (y ∷ xs) zero x d e = cc
   got_or (y ∷ xs) (suc n) x d e = got_or xs n x d e
 
-  -- one more is counted, where what was counted before is so too
+  -- the count up to a place goes on to the next place, for a test that agrees with the former
+  -- one before that place
   pub count_more : (p q : X → Bool) (xs : List X) (n number : ℕ) (x : X) (b : Bool)
       → ((k : ℕ) (x : X) → k < n → slice_get xs k ≡ Some x → p x ≡ q x) → slice_get xs n ≡ Some x
       → number ≡ count_by p (take n xs) → q x ≡ b → number + cond b 1 0 ≡ count_by q (take (n + 1) xs)
@@ -100,7 +102,7 @@ module _ {X : Type 0} where
     got_pushed (z ∷ xs) x zero y e = inl e
     got_pushed (z ∷ xs) x (suc k) y e = ⊎_elim (λ is. inl is) (λ at. inr ((let it : k ≡ length xs = at.0 in omega arith), at.1)) (got_pushed xs x k y e)
 
--- one lane more at the next place, where nobody takes part
+-- a lane in which nobody takes part is appended at its place
 module _ (lanes : List Outlet) (lane : Outlet) where
   pub placed_more : HaveTheirPlaces (holders_in lanes) → bit_of (holder_of lane) ≡ length lanes + 1 → HaveTheirPlaces (holders_in (lanes ++ lane ∷ []))
   placed_more placed next_bit place holder got = grind (arith, length, bit_of, holder_of, got_pushed)
@@ -113,7 +115,7 @@ pub placed_at : (lanes : List Outlet) (place : ℕ) (lane : Outlet) → HaveThei
     → slice_get lanes place ≡ Some lane → bit_of (holder_of lane) ≡ place + 1
 placed_at lanes place lane placed is = placed place (holder_of lane) (get_map holder_of lanes place lane is)
 
--- a lane is named as before, where all are
+-- if all lanes have the same holders before and after, so has this lane
 pub same_holder : (news olds : List Outlet) (place : ℕ) (new old : Outlet) → holders_in news ≡ holders_in olds
     → slice_get news place ≡ Some new
     → slice_get olds place ≡ Some old
@@ -124,32 +126,38 @@ same_holder news olds place new old same got was =
     let both : slice_get (holders_in news) place ≡ slice_get (holders_in olds) place = ap (λ hs. slice_get hs place) same in
     cc
 
--- so it is below a place, and from there on nothing has changed
+-- A loop over the lanes has come to place n: `R` holds of each lane below, and the lanes
+-- from n on are unchanged.
 pub record DoneTo (R : Outlet → Outlet → Type 0) (n : ℕ) (olds news : List Outlet) : Type 0 where
   pub done : (k : ℕ) (old : Outlet) → k < n → slice_get olds k ≡ Some old
       → (new : Outlet) × (slice_get news k ≡ Some new) × R old new
   pub rest : (k : ℕ) → n ≤ k → slice_get news k ≡ slice_get olds k
 
+-- before the loop nothing is done
 pub done_none : (R : Outlet → Outlet → Type 0) (lanes : List Outlet) → DoneTo R 0 lanes lanes
 done_none R lanes = record { done = λ k old lt is. absurd (omega arith); rest = λ k le. refl }
 
+-- a loop that has come past the last lane is done with each
 pub done_all : (R : Outlet → Outlet → Type 0) (n : ℕ) (olds news : List Outlet) → length olds ≤ n → DoneTo R n olds news → EachLane R olds news
 done_all R n olds news long done place old is = let lt = got_within olds place old is in done.done place old (omega arith) is
 
+-- what holds of each lane holds in any weaker form
 pub each_more : (R S : Outlet → Outlet → Type 0) (olds news : List Outlet)
     → ((k : ℕ) (old new : Outlet) → slice_get olds k ≡ Some old → R old new → S old new) → EachLane R olds news
     → EachLane S olds news
 each_more R S olds news more each place old is = let it = each place old is in (it.0, it.1, more place old it.0 is it.2)
 
--- of bits above a place nothing has changed
+-- the holders of bits above n hold the same slots in both tables
 abbrev pub KeepsAbove : ℕ → List Holders → List Holders → Type 0
 KeepsAbove n old new = (i : ℕ) → n < i → i < 64 → KeepsBit i old new
 
+-- a change for the holder of bit n + 1 leaves the bits above that
 pub above_more : (n : ℕ) (holder : Holder) (one two three : List Holders) → bit_of holder ≡ n + 1
     → KeepsAbove n one two → KeepsOthers holder two three → KeepsAbove (n + 1) one three
 above_more n holder one two three next_bit above others i over low slot = grind arith
 
--- whom one bit more stands for
+-- `R` relates a lane and the table before and after. It stays true if the table changes later (`still`) or
+-- changed before (`from`) for other holders only.
 module _ (R : List Holders → List Holders → Outlet → Outlet → Type 0)
     (still : (one two three : List Holders) (old new : Outlet) → KeepsSlots (holder_of old) two three → R one two old new → R one three old new)
     (from : (one two three : List Holders) (old new : Outlet) → KeepsSlots (holder_of old) one two
@@ -168,7 +176,7 @@ module _ (R : List Holders → List Holders → Outlet → Outlet → Type 0)
       bit : bit_of (holder_of was) ≡ n + 1
       bit = placed_at olds n was placed was_old
 
-      -- so it is of that lane
+      -- lane n itself: the former steps left its subscriber's slots
       here : (k : ℕ) (old : Outlet) → k ≡ n → slice_get olds k ≡ Some old → (new : Outlet) × (slice_get (set news n now) k ≡ Some new) × R one three old new
       here k old e got =
           let there : slice_get (set news n now) n ≡ Some now = get_same news n now (got_within news n was is) in
@@ -182,7 +190,7 @@ module _ (R : List Holders → List Holders → Outlet → Outlet → Type 0)
             subst (λ o. R one three o now) same (from one two three was now kept loans step),
           )
 
-      -- so it is of each lane before it
+      -- a lane before it: this step leaves its subscriber's slots
       below : (k : ℕ) (old : Outlet) → k < n → slice_get olds k ≡ Some old → (new : Outlet) × (slice_get (set news n now) k ≡ Some new) × R one three old new
       below k old lt got =
           let it = done.done k old lt got in

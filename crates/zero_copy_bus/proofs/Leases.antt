@@ -22,17 +22,18 @@ use Rattle.zero_copy_bus.specs.Rolls.{HasLooked}
 use Rattle.zero_copy_bus.proofs.LaneLemmas.{get_map, map_got}
 use Rattle.zero_copy_slots.specs.declared.Keeps.{Ghosts}
 
--- who takes part has the other end
+-- a lane that takes part is let
 part_is_let : (t : Tenancy) (b : Bool) → (opens t && b) ≡ true → (lets t && b) ≡ true
 part_is_let Free b on = absurd (true≢false (sym on))
 part_is_let Closed b on = absurd (true≢false (sym on))
 part_is_let Open b on = on
 part_is_let Lost b on = absurd (true≢false (sym on))
 
+-- with the same passes the guard knows the same
 pub same_sends : (old new : Outlet) → SamePasses old new → sends_view new ≡ sends_view old
 same_sends old new same = λ i. end_view (view (same.waits i)) (same.sends i)
 
--- a lane that was let, and has then the same passes and is open, was let
+-- a lane that was let, and then keeps its passes and takes part, counts as let from before to then
 let_still : (theirs : View ℕ) (old mid new : Outlet) → SamePasses mid new → is_open new ≡ true → WasLet theirs old mid → WasLet theirs old new
 let_still theirs old mid new same on h =
     record {
@@ -53,7 +54,7 @@ let_still theirs old mid new same on h =
       waits = h.waits;
     }
 
--- the same by other names
+-- the lane at a place was let, said with an equal place, queue and view
 pub moved : (place at : ℕ) (queue other : QueueId) (theirs its : View ℕ) (olds news : List Outlet) → place ≡ at → queue ≡ other
     → theirs ≡ its → AtLane at (WasLetOf other its) olds news → AtLane place (WasLetOf queue theirs) olds news
 moved place at queue other theirs its olds news e f g h =
@@ -61,6 +62,7 @@ moved place at queue other theirs its olds news e f g h =
     (subst (λ (q : QueueId). AtLane at (WasLetOf q theirs) olds news) (sym f)
     (subst (λ (v : View ℕ). AtLane at (WasLetOf other v) olds news) (sym g) h))
 
+-- passes that are unchanged by two calls are unchanged by both together
 pub both_same : (old mid new : Outlet) → SamePasses old mid → SamePasses mid new → SamePasses old new
 both_same old mid new one two = record { sends = two.sends ∙ one.sends; waits = two.waits ∙ one.waits }
 
@@ -78,7 +80,7 @@ module _ (roll : Roll) (one two : List Holders) (place : ℕ) (olds mids news : 
       let takes : is_open it.0 ≡ true = ap is_open (sym same) ∙ on.2 in
       (at.0, it.0, at.2, it.1, (at.4.0, let_still theirs at.0 at.1 it.0 (it.2.passes takes) takes at.4.1))
 
-  -- where he is not, nobody takes part there
+  -- if the look does not show the subscriber, its lane does not take part
   pub hidden_after : (queue : QueueId) (theirs : View ℕ) → AtLane place (WasLetOf queue theirs) olds mids
       → (slice_get (open_in news) place ≡ Some true → ⊥)
       → slice_get (open_in news) place ≡ Some false
@@ -90,26 +92,29 @@ module _ (roll : Roll) (one two : List Holders) (place : ℕ) (olds mids news : 
       go true is = absurd (off is)
       go false is = is
 
-  -- and the others
+  -- any other lane is unchanged by the seat, or was lost; and one that takes part before and
+  -- after keeps its passes
   pub others_after : EachOther place StaysOrLost olds mids → EachOther place OthersStay olds news
   others_after others k old ne got =
       let mid = others k old ne got in
       let it = each k mid.0 mid.1 in
       (it.0, it.1, record { free = free mid.0 it.0 it.2 mid.2; taking = taking mid.0 it.0 it.2 mid.2 })
     where
+      -- a lane that was free is free or lost after both calls
       free : (mid new : Outlet) → IsSettled roll one two mid new → StaysOrLost old mid → IsFree old → StaysOrLost old new
       free mid new settled (inl still) none =
           let rest = settled.still (inl (still.tenancy ∙ none)) in
           inl (record { tenancy = rest.tenancy ∙ still.tenancy; passes = both_same old mid new still.passes rest.passes })
       free mid new settled (inr lost) none = inr (none, (settled.still (inr lost.1)).tenancy ∙ lost.1)
 
+      -- a lane that takes part before and after has the same passes
       taking : (mid new : Outlet) → IsSettled roll one two mid new → StaysOrLost old mid → is_open old ≡ true → is_open new ≡ true → SamePasses old new
       taking mid new settled (inl still) was on = both_same old mid new still.passes (settled.passes on)
       taking mid new settled (inr lost) was on =
           let leased : is_let mid ≡ true = (settled.takes.0 on).0 in
           absurd (true≢false (sym leased ∙ ap (λ t. lets t && has_end mid) lost.1))
 
--- where one lane is closed, who takes part took part before
+-- if the lane at one place stops taking part, the lanes that take part are still ones that the roll shows
 pub shown_but : (roll : Roll) (taking : List Bool) (place : ℕ) → AreShown roll taking → AreShown roll (slice_set taking place false)
 shown_but roll taking place shown k is = shown k (before taking place k is)
   where
@@ -122,7 +127,7 @@ shown_but roll taking place shown k is = shown k (before taking place k is)
     before (x ∷ xs) (suc n) (suc j) e = before xs n j e
 
 module _ {X K : Type 0} {rule : Ghosts K X} where
-  -- who was given a lane
+  -- A subscriber was given a lane (p to q), and then the publisher looked (q to r).
   pub seated : (p q r : Publisher X K rule) (seat : Seat X K rule) (s : Subscriber X K rule)
       → place_at s ≡ place_before seat
       → receives_queue s ≡ receives_at seat
@@ -146,7 +151,7 @@ module _ {X K : Type 0} {rule : Ghosts K X} where
         rest = subst (λ t. KeepsRest (lanes_of q) t (table_of r)) table rest;
       }
 
-  -- and is not seen to take part
+  -- the look does not show the subscriber that was given a lane
   pub not_shown : (owner : ℕ) (p r : Publisher X K rule) (s : Subscriber X K rule) → (record_of s).owner ≡ owner
       → WasSeated p r s
       → (changed : Bool)

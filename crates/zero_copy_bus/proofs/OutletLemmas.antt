@@ -1,4 +1,5 @@
--- What a call does to a lane, as the table goes on before and after it.
+-- What a call does to one lane stays true when the table changes before or after it for other holders: of
+-- `publish`, `collect` and `update`, one lane after the other.
 use Rattle.std.proofs.Common.{◌≡◌, ◌≢◌, ◌⊎◌, ℕ, ◌+◌, ◌<◌, Bool, true, cond, take, Option, Some, None, List, [], ◌∷◌, ◌++◌, length}
 use Rattle.std.proofs.Common.{map, ◌==◌, ◌&&◌, not, ap, sym, ◌∙◌, subst, inl, inr, ⊎_elim, append_assoc}
 use Rattle.std.proofs.Common.{arith, length-append}
@@ -33,14 +34,14 @@ use Rattle.zero_copy_bus.proofs.ViewLemmas.{empty_found, found_since, out_later}
 
 -- ---- a publish
 
--- what the push answered
+-- the two clauses of a push, for no word and for a word that came back, as one predicate
 pub pushed_as : (word : ℕ) (old new : Outlet) (back : Option ℕ) → IfNone back (PushAdded word (sends_view old) (sends_view new))
     → IfSome back (λ y. PushHandedBack (waits_queue old).capacity word y (sends_view old) (sends_view new))
     → HasPushed word back old new
 pushed_as word old new None added handed = added
 pushed_as word old new (Some y) added handed = handed
 
--- what was sent, by the word that was made of it and what came back
+-- a push and the exchange in the table make `IsSent`, for equal words and slots
 pub sent_as : (room number slot word : ℕ) (one two : List Holders) (old new : Outlet) (other : ℕ) (back : Option ℕ) (returned : Option ℕ)
     → word ≡ word_of room number slot → other ≡ slot → returned ≡ slot_back room back
     → IfNone back (PushAdded word (sends_view old) (sends_view new))
@@ -93,26 +94,33 @@ module _ (room number slot : ℕ) (one two three : List Holders) (old new : Outl
         waits = served.waits;
       }
     where
+      -- what can be sent before the others' change can be sent after it
       forth : CanSend one slot (holder_of old) → CanSend two slot (holder_of old)
       forth can = (loans slot ∙ can.0, λ has. can.1 (sym (keeps slot) ∙ has))
 
+      -- what can be sent after the others' change could be sent before it
       back : CanSend two slot (holder_of old) → CanSend one slot (holder_of old)
       back can = (sym (loans slot) ∙ can.0, λ has. can.1 (keeps slot ∙ has))
 
+      -- by the earlier table too the subscriber holds it, or it is the slot sent
       before : (n : ℕ) → HasSlot two n (holder_of old) ⊎ (n ≡ slot) → HasSlot one n (holder_of old) ⊎ (n ≡ slot)
       before n some = ⊎_elim (λ has. inl (sym (keeps n) ∙ has)) (λ e. inr e) some
 
+      -- by the later table too the subscriber holds it, or it is the slot sent
       after : (n : ℕ) → HasSlot one n (holder_of old) ⊎ (n ≡ slot) → HasSlot two n (holder_of old) ⊎ (n ≡ slot)
       after n some = ⊎_elim (λ has. inl (keeps n ∙ has)) (λ e. inr e) some
 
 module _ (slot : ℕ) (one two three : List Holders) (lane : Outlet) where
+  -- whether the subscriber gained the slot is the same after a change for other holders
   pub gained_still : KeepsSlots (holder_of lane) two three → has_gained slot one two lane ≡ has_gained slot one three lane
   gained_still keeps = ap (λ b. is_open lane && (not (has_slot one slot lane) && (b == 1))) (sym (keeps slot))
 
+  -- whether the subscriber gained the slot is the same after an earlier change for other holders
   pub gained_from : KeepsSlots (holder_of lane) one two → has_gained slot two three lane ≡ has_gained slot one three lane
   gained_from keeps = ap (λ b. is_open lane && (not (b == 1) && has_slot three slot lane)) (keeps slot)
 
--- one more lane is counted
+-- counted one lane further, the subscribers that gained the slot are one more where that lane's gained it,
+-- else as many
 pub counted : (slot : ℕ) (one two three : List Holders) (n number : ℕ) (lanes : List Outlet) (lane : Outlet) (gained : Bool)
     → HaveTheirPlaces (holders_in lanes) → KeepsAbove n one two → KeepsOthers (holder_of lane) two three
     → slice_get lanes n ≡ Some lane → number ≡ count_by (has_gained slot one two) (take n lanes)
@@ -124,14 +132,16 @@ counted slot one two three n number lanes lane gained placed above others is cou
     count_more (has_gained slot one two) (has_gained slot one three) lanes n number lane gained (below bit) is count
     (sym (e ∙ gained_from slot one two three lane kept))
   where
+    -- Serving this lane does not change whether the subscriber of an earlier lane has gained the slot.
     below : bit_of (holder_of lane) ≡ n + 1 → (k : ℕ) (x : Outlet) → k < n → slice_get lanes k ≡ Some x
         → has_gained slot one two x ≡ has_gained slot one three x
     below bit k x lt got =
         let own : bit_of (holder_of x) ≡ k + 1 = placed_at lanes k x placed got in
         gained_still slot one two three x (λ s. others s (bit_of (holder_of x)) x.holder.within (λ same. absurd (omega arith)))
 
--- what the publisher alone gives up is no subscriber's
+-- after all lanes are served the publisher gives the slot up, which changes nothing for subscribers
 module _ (room number slot : ℕ) (one two three : List Holders) (olds news : List Outlet) (changes : ChangesAt slot publisher two three) where
+  -- a change for the publisher alone leaves what each subscriber holds
   kept : (lane : Outlet) → KeepsSlots (holder_of lane) two three
   kept lane other = grind (arith, changes_keep, publisher, bit_of, holder_of)
 
@@ -146,9 +156,10 @@ module _ (room number slot : ℕ) (one two three : List Holders) (olds news : Li
   pub number_after : count_by (has_gained slot one two) olds ≡ count_by (has_gained slot one three) olds
   number_after = grind (arith, count_same, has_gained, gained_still, kept)
 
--- what was laid is what was on loan
+-- the slot with the record is the slot of the loan, so what holds of the one holds of the other
 module _ (laid slot loaned : ℕ) (one two three : List Holders) (olds news : List Outlet) (at : laid ≡ slot) (is : slot ≡ loaned)
     (changes : ChangesAt slot publisher two three) where
+  -- the change is at the slot with the record
   there : ChangesAt laid publisher two three
   there = subst (λ s. ChangesAt s publisher two three) (sym at) changes
 
@@ -156,6 +167,8 @@ module _ (laid slot loaned : ℕ) (one two three : List Holders) (olds news : Li
   number_of_all gained count =
       subst (λ s. gained ≡ count_by (has_gained s one three) olds) (at ∙ is) (count ∙ number_after 0 0 laid one two three olds news there)
 
+  -- Each lane that was served with the record's slot is served with the slot of the loan, also
+  -- after the publisher gave it up.
   pub served_of : (room laid_number number : ℕ) → laid_number ≡ number → EachLane (IsServed room laid_number laid one two) olds news
       → EachLane (IsServed room number loaned one three) olds news
   served_of room laid_number number same each =
@@ -171,7 +184,8 @@ module _ (slots : ℕ) (one two three : List Holders) (old new : Outlet) where
   pub taken_from : KeepsSlots (holder_of old) one two → KeepsLoans one two → IsTakenBack slots two three old new → IsTakenBack slots one three old new
   taken_from keeps_slots keeps_loans taken_back = grind arith
 
--- so many numbers came back, and nothing else changed
+-- `number` slot numbers were popped from the queue of returns, and the subscriber holds what
+-- it held, except these.
 pub record TakenSo (number : ℕ) (holder : Holder) (before after : List Holders) (old new : View ℕ) : Type 0 where
   pub numbers : List ℕ
   pub taken : handed_out new.seen ≡ handed_out old.seen ++ map Index numbers
@@ -179,7 +193,7 @@ pub record TakenSo (number : ℕ) (holder : Holder) (before after : List Holders
   pub since : IsBeginning old.seen new.seen
   pub has : (slot : ℕ) → HasSlot after slot holder ↔ (HasSlot before slot holder × ¬ Contains numbers slot)
 
--- one number more that came back is one of those that came back
+-- a further slot number is popped and put back: it is one of those that came back
 pub so_more : (number back : ℕ) (holder : Holder) (one two three : List Holders) (u v w : View ℕ)
     → TakenSo number holder one two u v → PopDone (Index back) v w → ChangesAt back holder two three
     → ¬ HasSlot three back holder → TakenSo (number + 1) holder one three u w
@@ -195,12 +209,14 @@ so_more number back holder one two three u v w so out changes lacks =
       has = λ slot. (forth slot, back_from slot);
     }
   where
+    -- a slot held now was held before, and is none of those that came back
     forth : (slot : ℕ) → HasSlot three slot holder → HasSlot one slot holder × ¬ Contains (so.numbers ++ back ∷ []) slot
     forth slot has =
         let ne : slot ≢ back = λ e. lacks (subst (λ n. HasSlot three n holder) e has) in
         let x = (so.has slot).0 (had_elsewhere back holder two three slot changes ne has) in
         (x.0, λ c. ⊎_elim x.1 (λ e. ne (sym e)) (Contains-push_cases so.numbers back slot c))
 
+    -- a slot held before, and none of those that came back, is still held
     back_from : (slot : ℕ) → HasSlot one slot holder × ¬ Contains (so.numbers ++ back ∷ []) slot → HasSlot three slot holder
     back_from slot x =
         let ne : slot ≢ back = λ e. x.1 (subst (λ n. Contains (so.numbers ++ back ∷ []) n) (sym e) (Contains-push so.numbers back)) in
@@ -208,7 +224,7 @@ so_more number back holder one two three u v w so out changes lacks =
 
 module _ (slots number : ℕ) (one two : List Holders) (old now new : Outlet)
     (so : TakenSo number (holder_of old) one two (takes_view old) (takes_view now)) where
-  -- where nothing more waits, all that came back is taken back
+  -- a pop finds the queue of returns empty: the lane is taken back from
   pub so_empty : PopEmpty (takes_view now) (takes_view new) → SamePasses old new → IsTakenBack slots one two old new
   so_empty was same =
       record {
@@ -219,6 +235,7 @@ module _ (slots number : ℕ) (one two : List Holders) (old now new : Outlet)
         passes = same;
       }
 
+  -- as many numbers came back as there are slots: the lane is taken back from
   pub so_full : number ≡ slots → SamePasses old now → IsTakenBack slots one two old now
   so_full all same =
       record { numbers = so.numbers; taken = so.taken; all = inr (so.many ∙ all); has = so.has; passes = same }
@@ -257,7 +274,7 @@ module _ (roll : Roll) (one two three : List Holders) (old new : Outlet) where
         popped = settled.popped;
       }
 
--- who takes part after a look is one whom the roll shows
+-- after an `update` each lane that takes part is one that the roll shows
 pub shown_after : (roll : Roll) (before after : List Holders) (olds news : List Outlet)
     → HaveTheirPlaces (holders_in olds) → holders_in news ≡ holders_in olds
     → EachLane (IsSettled roll before after) olds news → AreShown roll (open_in news)

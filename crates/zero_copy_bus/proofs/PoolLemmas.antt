@@ -1,4 +1,4 @@
--- What stays the same from one call to the next.
+-- Two calls that each leave a pool's set, share and number of slots leave them together.
 use Rattle.std.proofs.Common.{arith}
 use Rattle.zero_copy_bus.specs.declared.pool.Pool.{Pool}
 use Rattle.zero_copy_bus.specs.Pools.{IsSame}

@@ -1,4 +1,5 @@
--- For clients: what goes out by a lane, one call after the other.
+-- For clients: which numbers go out by a lane in each call of the publisher (`HasGoneOut`), and that calls
+-- one after the other add up (`HasPublished`).
 use Rattle.std.proofs.Common.{◌≡◌, ◌⊎◌, ℕ, ◌+◌, ◌/◌, ◌%◌, ◌^◌, ◌<◌, ◌≤◌, Bool, true, false, true≢false, List, [], ◌∷◌, ◌++◌}
 use Rattle.std.proofs.Common.{refl, sym, ap, subst, ◌∙◌, inl, inr, ⊎_elim, arith}
 use Rattle.std.proofs.lemmas.Bool.{cases_eq, cases_lt}
@@ -30,13 +31,16 @@ use Rattle.zero_copy_slots.specs.declared.Keeps.{Ghosts}
 
 -- ---- numbers
 
+-- the empty list of numbers lies between any two bounds that are in order
 pub among_none : (from to : ℕ) → from ≤ to → AreAmong from to []
 among_none from to le = record { next = from; rise = refl; below = le }
 
+-- numbers from b on are also numbers from any lower m on
 among_from : (m b c : ℕ) (ys : List ℕ) → m ≤ b → AreAmong b c ys → AreAmong m c ys
 among_from m b c [] le h = let is : h.next ≡ b = h.rise in let below = h.below in among_none m c (omega arith)
 among_from m b c (y ∷ ys) le h = let first = h.rise.0 in record { next = h.next; rise = (omega arith, h.rise.1); below = h.below }
 
+-- numbers from a up to b, and then from b up to c, are numbers from a up to c
 among_then : (a b c : ℕ) (xs ys : List ℕ) → AreAmong a b xs → AreAmong b c ys → AreAmong a c (xs ++ ys)
 among_then a b c xs ys h k =
     let more = among_from h.next b c ys h.below k in
@@ -44,7 +48,7 @@ among_then a b c xs ys h k =
 
 -- ---- one lane
 
--- nothing goes out
+-- a call that leaves the next number and the lane's passes sends nothing by the lane
 pub out_none : (layout : Layout) (from to : ℕ) (old new : Outlet) → to ≡ from → is_open new ≡ is_open old → SamePasses old new
     → HasGoneOut layout from to old new
 out_none layout from to old new next taking same =
@@ -61,7 +65,7 @@ out_none layout from to old new next taking same =
       all = λ on. next;
     }
 
--- or only to others
+-- a publish with this number sends nothing by a lane whose subscriber does not take part
 out_else : (layout : Layout) (number : ℕ) (old new : Outlet) → (is_open old ≡ true → ⊥) → is_open new ≡ is_open old → SamePasses old new
     → HasGoneOut layout number (number + 1) old new
 out_else layout number old new off taking same =
@@ -78,13 +82,13 @@ out_else layout number old new off taking same =
       all = λ on. absurd (off on);
     }
 
--- a slot that nobody had, and that is on loan then, can go to each
+-- a slot that nobody held, and that the publisher alone holds now, can be sent to each subscriber
 can_go : (slot : ℕ) (before after : List Holders) (lane : Outlet) → is_held (holders_at before slot) ≡ false → ChangesAt slot publisher before after
     → IsLoaned after slot
     → CanSend after slot (holder_of lane)
 can_go slot before after lane free changes loaned = (loaned, lacks)
   where
-    -- nobody has the slot yet
+    -- the subscriber does not hold the slot: its bit is not the publisher's, and only that has changed
     lacks : HasSlot after slot (holder_of lane) → ⊥
     lacks has =
         let bit = bit_of (holder_of lane) in
@@ -94,7 +98,8 @@ can_go slot before after lane free changes loaned = (loaned, lacks)
         let one : 1 ≡ 0 = sym has ∙ (here ∙ (none ∙ bit_at-zero bit)) in
         absurd (omega arith)
 
--- whether one takes part who can be sent the slot is decided
+-- It is decided whether a subscriber takes part and can be sent the slot. The cases are whether it takes
+-- part, whether the slot is on loan, and whether it holds the slot.
 can_send : (b : Bool) (table : List Holders) (slot : ℕ) (holder : Holder)
     → ((b ≡ true) × CanSend table slot holder) ⊎ (((b ≡ true) × CanSend table slot holder) → ⊥)
 can_send false table slot holder = inr (λ x. true≢false (sym x.0))
@@ -104,7 +109,8 @@ can_send true table slot holder =
     ⊎_elim (λ has. inr (λ x. x.1.1 has)) (λ lacks. inl (refl, (on, lacks))) (cases_eq (bit_at (holders_at table slot).bits holder.bit) 1))
     (λ off. inr (λ x. off x.1.0)) (cases_eq (bit_at (holders_at table slot).bits publisher.bit) 1)
 
--- a record is served
+-- what `publish` does to a lane (`IsServed`) sends this number by it, or nothing if its
+-- subscriber does not take part
 pub out_one : (layout : Layout) (number slot : ℕ) (before after : List Holders) (old new : Outlet) → IsWord layout.room layout.places number slot
     → CanSend before slot (holder_of old)
     → is_open new ≡ is_open old
@@ -126,7 +132,7 @@ out_one layout number slot before after old new word can taking served =
     only : AreAll number (number + 1) (number ∷ [])
     only = (refl, refl)
 
-    -- so it is where the record goes out by this lane, whatever comes back
+    -- the record goes out by the lane; the cases are whether the push handed a word back
     sent : IsSent layout.room number slot before after old new → (back : Option ℕ) → HasPushed (word_of layout.room number slot) back old new
         → HasGoneOut layout number (number + 1) old new
     sent s None pushed =
@@ -165,7 +171,7 @@ out_one layout number slot before after old new word can taking served =
           all = λ on. only;
         }
 
--- what goes out by two calls, one after the other, has gone out by both
+-- what goes out by two calls, one after the other, goes out by both together
 pub out_then : (layout : Layout) (a b c : ℕ) (old mid new : Outlet) → HasGoneOut layout a b old mid → HasGoneOut layout b c mid new
     → HasGoneOut layout a c old new
 out_then layout a b c old mid new h k =
@@ -181,7 +187,7 @@ out_then layout a b c old mid new h k =
     same : waits_queue mid ≡ waits_queue old
     same = ap queue_of h.sent.waits
 
-    -- so are the sends of both
+    -- the guard has pushed the words of both calls, if the queue has room
     both : 0 < (waits_queue old).capacity
         → SendsOn (shape_of layout (waits_queue old)) (h.numbers ++ k.numbers) (h.back ++ k.back) (sends_view old) (sends_view new)
     both some =
@@ -192,7 +198,7 @@ out_then layout a b c old mid new h k =
 
 -- ---- all lanes of a publisher
 
--- a lane takes part as before, where all lanes do
+-- if the same lanes take part before and after, this lane takes part after if it did before
 same_open : (olds news : List Outlet) (place : ℕ) (old new : Outlet) → open_in news ≡ open_in olds → slice_get olds place ≡ Some old
     → slice_get news place ≡ Some new
     → is_open new ≡ is_open old
@@ -203,7 +209,7 @@ same_open olds news place old new taking was is =
     cc
 
 module _ {X K : Type 0} {rule : Ghosts K X} where
-  -- a call that leaves the passes of all lanes, and who takes part, publishes nothing
+  -- a call that leaves the passes of all lanes, and the lanes that take part, publishes nothing
   published_by : (old new : Publisher X K rule) → layout_of new ≡ layout_of old → open_in (lanes_of new) ≡ open_in (lanes_of old)
       → next_of new ≡ next_of old → EachLane SamePasses (lanes_of old) (lanes_of new) → HasPublished old new
   published_by old new layout taking next each =
@@ -221,14 +227,14 @@ module _ {X K : Type 0} {rule : Ghosts K X} where
             ));
       }
 
-  -- calls that leave the lanes as they are
+  -- a call that leaves all lanes unchanged publishes nothing
   pub published_none : (old new : Publisher X K rule) → layout_of new ≡ layout_of old → next_of new ≡ next_of old → lanes_of new ≡ lanes_of old
       → HasPublished old new
   published_none old new layout next same =
       published_by old new layout (ap open_in same) next
       (λ place lane is. (lane, subst (λ lanes. slice_get lanes place ≡ Some lane) (sym same) is, record { sends = refl; waits = refl }))
 
-  -- a collect
+  -- `collect` publishes nothing
   pub published_back : (old new : Publisher X K rule) → layout_of new ≡ layout_of old → next_of new ≡ next_of old
       → open_in (lanes_of new) ≡ open_in (lanes_of old)
       → EachLane (IsTakenBack (slots_of old) (table_of old) (table_of new)) (lanes_of old) (lanes_of new)
@@ -236,13 +242,13 @@ module _ {X K : Type 0} {rule : Ghosts K X} where
   published_back old new layout next taking taken =
       published_by old new layout taking next (λ place lane is. (let it = taken place lane is in (it.0, it.1, it.2.passes)))
 
-  -- calls that try to loan
+  -- tries to loan publish nothing
   pub published_tried : (old new : Publisher X K rule) → HasTried old new → HasPublished old new
   published_tried old new tried =
       published_by old new tried.same.layout tried.taking tried.next
       (λ place lane is. (let it = tried.back place lane is in (it.0, it.1, it.2.passes)))
 
-  -- a publish
+  -- it is decided whether there is a word of the next number and this slot
   has_number : (p : Publisher X K rule) (slot : ℕ) → HasNumber p slot ⊎ (HasNumber p slot → ⊥)
   has_number p slot =
       ⊎_elim
@@ -251,13 +257,14 @@ module _ {X K : Type 0} {rule : Ghosts K X} where
       (cases_lt (word_of (room_of p) (next_of p) slot) (2 ^ 64)))
       (λ le. inr (λ x. (let lt = x.0 in absurd (omega arith)))) (cases_lt slot (slots_of p))
 
+  -- the next number rises by 1 at most, whether or not there was a word for the slot
   pub next_most : (slot : ℕ) (old new : Publisher X K rule) → (HasNumber old slot → next_of new ≡ next_of old + 1)
       → ((HasNumber old slot → ⊥) → next_of new ≡ next_of old)
       → next_of new ≤ next_of old + 1
   next_most slot old new next last =
       ⊎_elim (λ has. (let is = next has in omega arith)) (λ no. (let is = last no in omega arith)) (has_number old slot)
 
-  -- a loan that was had
+  -- a slot that `loan` has handed out can be sent to each subscriber
   pub can_send_to_all : (slot : ℕ) (old new : Publisher X K rule) → is_held (holders_at (table_of old) slot) ≡ false
       → ChangesAt slot publisher (table_of old) (table_of new)
       → IsLoaned (table_of new) slot
@@ -278,7 +285,7 @@ module _ {X K : Type 0} {rule : Ghosts K X} where
       many : slots_of old ≡ (layout_of old).places
       many = sym (old.fits ∙ old.sized)
 
-      -- so it has where a number is left
+      -- the case that there is a word of the next number: each lane has sent it, or nothing
       yes : HasNumber old slot → HasPublished old new
       yes word =
           record {

@@ -1,4 +1,4 @@
--- What came to a subscriber, one call after the other.
+-- What came to a subscriber in one call of `receive`, and in calls one after the other (`HasHad`).
 use Rattle.std.proofs.Common.{◌≡◌, ℕ, ◌+◌, ◌%◌, ◌<◌, ◌≤◌, List, [], ◌∷◌, ◌++◌, refl, sym, ap, subst, ◌∙◌, inl, inr}
 use Rattle.std.specs.Prelude.{Some, None}
 use Rattle.model.specs.declared.event.Item.TheVariants.{Index}
@@ -14,7 +14,7 @@ use Rattle.zero_copy_loans.specs.declared.words.Layout.{Layout}
 use Rattle.zero_copy_loans.proofs.Numbers.{receives_nothing, receives_one, receives_other, receives_still, receives_then}
 use Rattle.zero_copy_slots.specs.declared.Keeps.{Ghosts}
 
--- what is delivered one call after another is delivered in all
+-- what two calls delivered, one after the other, is delivered by both together
 pub delivers_then : (a b c : ℕ) (xs ys ds es : List ℕ) → Delivers a xs ds b → Delivers b ys es c → Delivers a (xs ++ ys) (ds ++ es) c
 delivers_then a b c [] ys ds es h more =
     subst (λ zs. Delivers a ys (zs ++ es) c) (sym h.0) (subst (λ n. Delivers n ys es c) h.1 more)
@@ -28,7 +28,7 @@ module _ {X K : Type 0} {rule : Ghosts K X} where
     abbrev s : Shape
     s = shape_of (layout_at old) (receives_queue old)
 
-    -- a call whose pop found none has had no record
+    -- a call whose pop found nothing received no record
     pub had_none : (0 < (receives_queue old).capacity → HasPopped None (receives_view old) (receives_view new)) → expected_at new ≡ expected_at old
         → HasHad [] [] old new
     had_none p same =
@@ -40,7 +40,7 @@ module _ {X K : Type 0} {rule : Ghosts K X} where
           delivers = (refl, same);
         }
 
-    -- a word without a slot
+    -- a call that popped a word of no slot received no record
     pub had_other : (word : ℕ) → (layout_at old).places ≤ word % (layout_at old).room → HasPopped (Some (Index word)) (receives_view old) (receives_view new)
         → expected_at new ≡ expected_at old
         → HasHad [] [] old new
@@ -60,10 +60,11 @@ module _ {X K : Type 0} {rule : Ghosts K X} where
           receives_one s (receives_view old) (receives_view new) number slot within (goes some)
           (subst (λ w. HasPopped (Some (Index w)) (receives_view old) (receives_view new)) (sym is) p)
 
-      -- one that is older than what it takes
+      -- a call that popped a number below the one expected received no record
       pub had_older : number < expected_at old → expected_at new ≡ expected_at old → HasHad (number ∷ []) [] old new
       had_older older same = record { queue = queue; layout = layout; place = place; receives = came; delivers = inl (older, (refl, same)) }
 
+      -- a call that popped a number not below the one expected received its record
       pub had_one : expected_at old ≤ number → expected_at new ≡ number + 1 → HasHad (number ∷ []) (number ∷ []) old new
       had_one le next = record { queue = queue; layout = layout; place = place; receives = came; delivers = inr (le, [], refl, (refl, next)) }
 
@@ -82,7 +83,7 @@ module _ {X K : Type 0} {rule : Ghosts K X} where
         delivers = (refl, same);
       }
 
-  -- what was had one call after another was had in all
+  -- what came in two calls, one after the other, came in both together
   pub had_then : (xs ys ds es : List ℕ) (a b c : Subscriber X K rule) → HasHad xs ds a b → HasHad ys es b c → HasHad (xs ++ ys) (ds ++ es) a c
   had_then xs ys ds es a b c h k =
       record {

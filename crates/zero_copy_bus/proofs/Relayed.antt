@@ -1,4 +1,5 @@
--- The law of what went out by a lane: by that of the two ends of a channel.
+-- The law `LanesPassOn` of what went out by a lane, derived from the laws of a channel's
+-- two ends (`zero_copy_loans`).
 use Rattle.std.proofs.Common.{◌≡◌, ℕ, ◌+◌, ◌-◌, ◌^◌, ◌<◌, List, [], ◌++◌, length, sym, ap, subst, ◌∙◌, append-nil}
 use Rattle.history.specs.declared.view.View.{View}
 use Rattle.lock_free_queues.specs.Queues.Contracts.{HasJoined, HasReleased}
@@ -17,6 +18,7 @@ use Rattle.zero_copy_bus.proofs.Drained.{has_drained, none_left}
 use Rattle.zero_copy_loans.proofs.Numbers.{received_nothing_yet, receives_all, receives_then, sends_all, sends_then, sent_none}
 use Rattle.zero_copy_loans.proofs.Relayed.{passed_on, relays, starts_at}
 
+-- nothing has gone out by a new lane
 begins : (layout : Layout) (lane : Outlet) → IsNew lane → HasAllOf layout [] [] [] lane
 begins layout lane new =
     record { none = new.none; all = starts_at (shape_of layout (waits_queue lane)) (waits_queue lane).capacity (waits_view lane) new.first }
@@ -31,7 +33,7 @@ module _ (layout : Layout) (sent back received numbers others came : List ℕ) (
   last_queue : waits_queue last ≡ waits_queue leased
   last_queue = ap queue_of out.waits
 
-  -- what the publisher has sent up to the end of its half is what went out since the lane was let
+  -- the guard's pass has sent, until its role was released, the numbers that went out since the lane was let
   sends : SendsOn s (numbers ++ []) (others ++ []) (sends_view leased) ends.ours.ended
   sends =
       sends_then s numbers others [] [] (sends_view leased) (sends_view last) ends.ours.ended
@@ -39,12 +41,15 @@ module _ (layout : Layout) (sent back received numbers others came : List ℕ) (
       (out.sends (subst (λ (q : QueueId). 0 < q.capacity) (sym lets.queue) some)))
       (sends_all s roles.Producer (sends_view last) ends.ours.ended ends.ours.goes ends.ours.released ends.ours.list)
 
+  -- the subscriber's pass has received the same when its role is released
   receives : ReceivesOn s (came ++ []) theirs left
   receives = receives_then s came [] theirs end left got (receives_all s roles.Consumer end left goes released)
 
+  -- the guard's pass was joined into the lane's, as it was when the lane was let
   joined : HasJoined (waits_view leased) ends.ours.ended ends.half
   joined = subst (λ v. HasJoined v ends.ours.ended ends.half) (ap view out.waits) ends.ours.both
 
+  -- the pass that was split is the lane's own, since there was no guard
   cut_of : lets.whole ≡ waits_view first
   cut_of = lets.from known.none
 
@@ -78,11 +83,13 @@ module _ (layout : Layout) (sent back received : List ℕ) (old new : Outlet) (k
   abbrev words : List ℕ
   words = (d.took some).0
 
+  -- the pass that drained the lane has popped these words
   popped : HasTaken words d.other d.left
   popped =
       takes_all words roles.Consumer d.other d.ended d.left
       ((d.took some).1 d.other [] (takes_none roles.Consumer d.other d.begun d.begins.0 d.begins.1)) d.ends.0 d.ends.1
 
+  -- the numbers of these words count as received
   drained : HasAll its sent back (received ++ numbers_in layout.room words) (waits_view new)
   drained =
       has_drained its (waits_queue new).capacity sent back received words (waits_view old) d.kept d.other d.left (waits_view new) fits
@@ -102,6 +109,7 @@ module _ (layout : Layout) (sent back received : List ℕ) (old new : Outlet) (k
         known.all d.cut popped d.both d.all d.history (found.0 some),
   )
 
+-- what the lane's pass knows says that a beginning was received or came back
 tells : (layout : Layout) (sent back received : List ℕ) (lane : Outlet) → HasAllOf layout sent back received lane → IsPassedOn sent received back
 tells layout sent back received lane h = passed_on (shape_of layout (waits_queue lane)) sent back received (waits_view lane) h.all
 

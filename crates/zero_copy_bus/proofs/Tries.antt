@@ -1,4 +1,5 @@
--- Calls that try more than once: what further tries leave of what stood before.
+-- Calls that try more than once (`loan_within`, `loan_waiting`, `receive_within`, `receive_waiting`): what
+-- one try did, and a further one, is what both did (`HasTried`, `HasWaited`).
 use Rattle.std.proofs.Common.{◌≡◌, ℕ, ◌<◌, false, List, [], ◌++◌, map, length, Result, Ok, Err, IfOk, IfErr, refl, sym, ap, subst, ◌∙◌, ⊎_elim, arith}
 use Rattle.std.proofs.Common.{append-nil, append_assoc}
 use Rattle.std.proofs.lemmas.Bool.{cases_eq}
@@ -34,7 +35,7 @@ loans_then one two three first second slot on = second slot (first slot on)
 loans_kept : (old new : List Holders) → KeepsLoans old new → LoansStay old new
 loans_kept old new keeps slot on = keeps slot ∙ on
 
--- one more is on loan
+-- a slot that comes on loan leaves the others on loan
 loans_more : (slot : ℕ) (old new : List Holders) → ChangesAt slot publisher old new → IsLoaned new slot → LoansStay old new
 loans_more slot old new changes lent other on =
     ⊎_elim (λ same. subst (λ k. IsLoaned new k) (sym same) lent)
@@ -50,36 +51,41 @@ gains_loan : (slot : ℕ) (old new : List Holders) → ChangesAt slot publisher 
 gains_loan slot old new changes other i some small has =
     sym (changes_keep slot publisher old new changes other i small (λ same. (let zero : i ≡ 0 = same in absurd (omega arith)))) ∙ has
 
--- what nobody holds has no bit
+-- a slot that nobody holds has no bit
 free_bit : (table : List Holders) (slot i : ℕ) → is_held (holders_at table slot) ≡ false → bit_at (holders_at table slot).bits i ≡ 1 → ⊥
 free_bit table slot i free on =
     let none : bit_at (holders_at table slot).bits i ≡ bit_at 0 i = ap (λ (h : Holders). bit_at h.bits i) (free_is (holders_at table slot) free) in
     let one : 1 ≡ 0 = sym on ∙ (none ∙ bit_at-zero i) in
     absurd (omega arith)
 
--- and is not on loan
+-- a slot that nobody holds is not on loan
 pub free_not_loaned : (table : List Holders) (slot : ℕ) → is_held (holders_at table slot) ≡ false → IsLoaned table slot → ⊥
 free_not_loaned table slot free on = free_bit table slot 0 free on
 
--- what is on loan more
+-- slots that have come on loan in two steps are held by no subscriber, if no subscriber
+-- gains a slot in the second
 alone_then : (one two three : List Holders) → MoreLoansAreAlone one two → MoreLoansAreAlone two three → SubscribersGainNone two three
     → MoreLoansAreAlone one three
 alone_then one two three first second gains slot i on off some small has =
     ⊎_elim (λ was. first slot i was off some small (gains slot i some small has)) (λ not. second slot i on not some small has)
     (cases_eq (bit_at (holders_at two slot).bits 0) 1)
 
+-- if the same slots are on loan, none has come on loan
 alone_kept : (old new : List Holders) → KeepsLoans old new → MoreLoansAreAlone old new
 alone_kept old new keeps slot i on off some small has = off (sym (keeps slot) ∙ on)
 
+-- if only the publisher takes a free slot, this slot is the only one that has come on loan,
+-- and nobody else holds it
 alone_loan : (slot : ℕ) (old new : List Holders) → is_held (holders_at old slot) ≡ false → ChangesAt slot publisher old new → MoreLoansAreAlone old new
 alone_loan slot old new free changes other i on off some small has =
     ⊎_elim (λ same. free_bit old slot i free (subst (λ k. bit_at (holders_at old k).bits i ≡ 1) same had))
     (λ differs. off (had_elsewhere slot publisher old new other changes differs on)) (cases_eq other slot)
   where
+    -- the publisher's change leaves the subscriber's bit
     had : bit_at (holders_at old other).bits i ≡ 1
     had = sym (changes_keep slot publisher old new changes other i small (λ same. (let zero : i ≡ 0 = same in absurd (omega arith)))) ∙ has
 
--- bits for which there is no lane
+-- two steps that leave the bits without a lane leave them together
 rest_then : (olds news : List Outlet) (one two three : List Holders) → holders_in news ≡ holders_in olds → KeepsRest olds one two
     → KeepsRest news two three
     → KeepsRest olds one three
@@ -87,13 +93,14 @@ rest_then olds news one two three same first second i long small slot =
     let many : length news ≡ length olds = sym (length-map news holder_of) ∙ (ap length same ∙ length-map olds holder_of) in
     second i (omega arith) small slot ∙ first i long small slot
 
+-- a change for the publisher alone leaves the bits without a lane
 rest_loan : (slot : ℕ) (lanes : List Outlet) (old new : List Holders) → ChangesAt slot publisher old new → KeepsRest lanes old new
 rest_loan slot lanes old new changes i long small other =
     changes_keep slot publisher old new changes other i small (λ same. (let zero : i ≡ 0 = same in absurd (omega arith)))
 
 -- ---- the lanes
 
--- what has come back
+-- a lane whose subscriber holds the same slots has had none given back
 back_still : (before after : List Holders) (lane : Outlet) → KeepsSlots (holder_of lane) before after → HasGivenBack before after lane lane
 back_still before after lane keeps =
     record {
@@ -106,6 +113,7 @@ back_still before after lane keeps =
     none : (slot : ℕ) → Contains [] slot → ⊥
     none slot c = let lt : c.0 < 0 = c.1 in absurd (omega arith)
 
+-- the slots that came back in two steps, one after the other, are those that came back in both together
 back_then : (one two three : List Holders) (old mid new : Outlet) → holder_of mid ≡ holder_of old → HasGivenBack one two old mid
     → HasGivenBack two three mid new
     → HasGivenBack one three old new
@@ -121,12 +129,14 @@ back_then one two three old mid new same first second =
       passes = record { sends = second.passes.sends ∙ first.passes.sends; waits = second.passes.waits ∙ first.passes.waits };
     }
   where
+    -- A slot held after both was held before both, and did not come back.
     forth : (slot : ℕ) → HasSlot three slot (holder_of old) → HasSlot one slot (holder_of old) × ¬ Contains (first.numbers ++ second.numbers) slot
     forth slot has =
         let x = (second.has slot).0 (subst (λ h. HasSlot three slot h) (sym same) has) in
         let y = (first.has slot).0 (subst (λ h. HasSlot two slot h) same x.0) in
         (y.0, λ c. ⊎_elim y.1 x.1 (Contains-append_cases first.numbers second.numbers slot c))
 
+    -- A slot held before both that did not come back is held after both.
     from : (slot : ℕ) → HasSlot one slot (holder_of old) × ¬ Contains (first.numbers ++ second.numbers) slot → HasSlot three slot (holder_of old)
     from slot x =
         let y = (first.has slot).1 (x.0, λ c. x.1 (Contains-append_left first.numbers second.numbers slot c)) in
@@ -137,6 +147,7 @@ backs_still : (before after : List Holders) (lanes : List Outlet) → ((lane : O
     → EachLane (HasGivenBack before after) lanes lanes
 backs_still before after lanes keeps place lane is = (lane, is, back_still before after lane (keeps lane))
 
+-- the slots of all lanes that came back in two steps are those that came back in both together
 backs_then : (one two three : List Holders) (olds mids news : List Outlet) → holders_in mids ≡ holders_in olds
     → EachLane (HasGivenBack one two) olds mids
     → EachLane (HasGivenBack two three) mids news
@@ -147,7 +158,7 @@ backs_then one two three olds mids news holders first second place lane is =
     let same : holder_of mid.0 ≡ holder_of lane = same_holder mids olds place mid.0 lane holders mid.1 is in
     (last.0, last.1, back_then one two three lane mid.0 last.0 same mid.2 last.2)
 
--- what the publisher alone changes is no subscriber's
+-- a change for the publisher alone leaves the slots of a lane's subscriber
 kept_by : (slot : ℕ) (old new : List Holders) (lane : Outlet) → ChangesAt slot publisher old new → KeepsSlots (holder_of lane) old new
 kept_by slot old new lane changes other =
     let some : 0 < bit_of (holder_of lane) = lane.subscribes in
@@ -202,7 +213,7 @@ module _ {X K : Type 0} {rule : Ghosts K X} where
         next = second.next ∙ first.next;
       }
 
-  -- what was given back is taken back
+  -- a `collect` is part of a try: the slots that were given back are taken back
   pub tried_collect : (p q : Publisher X K rule) → EachLane (IsTakenBack (slots_of p) (table_of p) (table_of q)) (lanes_of p) (lanes_of q)
       → KeepsRest (lanes_of p) (table_of p) (table_of q)
       → GainsNone (table_of p) (table_of q) → KeepsLoans (table_of p) (table_of q) → open_in (lanes_of q) ≡ open_in (lanes_of p)
@@ -226,13 +237,14 @@ module _ {X K : Type 0} {rule : Ghosts K X} where
       }
 
   module _ (p q : Publisher X K rule) (lanes : lanes_of q ≡ lanes_of p) (same : IsSame p q) (next : next_of q ≡ next_of p) where
+    -- If the lanes are unchanged and each holder keeps his slots, nothing came back.
     back_kept : ((lane : Outlet) → KeepsSlots (holder_of lane) (table_of p) (table_of q))
         → EachLane (HasGivenBack (table_of p) (table_of q)) (lanes_of p) (lanes_of q)
     back_kept keeps =
         subst (λ ls. EachLane (HasGivenBack (table_of p) (table_of q)) (lanes_of p) ls) (sym lanes)
         (backs_still (table_of p) (table_of q) (lanes_of p) keeps)
 
-    -- the table stays
+    -- tries that leave the table are as `HasTried` says
     tried_still : table_of q ≡ table_of p → HasTried p q
     tried_still table =
         record {
@@ -246,7 +258,7 @@ module _ {X K : Type 0} {rule : Ghosts K X} where
           next = next;
         }
 
-    -- one slot more is on loan
+    -- a try that got a loan: one slot more is on loan
     pub tried_loan : (slot : ℕ) → is_held (holders_at (table_of p) slot) ≡ false → ChangesAt slot publisher (table_of p) (table_of q)
         → IsLoaned (table_of q) slot
         → HasTried p q
@@ -262,13 +274,13 @@ module _ {X K : Type 0} {rule : Ghosts K X} where
           next = next;
         }
 
-    -- a loan is refused
+    -- a try whose loan was refused
     pub tried_refused : (spares : ℕ) (failure : LoanFailure) → IsTakenFor spares (table_of p) (table_of q) failure → HasTried p q
     tried_refused spares (StillRead slot) taken = tried_loan slot taken.0 taken.1 taken.2
     tried_refused spares (NoSlot failure) taken = tried_still taken
     tried_refused spares NoRecord taken = tried_still taken.0
 
-    -- or had, or refused
+    -- a try, whether its loan was refused or not
     pub tried_asked : (spares : ℕ) (answer : Result (Loan X K) LoanFailure) → IfErr answer (IsTakenFor spares (table_of p) (table_of q))
         → IfOk answer (λ l. is_held (holders_at (table_of p) (loaned l)) ≡ false)
         → IfOk answer (λ l. ChangesAt (loaned l) publisher (table_of p) (table_of q)) → IfOk answer (λ l. IsLoaned (table_of q) (loaned l))
@@ -278,16 +290,18 @@ module _ {X K : Type 0} {rule : Ghosts K X} where
 
   -- ---- a subscriber that tries to receive
 
-  -- no record came that is not older than what it takes
+  -- The subscriber has tried to receive, and no record came: each number that came was
+  -- below the one expected.
   pub record HasWaited (old new : Subscriber X K rule) : Type 0 where
     pub came : List ℕ
     pub had : HasHad came [] old new
     pub slots : slots_at new ≡ slots_at old
 
+  -- before the first try nothing came
   pub waited_none : (s : Subscriber X K rule) → HasWaited s s
   waited_none s = record { came = []; had = had_still s s refl refl refl refl refl; slots = refl }
 
-  -- and then these came
+  -- what came in the tries before, and then in one more, came in all of them together
   pub waited_then : (delivered : List ℕ) (r s t : Subscriber X K rule) → HasWaited r s → (came : List ℕ) × HasHad came delivered s t
       → (came : List ℕ) × HasHad came delivered r t
   waited_then delivered r s t waited more =

@@ -1,4 +1,4 @@
--- What a word says.
+-- The number and the slot come back out of a word by division and remainder.
 use Rattle.std.proofs.Common.{◌≡◌, ℕ, ◌/◌, ◌%◌, ◌<◌, ap, sym, ◌∙◌}
 use Rattle.std.proofs.lemmas.Nat.{div-mul-add, mod-mul-add}
 use Rattle.zero_copy_loans.specs.Words.{word_of}

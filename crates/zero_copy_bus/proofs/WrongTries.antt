@@ -1,5 +1,5 @@
--- What a wrong body of a call that tries more than once would leave or answer, and which of the call's clauses refuses that. A name
--- says what the body does.
+-- What a wrong body of a call that tries more than once would leave or answer, and which of the call's
+-- clauses refuses that. A lemma's name says what the body does.
 use Rattle.std.proofs.Common.{◌≡◌, ◌≢◌, ℕ, ◌+◌, ◌%◌, ◌<◌, ◌≤◌, Some, List, [], ◌∷◌, ◌++◌, map, length, refl, sym, ap, ◌∙◌, inl, inr, arith}
 use Rattle.std.proofs.Common.{append_assoc, length-append}
 use Rattle.std.proofs.lemmas.List.{length-map, same_from_push}
@@ -30,7 +30,7 @@ use Rattle.zero_copy_bus.specs.Sequences.{Delivers, Rises}
 use Rattle.zero_copy_bus.proofs.Words.{slot_in_word}
 use Rattle.zero_copy_slots.specs.declared.Keeps.{Ghosts}
 
--- two calls that are the last of the same view answered the same
+-- if two calls of the same kind are both the last call of one view, they have the same answer
 pub same_answer : (p q : ℕ) (start : Start ℕ) (answer other : Answer ℕ) (wrote also : List (Event ℕ)) (u v w : View ℕ)
     → Called p start answer wrote u w
     → Called q start other also v w
@@ -45,13 +45,13 @@ same_answer p q start answer other wrote also u v w one two =
     (first ∙ sym second)).1 in
     cc
 
--- one pop took one word out
+-- the last pop of a view took one word out
 pub same_word : (word other : ℕ) (u v w : View ℕ) → PopOldest (Index word) u w → PopOldest (Index other) v w → word ≡ other
 same_word word other u v w one two =
     let same : PoppedIndex word ≡ PoppedIndex other = same_answer one.0.by two.0.by _ _ _ _ _ u v w one.0.called two.0.called in
     cc
 
--- where nothing more came back there is no number that did
+-- a list that nothing was appended to has got no number more
 nothing_more : (items : List (Item ℕ)) (numbers : List ℕ) → items ++ map Index numbers ≡ items → (k : ℕ) → k < length numbers → ⊥
 nothing_more items numbers same k lt =
     let back : List (Item ℕ) = map Index numbers in
@@ -63,7 +63,7 @@ nothing_more items numbers same k lt =
 module _ {X K : Type 0} {rule : Ghosts K X} where
   -- ---- the subscriber
 
-  -- the record that came out is given with another slot
+  -- `receive_waiting` returns the record that was popped with another slot
   pub receive_waiting_gives_another_slot : (sample other : Sample) (old new : Subscriber X K rule) → received sample < (layout_at old).room
       → received other < (layout_at old).room
       → received other ≢ received sample
@@ -77,7 +77,7 @@ module _ {X K : Type 0} {rule : Ghosts K X} where
       let given = slot_in_word room (number_of other) (received other) (word_at old other) refl small in
       differs (given ∙ (ap (λ word. word % room) same ∙ sym its))
 
-  -- so it is where there is a limit
+  -- `receive_within` returns the record that was popped with another slot
   pub receive_within_gives_another_slot : (sample other : Sample) (old new : Subscriber X K rule) → received sample < (layout_at old).room
       → received other < (layout_at old).room
       → received other ≢ received sample
@@ -87,7 +87,7 @@ module _ {X K : Type 0} {rule : Ghosts K X} where
   receive_within_gives_another_slot sample other old new within small differs took k =
       receive_waiting_gives_another_slot sample other old new within small differs took k
 
-  -- a record that came is dropped, and the next one is given
+  -- `receive_waiting` drops a record that came, and returns the next one
   pub receive_waiting_drops_a_record : (first second : ℕ) (old new : Subscriber X K rule) → expected_at old ≤ first → first ≢ second
       → HasHad (first ∷ second ∷ []) (second ∷ []) old new
       → ⊥
@@ -97,7 +97,7 @@ module _ {X K : Type 0} {rule : Ghosts K X} where
       go (inl older) = let less = older.0 in absurd (omega arith)
       go (inr given) = let is : second ∷ [] ≡ first ∷ given.1 = given.2 in differs (let same : first ≡ second = cc in same)
 
-  -- or nothing is given
+  -- `receive_within` drops a record that came, and returns None
   pub receive_within_drops_a_record : (number : ℕ) (old new : Subscriber X K rule) → expected_at old ≤ number → HasHad (number ∷ []) [] old new → ⊥
   receive_within_drops_a_record number old new due k = go k.delivers
     where
@@ -105,13 +105,13 @@ module _ {X K : Type 0} {rule : Ghosts K X} where
       go (inl older) = let less = older.0 in absurd (omega arith)
       go (inr given) = let is : [] ≡ number ∷ given.1 = given.2 in absurd (cc)
 
-  -- the record that it gave last is given again
+  -- `receive_waiting` returns the record again that it returned last
   pub receive_waiting_gives_one_twice : (sample : Sample) (old new : Subscriber X K rule) → expected_at old ≡ number_of sample + 1
       → Rises (expected_at old) (number_of sample ∷ []) (expected_at new)
       → ⊥
   receive_waiting_gives_one_twice sample old new had k = let due = k.0 in absurd (omega arith)
 
-  -- and it would be given once more
+  -- `receive_waiting` does not move on, so that a later call could return the record again
   pub receive_waiting_forgets_what_it_gave : (sample : Sample) (old new : Subscriber X K rule) → expected_at new ≡ expected_at old
       → Rises (expected_at old) (number_of sample ∷ []) (expected_at new)
       → ⊥
@@ -122,39 +122,39 @@ module _ {X K : Type 0} {rule : Ghosts K X} where
 
   -- ---- the publisher
 
-  -- the slot was on loan before
+  -- `loan_waiting` loans a slot that was on loan before
   pub loan_waiting_loans_a_slot_twice : (loan : Loan X K) (old : Publisher X K rule) → IsLoaned (table_of old) (loaned loan)
       → ¬ IsLoaned (table_of old) (loaned loan)
       → ⊥
   loan_waiting_loans_a_slot_twice loan old on k = k on
 
-  -- a subscriber has it
+  -- `loan_waiting` loans a slot that a subscriber holds
   pub loan_waiting_loans_what_one_has : (loan : Loan X K) (new : Publisher X K rule) (place : ℕ) (lane : Outlet)
       → slice_get (lanes_of new) place ≡ Some lane → HasSlot (table_of new) (loaned loan) (holder_of lane)
       → CanSendToAll new (loaned loan)
       → ⊥
   loan_waiting_loans_what_one_has loan new place lane there has k = (k place lane there).1 has
 
-  -- two records are used up for one loan
+  -- `loan_waiting` uses up two records for one loan
   pub loan_waiting_uses_up_two_records : (old new : Publisher X K rule) → spares_in new + 2 ≡ spares_in old → spares_in new + 1 ≡ spares_in old → ⊥
   loan_waiting_uses_up_two_records old new fewer k = absurd (omega arith)
 
-  -- or one for none
+  -- `loan_within` uses up a record although it returns no loan
   pub loan_within_uses_up_a_record : (old new : Publisher X K rule) → spares_in new + 1 ≡ spares_in old → spares_in new ≡ spares_in old → ⊥
   loan_within_uses_up_a_record old new fewer k = absurd (omega arith)
 
   module _ (old new : Publisher X K rule) (k : HasTried old new) where
-    -- a loan in hand is forgotten
+    -- `loan_waiting` takes back a slot that is on loan
     pub loan_waiting_forgets_a_loan : (slot : ℕ) → IsLoaned (table_of old) slot → ¬ IsLoaned (table_of new) slot → ⊥
     loan_waiting_forgets_a_loan slot on off = off (k.loans slot on)
 
-    -- a subscriber gets a slot that he had not
+    -- `loan_waiting` gives a subscriber a slot that it did not hold
     pub loan_waiting_gives_a_slot_to_one : (slot i : ℕ) → 0 < i → i < 64 → bit_at (holders_at (table_of old) slot).bits i ≢ 1
         → bit_at (holders_at (table_of new) slot).bits i ≡ 1
         → ⊥
     loan_waiting_gives_a_slot_to_one slot i some small lacks has = lacks (k.gains slot i some small has)
 
-    -- a record goes out
+    -- `loan_waiting` sends a record by a lane
     pub loan_waiting_sends : (place : ℕ) (lane after : Outlet) → slice_get (lanes_of old) place ≡ Some lane
         → slice_get (lanes_of new) place ≡ Some after → after.sends ≢ lane.sends
         → ⊥
@@ -163,7 +163,7 @@ module _ {X K : Type 0} {rule : Ghosts K X} where
         let same : it.0 ≡ after = (let both : Some it.0 ≡ Some after = sym it.1 ∙ is in cc) in
         differs (sym (ap (λ (o : Outlet). o.sends) same) ∙ it.2.passes.sends)
 
-    -- a slot is taken from one who has not given it back
+    -- `loan_waiting` takes a slot from a subscriber that has not given it back
     pub loan_waiting_takes_what_one_has : (slot place : ℕ) (lane after : Outlet) → slice_get (lanes_of old) place ≡ Some lane
         → slice_get (lanes_of new) place ≡ Some after
         → handed_out (takes_view after).seen ≡ handed_out (takes_view lane).seen
@@ -179,28 +179,28 @@ module _ {X K : Type 0} {rule : Ghosts K X} where
         ((it.2.has slot).1
         (had, λ (c : Contains it.2.numbers slot). nothing_more (handed_out (takes_view lane).seen) it.2.numbers (sym all ∙ none) c.0 c.1))
 
-    -- a slot that a subscriber has is kept as one that is still read
+    -- `loan_waiting` keeps a slot on loan that a subscriber holds
     pub loan_waiting_keeps_what_one_has : (slot : ℕ) (lane : Outlet) → IsLoaned (table_of new) slot → ¬ IsLoaned (table_of old) slot
         → HasSlot (table_of new) slot (holder_of lane)
         → ⊥
     loan_waiting_keeps_what_one_has slot lane on off has = k.alone slot (bit_of (holder_of lane)) on off lane.subscribes lane.holder.within has
 
-    -- a number is used up
+    -- `loan_waiting` uses a number up
     pub loan_waiting_uses_a_number : next_of new ≡ next_of old + 1 → ⊥
     loan_waiting_uses_a_number more = let same = k.next in absurd (omega arith)
 
-    -- the publisher looks who takes part
+    -- `loan_waiting` changes which lanes take part
     pub loan_waiting_looks_who_takes_part : open_in (lanes_of new) ≢ open_in (lanes_of old) → ⊥
     loan_waiting_looks_who_takes_part differs = differs k.taking
 
-    -- another set of slots is taken from
+    -- `loan_waiting` takes a slot of another set
     pub loan_waiting_takes_from_another_set : set_in new ≢ set_in old → ⊥
     loan_waiting_takes_from_another_set differs = differs k.same.pool.set
 
-    -- a lane is named as another
+    -- `loan_waiting` changes a lane's holder
     pub loan_waiting_names_a_lane_anew : holders_in (lanes_of new) ≢ holders_in (lanes_of old) → ⊥
     loan_waiting_names_a_lane_anew differs = differs k.same.lanes
 
-    -- the words of records are made in another way
+    -- `loan_waiting` changes how words are made
     pub loan_waiting_changes_the_words : layout_of new ≢ layout_of old → ⊥
     loan_waiting_changes_the_words differs = differs k.same.layout

@@ -1,4 +1,5 @@
--- What clauses see of a bus, and which sizes it may have.
+-- What clauses see of a bus: how many slots it has, which passes are of its set of free slots, and which
+-- sizes `Bus::new` admits.
 use Rattle.std.specs.Prelude.{◌≡◌, ℕ, ◌-◌, ◌^◌, ◌≤◌, None}
 use Rattle.zero_copy_slots.specs.declared.Keeps.{Ghosts}
 use Rattle.lock_free_owners.specs.Container.Names.{container_refusal}
@@ -11,6 +12,7 @@ use Rattle.zero_copy_bus.specs.declared.bus.Sizes.{Sizes}
 use Rattle.zero_copy_bus.specs.Stores.{set_in}
 
 module _ {X K : Type 0} {rule : Ghosts K X} where
+  -- how many slots the bus has
   abbrev pub slots_of : Bus X K rule → ℕ
   slots_of bus = sets.capacity_of (set_in bus.store)
 
@@ -18,7 +20,8 @@ module _ {X K : Type 0} {rule : Ghosts K X} where
   abbrev pub IsPassOf : Bus X K rule → Pass → Type 0
   IsPassOf bus pass = sets.IsPassOf (set_in bus.store) pass
 
--- each part admits its capacity
+-- The sizes are admitted: the set of slots, the registry and the queues each admit their capacity, and there
+-- are at most 63 subscribers.
 pub record IsAdmitted (sizes : Sizes) : Type 0 where
   pub slots : set_refusal sizes.slots ≡ None
   pub subscribers : container_refusal sizes.subscribers ≡ None

@@ -1,4 +1,6 @@
--- What clauses see of the ends of a bus.
+-- What clauses see of the ends of a bus: the publisher, a seat, a subscriber, and what one that left has
+-- kept. A *view* is all that a pass or a guard knows of its queue, a *lane* the two queues between the
+-- publisher and one subscriber.
 use Rattle.std.specs.Prelude.{◌≡◌, ◌≢◌, ◌⊎◌, ℕ, ◌/◌, ◌%◌, ◌<◌, ◌≤◌, Bool, false, Ok, Err, Option, Some, None, List, [], ◌∷◌, slice_get, vec_len}
 use Rattle.steps.specs.declared.container.enums.ContainerRemoveError.{ContainerRemoveError}
 use Rattle.steps.specs.declared.indices.enums.ReleaseMode.TheVariants.{Default}
@@ -47,52 +49,56 @@ use Rattle.zero_copy_loans.specs.declared.error.ReadFailure.TheVariants.{Slot, O
 use Rattle.zero_copy_loans.specs.declared.words.Layout.{Layout}
 use Rattle.zero_copy_slots.specs.Slots.{slots_in, IsUnreadable, IsUntaken}
 
--- nothing changed, and no record to write was left where that is the reason; or one slot more is out, which nobody had, and which the
--- publisher has
+-- Why a loan was refused, and what it did to the table. After `StillRead` the publisher holds that slot,
+-- which nobody held. Otherwise the table is unchanged, and at `NoRecord` no record to write was left.
 abbrev pub IsTakenFor : ℕ → List Holders → List Holders → LoanFailure → Type 0
 IsTakenFor spares old new (StillRead slot) =
     (is_held (holders_at old slot) ≡ false) × ChangesAt slot publisher old new × IsLoaned new slot
 IsTakenFor spares old new (NoSlot e) = new ≡ old
 IsTakenFor spares old new NoRecord = (new ≡ old) × (spares ≡ 0)
 
--- the slot that is read, and the number that its record was published with
+-- the slot of a sample, in which its record lies
 abbrev pub received : Sample → ℕ
 received sample = sample.slot
 
+-- the number with which the sample's record was published
 abbrev pub number_of : Sample → ℕ
 number_of sample = sample.number
 
--- the numbers that came
+-- the number of the sample that a call returned, if it returned one
 abbrev pub numbers_of : Option Sample → List ℕ
 numbers_of (Some sample) = number_of sample ∷ []
 numbers_of None = []
 
--- the slot that is written
+-- the slot of a loan, which the publisher writes
 abbrev pub loaned : {X K : Type 0} → Loan X K → ℕ
 loaned loan = loan.slot
 
--- the slot that was left empty
+-- the slot that a reclaim left empty
 abbrev pub emptied : Emptied → ℕ
 emptied e = e.slot
 
--- what one that left knew of the registry, of the queue that it received from, and of the one by which it gave back
+-- what the pass of a subscriber that left knows of the registry
 abbrev pub members_left : Left → View ℕ
 members_left left = knows left.members
 
+-- what its pass knows of the queue from which it received
 abbrev pub receives_left : Left → View ℕ
 receives_left left = view left.submission
 
+-- what its pass knows of the queue by which it gave slots back
 abbrev pub returns_left : Left → View ℕ
 returns_left left = view left.completion
 
--- which queue it received from, and the place of its lane
+-- which queue the subscriber that left received from
 abbrev pub queue_left : Left → QueueId
 queue_left left = queue_of left.submission
 
+-- the place of the lane that the subscriber that left had
 abbrev pub place_left : Left → ℕ
 place_left left = left.place
 
--- how the words of a lane are made, and how many of them wait at most
+-- how a lane's words are made of a number and a slot, and how many of them wait at most
 abbrev pub shape_of : Layout → QueueId → Shape
 shape_of layout queue = record { room = layout.room; places = layout.places; capacity = queue.capacity }
 
@@ -103,6 +109,7 @@ module _ {X K : Type 0} {rule : Ghosts K X} where
   abbrev pub table_of : Publisher X K rule → List Holders
   table_of p = pools.table_of p.pool
 
+  -- how many slots the publisher's pool has
   abbrev pub slots_of : Publisher X K rule → ℕ
   slots_of p = pools.slots_of p.pool
 
@@ -114,99 +121,113 @@ module _ {X K : Type 0} {rule : Ghosts K X} where
   abbrev pub spares_in : Publisher X K rule → ℕ
   spares_in p = vec_len p.spares
 
-  -- how its words are made, and whether there is one of the next number with this slot
+  -- how the publisher makes a word of a number and a slot
   abbrev pub layout_of : Publisher X K rule → Layout
   layout_of p = p.layout
 
+  -- the factor of the number in a word: a word is number * room + slot
   abbrev pub room_of : Publisher X K rule → ℕ
   room_of p = (layout_of p).room
 
+  -- the next number and this slot make a word: there is such a slot, and the word is below 2^64
   abbrev pub HasNumber : Publisher X K rule → ℕ → Type 0
   HasNumber p slot = IsWord (room_of p) (slots_of p) (next_of p) slot
 
-  -- why a slot is not reclaimed: it is not on loan, or its slot is not to be written
+  -- why a slot is not reclaimed: the publisher does not hold it, or the slot's word says that it is read or
+  -- written, or changed
   abbrev pub IsKept : ℕ → Publisher X K rule → ReclaimFailure → Type 0
   IsKept slot p NotHeld = ¬ IsLoaned (table_of p) slot
   IsKept slot p (InUse failure) = IsUntaken p.records.now slot failure
 
-  -- of which set its pass is, and how much of the right to know the whole it has
+  -- of which set of free slots the publisher's pass is
   abbrev pub set_in : Publisher X K rule → SetId
   set_in p = pools.set_in p.pool
 
+  -- which share of that set's history the publisher's pass has
   abbrev pub share_in : Publisher X K rule → Share
   share_in p = pools.share_in p.pool
 
-  -- its end of each lane, by places, and of the registry
+  -- the publisher's ends of all lanes, by their places
   abbrev pub lanes_of : Publisher X K rule → List Outlet
   lanes_of p = p.outlets.items
 
+  -- the publisher's end of the registry, with the last state that it copied
   abbrev pub roll_of : Publisher X K rule → Roll
   roll_of p = p.roll
 
-  -- the slot is on loan, and no subscriber has it
+  -- the slot is on loan, and no lane's subscriber holds it
   abbrev pub CanSendToAll : Publisher X K rule → ℕ → Type 0
   CanSendToAll p slot =
       (place : ℕ) (lane : Outlet) → slice_get (lanes_of p) place ≡ Some lane → CanSend (table_of p) slot (holder_of lane)
 
-  -- what one who left had was of the lane of its place
+  -- the queue that the subscriber received from is that of the publisher's lane at its place
   abbrev pub IsOfLane : Left → Publisher X K rule → Type 0
   IsOfLane left p =
       (lane : Outlet) × (slice_get (lanes_of p) (place_left left) ≡ Some lane) × (queue_left left ≡ waits_queue lane)
 
-  -- a publisher of the same bus
+  -- It is the same publisher of the same bus, whatever its table, its numbers and its
+  -- lanes' tenancies are now.
   pub record IsSame (old new : Publisher X K rule) : Type 0 where
     pub pool : pools.IsSame old.pool new.pool
     pub records : new.records ≡ old.records
     pub layout : layout_of new ≡ layout_of old
     pub lanes : holders_in (lanes_of new) ≡ holders_in (lanes_of old)
 
-  -- It has tried to loan. What was on loan is so still, and what is on loan more no subscriber has. Each subscriber has what he had, but
-  -- for what he gave back. No record went out, and no number is used.
+  -- What tries to loan do (`collect` and `loan`, any number of times, of which the last
+  -- may have given a loan).
   pub record HasTried (old new : Publisher X K rule) : Type 0 where
+    -- each slot on loan stays on loan, a slot that has come on loan no subscriber holds, and no subscriber
+    -- gains a slot
     pub loans : LoansStay (table_of old) (table_of new)
     pub alone : MoreLoansAreAlone (table_of old) (table_of new)
     pub gains : SubscribersGainNone (table_of old) (table_of new)
+    -- each subscriber holds what he held, except the slots that came back; bits without a lane are unchanged
     pub back : EachLane (HasGivenBack (table_of old) (table_of new)) (lanes_of old) (lanes_of new)
     pub rest : KeepsRest (lanes_of old) (table_of old) (table_of new)
+    -- the same lanes take part, and no number is used
     pub taking : open_in (lanes_of new) ≡ open_in (lanes_of old)
     pub same : IsSame old new
     pub next : next_of new ≡ next_of old
 
   -- ---- a subscriber
 
+  -- how many slots the bus of the subscriber has
   abbrev pub slots_at : Subscriber X K rule → ℕ
   slots_at s = slots_in s.records.now
 
-  -- how many slots the bus has at which it is a seat
+  -- how many slots the bus of the seat has
   abbrev pub slots_before : Seat X K rule → ℕ
   slots_before s = slots_in s.records.now
 
-  -- the place of the lane whose end it has
+  -- the place of the lane whose subscriber's end the seat has
   abbrev pub place_before : Seat X K rule → ℕ
   place_before s = s.place
 
+  -- the place of the subscriber's lane
   abbrev pub place_at : Subscriber X K rule → ℕ
   place_at s = s.place
 
-  -- how it takes words apart
+  -- how who takes the seat is to take a word apart into a number and a slot
   abbrev pub layout_before : Seat X K rule → Layout
   layout_before s = s.layout
 
+  -- how the subscriber takes a word apart into a number and a slot
   abbrev pub layout_at : Subscriber X K rule → Layout
   layout_at s = s.layout
 
-  -- the number of the first record that it takes, and of the next
+  -- the least number of a record that a subscriber of this seat receives
   abbrev pub first_before : Seat X K rule → ℕ
   first_before s = s.first
 
+  -- the least number of a record that the subscriber receives from now on
   abbrev pub expected_at : Subscriber X K rule → ℕ
   expected_at s = s.expected
 
-  -- what was published, of a sample
+  -- the word that was published for this sample
   abbrev pub word_at : Subscriber X K rule → Sample → ℕ
   word_at s sample = word_of (layout_at s).room (number_of sample) (received sample)
 
-  -- where its record is in the registry
+  -- the handle of the subscriber's record in the registry: an index with its owner
   abbrev pub record_of : Subscriber X K rule → ContainerHandle
   record_of s = s.record
 
@@ -215,24 +236,27 @@ module _ {X K : Type 0} {rule : Ghosts K X} where
   IsUnread s sample (Slot failure) = IsUnreadable s.records.now (received sample) failure
   IsUnread s sample (Other number) = number ≢ number_of sample
 
-  -- its end of the lane
+  -- the subscriber's end of the lane, which the seat has
   abbrev pub inlet_before : Seat X K rule → Inlet
   inlet_before s = s.inlet
 
+  -- the subscriber's end of the lane
   abbrev pub inlet_at : Subscriber X K rule → Inlet
   inlet_at s = s.inlet
 
-  -- what a seat knows of the queue that it is to receive from, and which that is
+  -- what the seat's guard knows of the queue to receive from
   abbrev pub receives_before : Seat X K rule → View ℕ
   receives_before s = consumer_view s.inlet.receives
 
+  -- which queue the seat's guard receives from
   abbrev pub receives_at : Seat X K rule → QueueId
   receives_at s = consumer_queue s.inlet.receives
 
-  -- what is known of the registry
+  -- what the seat's handle knows of the registry
   abbrev pub members_before : Seat X K rule → View ℕ
   members_before s = knows s.members
 
+  -- what the subscriber's handle knows of the registry
   abbrev pub members_view : Subscriber X K rule → View ℕ
   members_view s = knows s.members
 
@@ -248,7 +272,7 @@ module _ {X K : Type 0} {rule : Ghosts K X} where
       IsRightRemove (record { index = (record_of old).index; owner = (record_of old).owner; mode = Default }) (Err failure)
       (members_view old) (members_view new)
 
-  -- but for what it knows of the registry it is as it was: with its end of the lane, and with what it takes next
+  -- The subscriber is unchanged, except for what its handle knows of the registry.
   pub record IsAgain (old new : Subscriber X K rule) : Type 0 where
     pub inlet : inlet_at new ≡ inlet_at old
     pub named : record_of new ≡ record_of old
@@ -257,37 +281,46 @@ module _ {X K : Type 0} {rule : Ghosts K X} where
     pub layout : layout_at new ≡ layout_at old
     pub place : place_at new ≡ place_at old
 
-  -- what it knows of the queue that it receives from, and of the one by which it gives back
+  -- what the subscriber's guard knows of the queue from which it receives
   abbrev pub receives_view : Subscriber X K rule → View ℕ
   receives_view s = consumer_view s.inlet.receives
 
+  -- what its guard knows of the queue by which it gives slots back
   abbrev pub returns_view : Subscriber X K rule → View ℕ
   returns_view s = producer_view s.inlet.returns
 
+  -- which queue the subscriber receives from
   abbrev pub receives_queue : Subscriber X K rule → QueueId
   receives_queue s = consumer_queue s.inlet.receives
 
+  -- which queue the subscriber gives slots back by
   abbrev pub returns_queue : Subscriber X K rule → QueueId
   returns_queue s = producer_queue s.inlet.returns
 
-  -- Words of these numbers came (one without a slot is none that was sent), and these of them are the records that it received.
+  -- Words with the numbers `came` were popped from the lane, and of these the subscriber received the records
+  -- with the numbers `delivered`. (A word that names no slot counts as none that was sent.)
   pub record HasHad (came delivered : List ℕ) (old new : Subscriber X K rule) : Type 0 where
+    -- the subscriber's queue, layout and place are the same
     pub queue : receives_queue new ≡ receives_queue old
     pub layout : layout_at new ≡ layout_at old
     pub place : place_at new ≡ place_at old
+    -- if the queue has room: whatever numbers had come before, these came next (`ReceivesOn`)
     pub receives : 0 < (receives_queue old).capacity
         → ReceivesOn (shape_of (layout_at old) (receives_queue old)) came (receives_view old) (receives_view new)
+    -- each number that came was delivered, unless it was below the number expected then
     pub delivers : Delivers (expected_at old) came delivered (expected_at new)
 
-  -- it has received nothing more until it was taken apart
+  -- The subscriber left, and released its receiving role. `left` has the pass of the same
+  -- queue and the same place.
   pub record HasLeft (s : Subscriber X K rule) (left : Left) : Type 0 where
     pub queue : queue_left left ≡ receives_queue s
     pub place : place_left left ≡ place_at s
+    -- the pass has the history of the guard, and goes on from it (`Goes`)
     pub goes : Goes (receives_view s) (receives_left left)
     pub released : HasReleased roles.Consumer (receives_view s) (receives_left left)
 
-  -- nothing waited; or the queue has no room at all, and nothing is written; or what came is no slot, or a record that was
-  -- published before its seat was made, or before one that it has received
+  -- Why `receive` gave no sample: the lane was empty; or the queue has no room at all, and nothing happened;
+  -- or a word was popped that names no slot, or a number below the one expected.
   abbrev pub ReceivedNone : Subscriber X K rule → Subscriber X K rule → Type 0
   ReceivedNone old new =
       PopFoundNone (receives_view old) (receives_view new)
@@ -295,7 +328,7 @@ module _ {X K : Type 0} {rule : Ghosts K X} where
       ⊎ (word : ℕ) × ((slots_at old ≤ word % (layout_at old).room) ⊎ (word / (layout_at old).room < expected_at old))
       × PopOldest (Index word) (receives_view old) (receives_view new)
 
-  -- the slot was not taken back: as many waited as the queue has room for, or its last position is reached
+  -- The slot was not given back: the queue of returns was full, or its last position is reached.
   abbrev pub TookNoneBack : ℕ → Subscriber X K rule → Subscriber X K rule → Type 0
   TookNoneBack slot old new = PushRefused (returns_queue old).capacity (Index slot) (returns_view old) (returns_view new)
 
@@ -303,20 +336,25 @@ module _ {X K : Type 0} {rule : Ghosts K X} where
   abbrev pub TookOut : Sample → Subscriber X K rule → Subscriber X K rule → Type 0
   TookOut sample old new = (waited : View ℕ) × PopOldest (Index (word_at old sample)) waited (receives_view new)
 
-  -- its place is that of a lane, and nobody takes part there
+  -- the lane of the subscriber's place does not take part
   abbrev pub IsHidden : Subscriber X K rule → Publisher X K rule → Type 0
   IsHidden s p = slice_get (open_in (lanes_of p)) (place_at s) ≡ Some false
 
-  -- A lane was let to it, and the others stay (`seat`). Then all lanes were settled by what the publisher saw (`update`).
+  -- What `subscribe` did to the lanes: first one was let to the subscriber (`seat`), and then all were
+  -- settled by the state of the registry that the publisher copied (`update`).
   pub record WasSeated (old new : Publisher X K rule) (s : Subscriber X K rule) : Type 0 where
+    -- the lanes between the two
     pub between : List Outlet
     pub holders : holders_in between ≡ holders_in (lanes_of old)
+    -- the lane of the subscriber's place was let to it; any other is unchanged, or was free and is lost
     pub leased : AtLane (place_at s) (WasLetOf (receives_queue s) (receives_view s)) (lanes_of old) between
     pub others : EachOther (place_at s) StaysOrLost (lanes_of old) between
+    -- then each lane was settled, and bits without a lane are unchanged
     pub settled : EachLane (IsSettled (roll_of new) (table_of old) (table_of new)) between (lanes_of new)
     pub rest : KeepsRest between (table_of old) (table_of new)
 
-  -- One was let in as this owner, at a lane that was let to it. The publisher looked who takes part, and it is not seen to.
+  -- A subscriber was let in as this owner, at a lane that was let to it. Then the publisher looked at the
+  -- registry, and the state that it copied does not show this lane's place as taking part.
   pub record WasNotShown (owner : ℕ) (old new : Publisher X K rule) (s : Subscriber X K rule) : Type 0 where
     pub its : (record_of s).owner ≡ owner
     pub seated : WasSeated old new s

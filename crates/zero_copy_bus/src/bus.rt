@@ -1,4 +1,5 @@
-//! What the publisher and the subscribers of a bus share.
+//! A bus (`Bus`): the slots, the registry and the lanes that its publisher and its subscribers share, and how
+//! its publisher is made.
 ghost use Rattle.std.specs.Prelude.{◌≡◌, ◌-◌, ◌^◌, ◌<◌, None, IfOk, OnOk};
 ghost use Rattle.steps.specs.Enums.{capacity_refusal};
 ghost use Rattle.threaded.specs.Shares.{all_shares};
@@ -32,14 +33,15 @@ pub struct Sizes {
     pub queue: usize,
 }
 
-/// A bus, from one publisher to many subscribers. Its records are of a type, and each keeps a rule with its number. A record lies
-/// in its slot until the slot is used again or the bus is dropped.
+/// A bus, from one publisher to many subscribers. Its records are values of type `X`, and each keeps the rule
+/// of `K` with its number. A record lies in its slot until the slot is used again or the bus is dropped.
 pub struct Bus<X: Drop, K: Keeps<X> = Anything> {
     store: Store<X, K>,
     members: Members,
     lanes: Vec<Lane>,
     sizes: Sizes,
-    /// Whether the lanes had a publisher before. A further one gets new ones, so that it has the passes of each whole.
+    /// Whether the lanes had a publisher before. A later publisher gets new lanes, so that it has the pass of
+    /// each with the whole share.
     is_used: bool,
 }
 
@@ -55,7 +57,7 @@ impl<X: Drop, K: Keeps<X>> Drop for Bus<X, K> {
     }
 }
 
-/// A lane for each subscriber.
+/// As many lanes as there may be subscribers.
 fn make_lanes(alloc: Global, sizes: Sizes) -> Result<Vec<Lane>, BusError>
     ensures { OnOk result (0 < sizes.subscribers
         → capacity_refusal 0 (2 ^ 32 - 1) sizes.queue ≡ None) }
@@ -70,7 +72,7 @@ fn make_lanes(alloc: Global, sizes: Sizes) -> Result<Vec<Lane>, BusError>
     Ok(lanes)
 }
 
-/// The publisher's ends of the lanes, of whom nobody takes part yet.
+/// The publisher's ends of all lanes. No lane takes part yet.
 fn make_outlets(alloc: Global, lanes: &mut [Lane]) -> Result<Vec<Outlet<'_>>, BusError>
     ensures placed { IfOk result (λ o. HaveTheirPlaces (holders_in o.items)) }
     ensures closed { IfOk result (λ o. NobodyTakesPart (open_in o.items)) }
@@ -120,9 +122,9 @@ impl<X: Drop, K: Keeps<X>> Bus<X, K> {
         Ok((bus, pass))
     }
 
-    /// The publisher, by the pass that the bus was made with. It is given the records that are to be written, which need not keep
-    /// the rule yet: one more than there are slots, and one more for each further loan that is in hand at a time. A later
-    /// publisher gets new lanes.
+    /// The publisher, by the pass that the bus was made with. It is given the records to write, which need
+    /// not keep the rule yet: one more than there are slots, and one more for each further loan that is in
+    /// hand at a time. A later publisher gets new lanes.
     pub fn publisher(
         &mut self,
         rt: &impl Wait,

@@ -1,4 +1,4 @@
-//! Why a bus, or an end of it, is not made.
+//! Why a bus, or an end of it, is not made, and why its calls are refused.
 use lock_free_owners::mpmc::container::{ContainerAddFailure, ContainerRemoveError};
 use lock_free_sets::mpmc::unique_index_set_enums::{
     UniqueIndexCreationError, UniqueIndexSetAcquireFailure,
@@ -6,6 +6,7 @@ use lock_free_sets::mpmc::unique_index_set_enums::{
 use thiserror::Error;
 use zero_copy_slots::error as slots;
 
+/// Why a bus, or its publisher, is not made.
 #[derive(Debug, Drop, Error)]
 pub enum BusError {
     #[error("a part is not made: {0}")]

@@ -4,14 +4,14 @@ ghost use Rattle.std.specs.Prelude.{◌≡◌, ◌+◌, ◌-◌, ◌<◌, ◌↔
 /// How many subscribers have a bit.
 pub const MOST_SUBSCRIBERS: usize = 63;
 
-/// One who may hold slots.
+/// The publisher or a subscriber, by its bit in a word of holders.
 #[derive(Clone, Copy, Debug, PartialEq, Eq)]
 pub struct Holder {
     bit: u32,
     ghost within: { bit < 64 },
 }
 
-/// All who hold a slot.
+/// All who hold a slot, as a word with a bit for each.
 #[derive(Clone, Copy, Debug, PartialEq, Eq)]
 pub struct Holders {
     bits: u64,
@@ -52,28 +52,28 @@ impl Holder {
 impl Holders {
     ghost use Rattle.zero_copy_bus.specs.Holders.{is_held, nobody, Has, SameBut};
 
-    /// Nobody.
+    /// The holders of a slot that nobody holds.
     pub fn nobody() -> Holders
         ensures { result ≡ nobody }
     {
         Holders { bits: 0 }
     }
 
-    /// Whether somebody is among them.
+    /// Whether at least one holds the slot.
     pub fn is_somebody(self) -> bool
         ensures { result ≡ is_held self }
     {
         self.bits > 0
     }
 
-    /// Whether this one is among them.
+    /// Whether this holder is among them.
     pub fn has(self, holder: Holder) -> bool
         ensures { IsTrue result ↔ Has self holder }
     {
         (self.bits >> holder.bit) & 1 == 1
     }
 
-    /// These, and this one.
+    /// These holders and this one.
     pub fn with(self, holder: Holder) -> Holders
         ensures has { Has result holder }
         ensures held { is_held result ≡ true }
@@ -84,7 +84,7 @@ impl Holders {
         }
     }
 
-    /// These without this one.
+    /// These holders without this one.
     pub fn without(self, holder: Holder) -> Holders
         ensures lacks { ¬ Has result holder }
         ensures others { SameBut holder self result }

@@ -18,7 +18,8 @@ use lock_free_queues::spsc::{index_queue, safely_overflowing_index_queue as over
 use lock_free_sets::mpmc::unique_index_set_enums::UniqueIndexCreationError;
 use std::alloc::Global;
 
-/// The two queues, each with a pass from which the ends get theirs. The publisher's end takes that of the first one whole.
+/// The two queues of a lane, each with a pass. The publisher's end takes the pass of `submission` whole, and
+/// one that is split off that of `completion`.
 pub struct Lane {
     submission: SafelyOverflowingIndexQueue,
     sending: Option<overflow::Pass>,
@@ -44,7 +45,7 @@ impl Lane {
     ghost use Rattle.zero_copy_bus.specs.Outlets.{holder_of, is_open, IsNew};
     ghost use Rattle.zero_copy_bus.specs.Lanes.{completion_of, submission_of};
 
-    /// A lane for so many slots, of which so many wait at most.
+    /// A lane for `slots` slots, of which at most `queue` wait for the subscriber.
     pub fn new(alloc: Global, slots: usize, queue: usize) -> Result<Lane, UniqueIndexCreationError>
         ensures { OnOk result (capacity_refusal 0 (2 ^ 32 - 1) queue ≡ None) }
     {
@@ -58,8 +59,8 @@ impl Lane {
         })
     }
 
-    /// The publisher's end, for a subscriber who holds slots by this name. None where another has had that end, or no further
-    /// pass can be counted.
+    /// The publisher's end, for the subscriber of this bit in the table of slots. None where the end was made
+    /// before, the role that takes slots back is held, or no further pass can be counted.
     pub fn outlet(&mut self, holder: Holder) -> Option<Outlet<'_>>
         requires subscribes { 0 < bit_of holder }
         ensures holder { IfSome result (λ o. holder_of o ≡ holder) }
@@ -71,7 +72,7 @@ impl Lane {
         self.outlet_with(holder, waits, takes)
     }
 
-    /// The same, with passes of the two queues.
+    /// The publisher's end, of these passes of the two queues.
     fn outlet_with(
         &self,
         holder: Holder,
@@ -95,7 +96,7 @@ impl Lane {
     }
 }
 
-/// The subscriber's end of a lane.
+/// The subscriber's end of a lane: the guard that receives words, and the guard that gives slots back.
 pub struct Inlet<'a> {
     pub receives: overflow::Consumer<'a>,
     pub returns: index_queue::Producer<'a>,

@@ -1,4 +1,4 @@
-//! A slot that the publisher has on loan, and what says that a slot was left empty.
+//! A slot that the publisher has on loan (`Loan`), and the proof that a slot was left empty (`Emptied`).
 ghost use Rattle.std.specs.Prelude.{◌≡◌};
 ghost use Rattle.zero_copy_slots.specs.Slots.{slot_of};
 
@@ -39,6 +39,7 @@ impl<'a, X: Drop, K: Keeps<X>> Deref for Loan<'a, X, K> {
 impl<'a, X: Drop, K: Keeps<X>> Loan<'a, X, K> {
     ghost use Rattle.zero_copy_bus.specs.Ends.{loaned};
 
+    /// A loan of this slot, with this record to write, and the right to write the slot.
     pub(crate) fn of(slot: u32, value: X, writing: Writing<'a, X, K>) -> Loan<'a, X, K>
         requires { slot_of writing ≡ slot }
         ensures { loaned result ≡ slot }
@@ -57,6 +58,7 @@ impl<'a, X: Drop, K: Keeps<X>> Loan<'a, X, K> {
         self.slot
     }
 
+    /// Takes the loan apart: its record, and the right to write the slot.
     pub(crate) fn into_parts(self) -> (X, Writing<'a, X, K>)
         ensures value { result.0 ≡ self.entry.value }
         ensures at { slot_of result.1 ≡ loaned self.entry }
@@ -70,7 +72,7 @@ impl<'a, X: Drop, K: Keeps<X>> Loan<'a, X, K> {
     }
 }
 
-/// A slot was left empty by who had the right to write it. So nobody read or wrote it then.
+/// Says that a slot was left empty by its writer. So nobody else read or wrote it at that step.
 #[derive(Debug, Drop)]
 pub struct Emptied {
     slot: u32,

@@ -1,5 +1,5 @@
-//! Which topics have news: a flag for each, which stands from a notice until a listener takes it. So who listens to many
-//! topics looks at one set of flags, and not at the queue of each.
+//! Which topics have news: a flag for each topic, which stands from a notice until a listener takes it down.
+//! So a listener to many topics looks at one bit set, and not at the queue of each topic.
 ghost use Rattle.std.specs.Prelude.{◌≡◌, ◌-◌, ◌^◌, ◌<◌, ◌↔◌, None, IsTrue, IsFalse, IfOk, IfSome, OnOk};
 ghost use Rattle.lock_free_sets.specs.Bits.Calls.{IsPassOf};
 ghost use Rattle.lock_free_sets.specs.Bits.Contracts.{AllClearOnce, HasReset};
@@ -10,7 +10,7 @@ use lock_free_sets::mpmc::unique_index_set_enums::UniqueIndexCreationError;
 use std::alloc::Global;
 use std::sync::Wait;
 
-/// The flags of all topics.
+/// The flags of all topics, with a pass of which one is split off for each notifier and listener.
 pub struct News {
     flags: BitSet,
     pass: Pass,
@@ -29,7 +29,8 @@ impl Drop for News {
 impl News {
     ghost use Rattle.zero_copy_bus.specs.News.{topics_heard, topics_of, topics_notified};
 
-    /// So many topics, none of which has news; up to 2^32 - 1. Refused as `BitSet::new`.
+    /// A flag for each of up to 2^32 - 1 topics, none of which stands. Refused where `BitSet::new`
+    /// refuses the capacity.
     pub fn new(alloc: Global, topics: usize) -> Result<News, UniqueIndexCreationError>
         ensures topics { IfOk result (λ n. topics_of n ≡ topics) }
         ensures admitted { OnOk result (capacity_refusal 0 (2 ^ 32 - 1) topics ≡ None) }
@@ -38,7 +39,7 @@ impl News {
         Ok(News { flags, pass })
     }
 
-    /// One who tells of news, and one who takes them. None where no further pass can be counted.
+    /// An end that tells of news, and one that takes them. None where no further pass can be counted.
     pub fn ends(&mut self) -> Option<(Notifier<'_>, Listener<'_>)>
         ensures notified { IfSome result (λ e. topics_notified e.0 ≡ topics_of self.old) }
         ensures heard { IfSome result (λ e. topics_heard e.1 ≡ topics_of self.old) }
@@ -48,7 +49,7 @@ impl News {
         Some(self.ends_with(tells, hears))
     }
 
-    /// The same, with passes of the flags.
+    /// Both ends, of these passes of the flags.
     fn ends_with(&self, tells: Pass, hears: Pass) -> (Notifier<'_>, Listener<'_>)
         requires tells { IsPassOf self.now.flags tells }
         requires hears { IsPassOf self.now.flags hears }
@@ -65,7 +66,7 @@ impl News {
     }
 }
 
-/// One who tells that a topic has news.
+/// The end that tells that a topic has news.
 pub struct Notifier<'a> {
     flags: Handle<'a>,
 }
@@ -79,7 +80,7 @@ impl<'a> Drop for Notifier<'a> {
 impl<'a> Notifier<'a> {
     ghost use Rattle.zero_copy_bus.specs.News.{notifier_view, topics_notified, HasNotified};
 
-    /// Another one. None where no further pass can be counted.
+    /// Another notifier of the same topics. None where no further pass can be counted.
     pub fn split(&mut self) -> Option<Notifier<'a>>
         ensures same { topics_notified self.new ≡ topics_notified self.old }
         ensures new { IfSome result (λ n. topics_notified n ≡ topics_notified self.old) }
@@ -103,7 +104,7 @@ impl<'a> Notifier<'a> {
     }
 }
 
-/// One who takes news.
+/// The end that takes news: it finds a topic whose flag stands, and takes the flag down.
 pub struct Listener<'a> {
     flags: Handle<'a>,
 }
@@ -117,7 +118,8 @@ impl<'a> Drop for Listener<'a> {
 impl<'a> Listener<'a> {
     ghost use Rattle.zero_copy_bus.specs.News.{listener_view, topics_heard};
 
-    /// Another one: each notice is taken by one of them. None where no further pass can be counted.
+    /// Another listener to the same topics: each notice is taken by one of them. None where no further pass
+    /// can be counted.
     pub fn split(&mut self) -> Option<Listener<'a>>
         ensures same { topics_heard self.new ≡ topics_heard self.old }
         ensures new { IfSome result (λ l. topics_heard l ≡ topics_heard self.old) }

@@ -10,14 +10,14 @@ pub struct Sequence {
 impl Sequence {
     ghost use Rattle.zero_copy_bus.specs.Sequences.{expected};
 
-    /// One that expects this number.
+    /// A sequence that expects this number next.
     pub fn from(next: u64) -> Sequence
         ensures { expected result ≡ next }
     {
         Sequence { next }
     }
 
-    /// Which number is expected.
+    /// The number that is expected next.
     pub fn expected(&self) -> u64
         ensures { result ≡ expected self.now }
     {

@@ -26,18 +26,20 @@ use zero_copy_slots::Laid;
 /// What the publisher knows of the subscriber of a lane.
 #[derive(Clone, Copy, Debug, PartialEq, Eq)]
 pub enum Tenancy {
-    /// Nobody has the other end.
+    /// Nobody has the subscriber's end of the lane.
     Free,
-    /// Somebody was given the other end, and has not been seen to take part, or takes part no more.
+    /// Somebody was given the subscriber's end, and the publisher has not seen that it takes part, or has
+    /// seen that it takes part no more.
     Closed,
     /// Somebody takes part.
     Open,
-    /// A pass of it was refused or is gone, so nobody gets the other end any more.
+    /// A pass of the lane was refused or is gone, so nobody gets the subscriber's end any more.
     Lost,
 }
 
-/// The publisher's end of a lane. It has a pass of the one queue and a handle of the other, for those who get the other end, and
-/// the guard that pushes from when the lane is let until its passes are taken in.
+/// The publisher's end of a lane. It has a pass of the queue by which slots go out and a handle of the one by
+/// which they come back, of which passes are split off for subscribers. It has the guard that pushes from
+/// when the lane is let until its passes are taken in.
 pub struct Outlet<'a> {
     holder: Holder,
     tenancy: Tenancy,
@@ -73,7 +75,8 @@ impl<'a> Outlet<'a> {
     ghost use Rattle.zero_copy_bus.specs.Outlets.{StaysOrLost, WasDrained, WasJoined, WasLet, WasEnded, WasTakenIn};
     ghost use Rattle.zero_copy_bus.specs.Rolls.{IsShown};
 
-    /// The end of a lane of these queues. None where another has it, or no further pass can be counted.
+    /// The publisher's end of a lane of these two queues. None where the role that takes slots back is held,
+    /// or no further pass can be counted.
     pub fn of(
         holder: Holder,
         submission: &'a SafelyOverflowingIndexQueue,
@@ -99,7 +102,8 @@ impl<'a> Outlet<'a> {
         })
     }
 
-    /// The other end, and this one begins anew. None where somebody was given it, or no further pass can be counted.
+    /// Lets the lane: makes the subscriber's end, and a new guard that pushes for this end. None where the
+    /// lane is not Free, where a role is held, or where no further pass can be counted.
     pub fn inlet(&mut self) -> Option<Inlet<'a>>
         ensures holder { holder_of self.new ≡ holder_of self.old }
         ensures taking { is_open self.new ≡ is_open self.old }
@@ -130,7 +134,7 @@ impl<'a> Outlet<'a> {
         Some(Inlet { receives, returns })
     }
 
-    /// Takes this end in, if there is one, by the pass from which it came.
+    /// Releases the guard that pushes, if there is one, and joins its pass into the lane's.
     fn take_in(&mut self)
         ensures holder { holder_of self.new ≡ holder_of self.old }
         ensures tenancy { self.new.tenancy ≡ self.old.tenancy }
@@ -145,9 +149,10 @@ impl<'a> Outlet<'a> {
         }
     }
 
-    /// Takes in the pass of one who had the other end, and this end with it, if it is there. Then it is known all that went out by
-    /// the lane, where no pass of it was dropped. Nothing more is sent until the lane is let again. It stays his until it is
-    /// settled, and what he gave back still waits.
+    /// Joins the pass of a subscriber that has left into the lane's, and before it that of the guard that
+    /// pushes, if there is one. If no pass of the queue was dropped, the lane's pass then knows all that went
+    /// out. Nothing more is sent until the lane is let again. The lane is not free until it is settled, and
+    /// slots that the subscriber gave back still wait.
     pub fn rejoin(&mut self, other: overflow::Pass)
         requires { queue_of other ≡ waits_queue self.old }
         ensures holder { holder_of self.new ≡ holder_of self.old }
@@ -169,7 +174,7 @@ impl<'a> Outlet<'a> {
         }
     }
 
-    /// Whether somebody takes part.
+    /// Whether the lane's subscriber takes part and the guard that pushes is there.
     pub fn is_open(&self) -> bool
         ensures { result ≡ is_open self.now }
     {
@@ -181,7 +186,7 @@ impl<'a> Outlet<'a> {
         }
     }
 
-    /// Pushes a word: what came back, if anything did.
+    /// Pushes a word, and returns the word that the queue handed back, if it did.
     fn push(&mut self, word: u64) -> Option<u64>
         requires { IsTrue (has_end self.old) }
         ensures holder { holder_of self.new ≡ holder_of self.old }
@@ -199,8 +204,10 @@ impl<'a> Outlet<'a> {
         }
     }
 
-    /// Sends a slot that is on loan, with its number, to one who takes part and has it not. Where his queue is full he loses his
-    /// oldest. Whether he has gained it: not where his queue handed back this very one, since it has no room at all.
+    /// Sends a slot that is on loan, with its number, if the subscriber takes part and does not hold the
+    /// slot. A full queue hands its oldest word back, and the subscriber holds that slot no more. Answers
+    /// whether the subscriber gained the slot: it did not if the queue handed this very slot back, since it
+    /// has no room at all.
     pub fn send(&mut self, pool: &mut Pool<'_>, layout: &Layout, laid: &Laid) -> bool
         requires { IsWord layout.now.room layout.now.places (laid_number laid.now) (laid_slot laid.now) }
         ensures holder { holder_of self.new ≡ holder_of self.old }
@@ -222,7 +229,8 @@ impl<'a> Outlet<'a> {
         pool.exchange(slot, self.holder, slot_back(layout, back))
     }
 
-    /// Takes back what the subscriber has given back, until nothing is left, but no more than there are slots.
+    /// Pops the slots that the subscriber has given back, until none is left, but at most as many as the pool
+    /// has slots. The subscriber holds them no more.
     pub fn take_back(&mut self, pool: &mut Pool<'_>)
         ensures holder { holder_of self.new ≡ holder_of self.old }
         ensures taking { is_open self.new ≡ is_open self.old }
@@ -241,8 +249,9 @@ impl<'a> Outlet<'a> {
         }
     }
 
-    /// Sends from now on to one who takes part, and no more to one who does not. What he had comes back once he has not even his
-    /// end of the lane, which is free for another then.
+    /// Sets the tenancy by whether the registry shows the lane's subscriber. If it does not, and both queues
+    /// could be emptied (`drain`), the lane is Free and the slots that the subscriber held are back in the
+    /// pool. If they could not, the lane is Closed.
     fn settle(&mut self, rt: &impl Wait, pool: &mut Pool<'_>, takes_part: bool)
         ensures holder { holder_of self.new ≡ holder_of self.old }
         ensures taking { is_open self.new ≡ (takes_part && has_end self.old) }
@@ -267,8 +276,8 @@ impl<'a> Outlet<'a> {
         }
     }
 
-    /// The same of a lane that is not free, by what the roll shows. Where that has not changed, only of one who was not seen to
-    /// take part.
+    /// Settles a lane that is neither Free nor Lost by what the roll shows. If the roll has not changed, an
+    /// Open lane stays as it is.
     pub fn settle_by(
         &mut self,
         rt: &impl Wait,
@@ -297,8 +306,9 @@ impl<'a> Outlet<'a> {
         self.settle(rt, pool, roll.has(self.holder.place()));
     }
 
-    /// Takes back what waits for one who is gone, what he has given back, and what he had. Answers true, and each queue was found
-    /// empty. Where he still has his end the table stays: false.
+    /// Empties both queues of a subscriber that is gone, and takes all slots that it held back into the pool.
+    /// True if each queue was found empty. If its end of the lane is still there, or a queue could not be
+    /// emptied, the table is unchanged: false.
     fn drain(&mut self, rt: &impl Wait, pool: &mut Pool<'_>) -> bool
         ensures holder { holder_of self.new ≡ holder_of self.old }
         ensures none { IsTrue result → HasNone (holder_of self.old) (table_of pool.new) }
@@ -318,7 +328,8 @@ impl<'a> Outlet<'a> {
         true
     }
 
-    /// Takes out what waits for one who is gone: whether it was seen that nothing is left. False where he still has his end.
+    /// Pops all words that wait for a subscriber that is gone. True if the queue was found empty. False if
+    /// the subscriber still has its end of the lane, or no further pass can be counted.
     fn empty_submitted(&mut self, rt: &impl Wait) -> bool
         ensures holder { holder_of self.new ≡ holder_of self.old }
         ensures queue { waits_queue self.new ≡ waits_queue self.old }
@@ -344,7 +355,7 @@ impl<'a> Outlet<'a> {
         }
     }
 
-    /// Takes out what was given back: whether it was seen that nothing is left, of at most so many.
+    /// Pops all slots that were given back, at most `slots` of them. True if the queue was found empty.
     fn empty_returned(&mut self, slots: u32) -> bool
         ensures holder { holder_of self.new ≡ holder_of self.old }
         ensures queue { waits_queue self.new ≡ waits_queue self.old }
@@ -362,7 +373,8 @@ impl<'a> Outlet<'a> {
     }
 }
 
-/// Takes out what waits: whether it was seen that nothing is left. No push is under way, so it is at most the capacity.
+/// Pops all words that wait, and answers whether the queue was found empty. No push is under way, so at most
+/// the capacity waits.
 fn empty(rt: &impl Wait, receives: &mut overflow::Consumer<'_>) -> bool
     ensures queue { consumer_queue receives.new ≡ consumer_queue receives.old }
     ensures empty { 0 < (consumer_queue receives.old).capacity → IsTrue result
@@ -379,7 +391,7 @@ fn empty(rt: &impl Wait, receives: &mut overflow::Consumer<'_>) -> bool
     false
 }
 
-/// The slot of the word that came back, if one did.
+/// The slot in the word that a push handed back, if it handed one back.
 fn slot_back(layout: &Layout, back: Option<u64>) -> Option<u32>
     ensures { result ≡ slot_back layout.now.room back }
 {

@@ -18,7 +18,7 @@ use std::sync::Wait;
 use zero_copy_loans::words::Layout;
 use zero_copy_slots::Laid;
 
-/// The first other end that nobody has, and its place.
+/// Lets the first lane that can be let: its subscriber's end, and its place. None where no lane can be let.
 pub fn free_inlet<'a>(outlets: &mut Vec<Outlet<'a>>) -> Option<(Inlet<'a>, usize)>
     ensures holders { holders_in outlets.new.items ≡ holders_in outlets.old.items }
     ensures taking { open_in outlets.new.items ≡ open_in outlets.old.items }
@@ -35,7 +35,8 @@ pub fn free_inlet<'a>(outlets: &mut Vec<Outlet<'a>>) -> Option<(Inlet<'a>, usize
     None
 }
 
-/// Takes in both ends of the lane of this place: the pass of the other, and the publisher's own.
+/// Takes in the passes of the lane of this place: that of the subscriber that left, and the publisher's own
+/// if it is there.
 pub fn rejoin_at(outlets: &mut Vec<Outlet<'_>>, place: usize, other: overflow::Pass)
     requires { (lane : Outlet) × (slice_get outlets.old.items place ≡ Some lane) × (queue_of other ≡ waits_queue lane) }
     ensures holders { holders_in outlets.new.items ≡ holders_in outlets.old.items }
@@ -46,7 +47,7 @@ pub fn rejoin_at(outlets: &mut Vec<Outlet<'_>>, place: usize, other: overflow::P
     outlets[place].rejoin(other);
 }
 
-/// Whether he takes part who has the lane of this place.
+/// Whether the subscriber of the lane at this place takes part.
 pub fn takes_part(outlets: &Vec<Outlet<'_>>, place: u64) -> bool
     ensures { IsTrue result ↔ (slice_get (open_in outlets.now.items) place ≡ Some true) }
 {
@@ -56,7 +57,8 @@ pub fn takes_part(outlets: &Vec<Outlet<'_>>, place: u64) -> bool
     }
 }
 
-/// Sends a slot, with its number, to each who takes part and has it not. Answers how many have gained it.
+/// Sends a slot, with its number, to each subscriber that takes part and does not hold the slot. Answers how
+/// many have gained it.
 pub fn send_to_all(
     outlets: &mut Vec<Outlet<'_>>,
     pool: &mut Pool<'_>,
@@ -86,7 +88,7 @@ pub fn send_to_all(
     number
 }
 
-/// Takes back what all subscribers have given back.
+/// Takes back the slots that subscribers have given back, of each lane at most as many as there are slots.
 pub fn take_all_back(outlets: &mut Vec<Outlet<'_>>, pool: &mut Pool<'_>)
     requires { HaveTheirPlaces (holders_in outlets.old.items) }
     ensures holders { holders_in outlets.new.items ≡ holders_in outlets.old.items }
@@ -103,7 +105,7 @@ pub fn take_all_back(outlets: &mut Vec<Outlet<'_>>, pool: &mut Pool<'_>)
     }
 }
 
-/// Settles each lane by what the roll shows. Where that has not changed, those alone of whom the other end is not free yet.
+/// Settles each lane by what the roll shows. If the roll has not changed, only the Closed lanes are settled.
 pub fn settle_all(
     rt: &impl Wait,
     outlets: &mut Vec<Outlet<'_>>,

@@ -1,7 +1,8 @@
-//! The slots of a bus, and who holds each. A slot is out of the set of free indices as long as anybody holds it. One that came
-//! back is kept out of the set too, in plain memory, so that the next take of a slot makes no atomic step. Once the pool is
-//! gone, the set has those that were kept (by no clause).
-ghost use Rattle.std.specs.Prelude.{◌≡◌, ◌<◌, ◌≤◌, ◌↔◌, true, false, [], ◌∷◌, ◌++◌, length, replicate, IsTrue, IsFalse, IfOk, IfErr, OnErr};
+//! The slots of a bus, and who holds each. A slot is out of the set of free indices as long as anybody
+//! holds it. A slot that came back is kept out of the set too, in plain memory, so that the next take of
+//! a slot makes no atomic step. `into_pass` and the drop of a pool give the kept slots back to the set
+//! (the drop by no clause).
+ghost use Rattle.std.specs.Prelude.{◌≡◌, ◌<◌, ◌≤◌, ◌-◌, ◌↔◌, true, false, [], ◌∷◌, ◌++◌, length, replicate, IsTrue, IsFalse, IfOk, IfErr, OnErr};
 ghost use Rattle.threaded.specs.Shares.{IsAll};
 ghost use Rattle.history.specs.Held.{Holds};
 ghost use Rattle.lock_free_sets.specs.Unique.Held.{HoldsNothing};
@@ -40,7 +41,7 @@ impl<'a> Drop for Pool<'a> {
     }
 }
 
-/// Takes a slot that nobody holds: the one that was kept last, or one of the set, where none is kept.
+/// Takes a slot that nobody holds: the one that was kept last, or one of the set if none is kept.
 fn take_one(
     rt: &impl Wait,
     set: &UniqueIndexSet,
@@ -63,7 +64,8 @@ fn take_one(
     Ok(slot)
 }
 
-/// Keeps a slot that nobody holds any more. The set gets it where there is no room to keep it (there is room for all, by no clause).
+/// Keeps a slot that nobody holds any more, or gives it back to the set if the list has no room for it. (The
+/// list has room for all slots, by no clause.)
 fn keep_one(set: &UniqueIndexSet, pass: &mut Pass, kept: &mut Vec<u32>, slot: u32)
     requires pass { IsPassOf set.now pass.old }
     requires held { Holds slot (made pass.old) }
@@ -84,6 +86,8 @@ fn give_one(set: &UniqueIndexSet, pass: &mut Pass, kept: &mut Vec<u32>)
     requires pass { IsPassOf set.now pass.old }
     requires held { HoldsEach kept.old.items (made pass.old) }
     ensures held { HoldsEach kept.new.items (made pass.new) }
+    ensures kept { KeepsBook (view pass.old) kept.old.items (view pass.new) kept.new.items }
+    ensures fewer { length kept.new.items ≡ length kept.old.items - 1 }
     ensures set { set_of pass.new ≡ set_of pass.old }
     ensures share { share pass.new ≡ share pass.old }
 {
@@ -92,14 +96,15 @@ fn give_one(set: &UniqueIndexSet, pass: &mut Pass, kept: &mut Vec<u32>)
     }
 }
 
-/// Gives the slots that are kept back to the set.
+/// Gives all kept slots back to the set.
 fn give_all(set: &UniqueIndexSet, pass: &mut Pass, kept: &mut Vec<u32>)
     requires pass { IsPassOf set.now pass.old }
     requires held { HoldsEach kept.old.items (made pass.old) }
+    ensures kept { KeepsBook (view pass.old) kept.old.items (view pass.new) [] }
     ensures set { set_of pass.new ≡ set_of pass.old }
     ensures share { share pass.new ≡ share pass.old }
 {
-    for _ in 0..kept.len() {
+    for _given in 0..kept.len() {
         give_one(set, pass, kept);
     }
 }
@@ -151,7 +156,7 @@ impl<'a> Pool<'a> {
         Ok(slot)
     }
 
-    /// Whether this holder has the slot.
+    /// Whether this holder holds the slot.
     pub fn has(&self, slot: u32, holder: Holder) -> bool
         ensures { IsTrue result ↔ HasSlot (table_of self.now) slot holder }
     {
@@ -173,7 +178,8 @@ impl<'a> Pool<'a> {
         true
     }
 
-    /// A slot that somebody holds is held by this one too. A free one, or none, changes nothing: false.
+    /// This holder holds the slot too from now on, if somebody holds it. False, and nothing changes, if the
+    /// slot is free or there is none.
     pub fn lend(&mut self, slot: u32, holder: Holder) -> bool
         ensures held { IsTrue result
             ↔ (is_held (holders_at (table_of self.old) slot) ≡ true) }
@@ -193,15 +199,15 @@ impl<'a> Pool<'a> {
         true
     }
 
-    /// Whether a slot is on loan, and this holder has it not.
+    /// Whether the slot is on loan, and this holder does not hold it.
     pub fn can_send(&self, slot: u32, holder: Holder) -> bool
         ensures { IsTrue result ↔ CanSend (table_of self.now) slot holder }
     {
         self.has(slot, Holder::publisher()) && !self.has(slot, holder)
     }
 
-    /// Lends a slot that is on loan to a holder who has it not. What came back for it he has no more. Where that is the slot
-    /// itself nothing changes: false.
+    /// Lends a slot that is on loan to a holder that does not hold it. The slot that came back for it, if one
+    /// did, this holder holds no more. If that is the same slot, nothing changes: false.
     pub fn exchange(&mut self, slot: u32, holder: Holder, back: Option<u32>) -> bool
         requires { CanSend (table_of self.old) slot holder }
         ensures has { Exchanges slot holder back (table_of self.old) (table_of self.new) }
@@ -227,7 +233,7 @@ impl<'a> Pool<'a> {
         }
     }
 
-    /// This holder has a slot no more, which is free where nobody else has it.
+    /// This holder holds the slot no more. If nobody else holds it, the slot is free and is kept.
     fn remove(&mut self, slot: u32, holder: Holder)
         requires within { slot < length (table_of self.old) }
         requires has { HasSlot (table_of self.old) slot holder }
@@ -242,8 +248,8 @@ impl<'a> Pool<'a> {
         }
     }
 
-    /// This holder gives a slot back, which is free once nobody holds it. A number of which he has no slot changes
-    /// nothing: false.
+    /// This holder gives a slot back, which is free once nobody holds it. False, and nothing changes, if it
+    /// does not hold a slot of this number.
     pub fn put_back(&mut self, number: u64, holder: Holder) -> bool
         ensures had { IsTrue result ↔ HasSlot (table_of self.old) number holder }
         ensures changes { ChangesAt number holder (table_of self.old) (table_of self.new) }
@@ -263,7 +269,7 @@ impl<'a> Pool<'a> {
         true
     }
 
-    /// Gives back all slots of a holder that is gone.
+    /// Gives back all slots that this holder holds.
     pub fn put_all_back(&mut self, holder: Holder)
         ensures none { HasNone holder (table_of self.new) }
         ensures others { KeepsOthers holder (table_of self.old) (table_of self.new) }
@@ -274,8 +280,8 @@ impl<'a> Pool<'a> {
         }
     }
 
-    /// How many slots are out and not kept. They are at least those that somebody holds, at most all, and just those where nobody
-    /// else has a share of the set.
+    /// How many slots are out of the set and not kept: at least as many as somebody holds, at most all, and
+    /// exactly those that somebody holds if the pass has the whole share of the set.
     pub fn borrowed(&mut self) -> usize
         ensures table { table_of self.new ≡ table_of self.old }
         ensures least { held_number (table_of self.old) ≤ result }
@@ -288,15 +294,17 @@ impl<'a> Pool<'a> {
             .saturating_sub(self.kept.len())
     }
 
-    /// How many slots there are.
+    /// How many slots the set has.
     pub fn slots(&self) -> u32
         ensures { result ≡ slots_of self.now }
     {
         self.set.capacity()
     }
 
-    /// The pass. It holds what somebody holds, and no slot that was kept (by no clause).
+    /// The pass, once the kept slots are given back to the set. It holds nothing if nobody holds
+    /// a slot by the table.
     pub fn into_pass(self) -> Pass
+        ensures free { AllFree (table_of self.entry) → HoldsNothing (made result) }
         ensures set { set_of result ≡ set_in self.entry }
         ensures share { share result ≡ share_in self.entry }
     {

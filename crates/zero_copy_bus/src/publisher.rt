@@ -1,8 +1,10 @@
-//! The end of a bus that writes records and publishes them.
+//! The end of a bus that writes records and publishes them: it makes seats for subscribers, loans slots, publishes records, and
+//! takes slots back.
 ghost use Rattle.std.specs.Prelude.{◌≡◌, ◌+◌, ◌-◌, ◌^◌, ◌<◌, ◌≤◌, ◌↔◌, Bool, true};
 ghost use Rattle.std.specs.Prelude.{false, Some, count_by, slice_get, slice_set, vec_len, IsTrue, IsFalse, IfOk, IfErr, IfNone, IfSome, OnErr};
 ghost use Rattle.threaded.specs.Shares.{IsAll};
-ghost use Rattle.lock_free_sets.specs.UniqueIndexSet.{set_of, share};
+ghost use Rattle.lock_free_sets.specs.Unique.Held.{HoldsNothing};
+ghost use Rattle.lock_free_sets.specs.UniqueIndexSet.{made, set_of, share};
 ghost use Rattle.zero_copy_bus.specs.Books.{holders_at, AllFree, ChangesAt, GainsNone, GainsOnly, IsLoaned};
 ghost use Rattle.zero_copy_bus.specs.Books.{KeepsAllOrNone, KeepsLoans, KeepsLoansBut, held_number};
 ghost use Rattle.zero_copy_bus.specs.Holders.{is_held, publisher};
@@ -28,16 +30,16 @@ use std::thread;
 use zero_copy_loans::words::Layout;
 use zero_copy_slots::{Anything, Keeps, Slots};
 
-/// Keeps what lay in a slot, if anything did, to be written again.
+/// Keeps the value that lay in a slot, if one did, among the records to write.
 fn keep<X: Drop>(spares: &mut Vec<X>, old: Option<(u64, X)>) {
     if let Some((_, value)) = old {
         let _ = spares.push(value);
     }
 }
 
-/// The publisher, of which a bus has one at a time. It knows who holds each slot, and keeps the records that are not in a slot. A
-/// slot that came back it keeps for the next loan. The pool gets those back once the publisher is finished or dropped (by no
-/// clause).
+/// The publisher, of which a bus has one at a time. It knows who holds each slot, and keeps the records that are not in a slot.
+/// It keeps each slot that came back for the next loan. The pool gets those back when the publisher is finished, or dropped
+/// (the drop by no clause).
 pub struct Publisher<'a, X: Drop, K: Keeps<X> = Anything> {
     pool: Pool<'a>,
     records: &'a Slots<X, K>,
@@ -101,9 +103,9 @@ impl<'a, X: Drop, K: Keeps<X>> Publisher<'a, X, K> {
         }
     }
 
-    /// A seat for a subscriber, who may take it in another thread. Who does takes part from the next `update` on, and receives no
-    /// record that was published before the seat was made. None where no place is free, or no further pass can be counted. Lanes
-    /// that nobody had may be lost by the call, also where a seat is given: nobody gets them any more.
+    /// A seat for a subscriber, who may take it in another thread. A subscriber that takes it (`join`) takes part from the next
+    /// `update` on, and receives no record that was published before the seat was made. None where no lane is free, or no
+    /// further pass can be counted. The call may lose free lanes, also where a seat is given: nobody gets a lost lane any more.
     pub fn seat(&mut self) -> Option<Seat<'a, X, K>>
         ensures slots { IfSome result (λ s. slots_before s ≡ slots_of self.old) }
         ensures layout { IfSome result (λ s. layout_before s ≡ layout_of self.old) }
@@ -132,11 +134,12 @@ impl<'a, X: Drop, K: Keeps<X>> Publisher<'a, X, K> {
         ))
     }
 
-    /// A subscriber who takes part at once: a `seat`, a `join` and an `update` in one. The lane of its place takes part, and
-    /// `publish` serves the lanes that do. It receives from the queue of that lane (`leased`).
+    /// A subscriber that takes part at once: a `seat`, a `join` and an `update` in one. The lane of its place takes part, so
+    /// that `publish` serves it, and the subscriber receives from the queue of that lane (`leased`).
     ///
-    /// Refused where nobody is given a lane (`NoSeat`), and where the registry does not let the owner in (`NotLetIn`). Where the
-    /// look does not show it, it leaves again (`NotSeen`), or the registry refuses to remove its record (`NotRemoved`).
+    /// Refused where no seat is given (`NoSeat`), and where the registry does not let the owner in (`NotLetIn`). If the
+    /// publisher's look at the registry does not show the subscriber, it leaves again (`NotSeen`), or the registry refuses to
+    /// remove its record (`NotRemoved`).
     pub fn subscribe(
         &mut self,
         rt: &impl Wait,
@@ -175,16 +178,16 @@ impl<'a, X: Drop, K: Keeps<X>> Publisher<'a, X, K> {
         }
     }
 
-    /// Whether the lane of a subscriber's place is one of who takes part, as of the last `update`.
+    /// Whether the lane of this subscriber's place takes part, as of the last `update`.
     pub fn takes_part(&self, subscriber: &Subscriber<'_, X, K>) -> bool
         ensures { IsTrue result ↔ (slice_get (open_in (lanes_of self.now)) (place_at subscriber.now) ≡ Some true) }
     {
         takes_part(&self.outlets, subscriber.place())
     }
 
-    /// Looks who takes part, once. Who does gets what is published from now on; and where one has left, or a recovery has
-    /// taken him out, and nobody has his end of the lane any more, that is free again, with all that he had (only tested). Each
-    /// of the others has what he had, and the publisher too.
+    /// Looks once at the registry who takes part. Subscribers that it shows get what is published from now on. If a subscriber
+    /// has left, or a recovery has taken it out, and nobody has its end of the lane any more, the lane is free again, and so
+    /// are all slots that it held (only tested). Every other subscriber, and the publisher, holds what it held.
     pub fn update(&mut self, rt: &impl Wait)
         ensures looked { (changed : Bool) × HasLooked changed (roll_of self.old) (roll_of self.new) }
         ensures settled { EachLane (IsSettled (roll_of self.new) (table_of self.old) (table_of self.new))
@@ -205,12 +208,14 @@ impl<'a, X: Drop, K: Keeps<X>> Publisher<'a, X, K> {
         );
     }
 
-    /// Takes in the pass with which one who left received, and the publisher's end of that queue, if it is there. If no pass of the
-    /// queue was dropped it is known then which records went out by the lane, and what became of each (`passes_on`). What he had of
-    /// the registry and of the queue by which he gave slots back is dropped, so nobody has the whole share of those.
+    /// Takes in the pass with which a subscriber that left received, and the publisher's guard of that queue, if it is there.
+    /// If no pass of the queue was dropped, it is known then which records went out by the lane, and what became of each
+    /// (`passes_on`). The subscriber's passes of the registry and of the queue by which it gave slots back are dropped, so
+    /// nobody has the whole share of those.
     ///
-    /// Nothing more goes out there, also not to another who got the lane since. The lane stays whose it was, and the table as it
-    /// is. Unless another got the lane, the next `update` takes back what he had, and frees the lane (only tested).
+    /// Nothing more goes out by the lane, also not to a subscriber that got it since. The table does not
+    /// change. Unless another subscriber got the lane, the next `update` takes back the slots that the former
+    /// one held, and frees the lane (only tested).
     pub fn rejoin(&mut self, left: Left<'_>)
         requires { IsOfLane left self.old }
         ensures taken_in { AtLane (place_left left.entry) (WasRejoined (receives_left left.entry)) (lanes_of self.old) (lanes_of self.new) }
@@ -224,15 +229,15 @@ impl<'a, X: Drop, K: Keeps<X>> Publisher<'a, X, K> {
         rejoin_at(&mut self.outlets, place as usize, submission);
     }
 
-    /// Tells a caller's proof what became of the records that went out by a lane. From where a lane with room is let until all its
-    /// passes are taken in (`rejoin`), with no `update` in between that did not show its subscriber, a beginning of them was received or came back
-    /// unread, each once, and both in order. What went out later still waits then. An `update` that frees the lane takes it out, which
-    /// counts as received. It does nothing.
+    /// Does nothing at run time. It tells a caller's proof what became of the records that went out by a lane with room, from
+    /// where it is let until all its passes are taken in (`rejoin`), if each `update` in between showed its subscriber: a
+    /// beginning of them was received or came back unread, each once, and both in order. The rest still waits. An `update` that
+    /// frees the lane takes the rest out, which counts as received.
     pub fn passes_on(&self)
         ensures { LanesPassOn }
     {}
 
-    /// Takes an owner out who is dead, and then as `update`.
+    /// Frees the registry's records of an owner that is dead, and then looks who takes part (`update`).
     pub fn recover(&mut self, rt: &impl Wait, dead: OwnerId)
         ensures recovered { HasRecovered dead (roll_of self.old) (roll_of self.new) }
         ensures settled { EachLane (IsSettled (roll_of self.new) (table_of self.old) (table_of self.new))
@@ -249,10 +254,10 @@ impl<'a, X: Drop, K: Keeps<X>> Publisher<'a, X, K> {
 
     /// A free slot, which the publisher alone holds, with a record to write. `NoRecord`: none is left to write, and nothing
     /// changes. `NoSlot`: each slot is out, or the pool is locked (the clause says only that nothing changes). `StillRead`:
-    /// somebody still reads the slot, who has it not. The slot stays out, so that the next loan gets another, and `reclaim` tries
-    /// it again. Where no loan comes no record is used up.
+    /// somebody reads the slot that does not hold it by the table. The slot stays out, so that the next loan gets another, and
+    /// `reclaim` tries it again. If no loan comes, no record is used up.
     ///
-    /// A load and at most one compare-exchange on the slot. Where the publisher keeps no slot that came back, the steps of
+    /// Steps: a load and at most one compare-exchange on the slot. If the publisher keeps no slot that came back, those of
     /// `acquire_raw_index` too.
     pub fn loan(&mut self, rt: &impl Wait) -> Result<Loan<'a, X, K>, LoanFailure>
         ensures within { IfOk result (λ l. loaned l < slots_of self.old) }
@@ -285,7 +290,7 @@ impl<'a, X: Drop, K: Keeps<X>> Publisher<'a, X, K> {
         Ok(Loan::of(slot, value, writing))
     }
 
-    /// Takes back what was given back, and tries to loan once. Where no loan comes no record is used up.
+    /// Takes back the slots that subscribers gave back, and tries to loan once. If no loan comes, no record is used up.
     fn loan_once(&mut self, rt: &impl Wait) -> Option<Loan<'a, X, K>>
         ensures within { IfSome result (λ l. loaned l < slots_of self.old) }
         ensures fresh { IfSome result (λ l. ¬ IsLoaned (table_of self.old) (loaned l)) }
@@ -302,12 +307,12 @@ impl<'a, X: Drop, K: Keeps<X>> Publisher<'a, X, K> {
         }
     }
 
-    /// A loan as soon as there is one, by at most so many tries (by no clause). Before each try it takes back what subscribers gave
-    /// back, and after one that is refused another thread may run. None where each try was refused; then no record is used up.
+    /// A loan, by at most `tries` tries (by no clause). Before each try it takes back the slots that subscribers gave back, and
+    /// after a try that is refused another thread may run. None where each try was refused; then no record is used up.
     ///
-    /// A slot that is `StillRead` stays out, on loan, and its number is not told: `reclaim` may be tried with each. No subscriber
-    /// has it any more. That it is still read, and that each try leaves one at most, no clause says, nor that all that was given back is
-    /// taken back. For each try, the steps of `collect` and of `loan`.
+    /// A slot that is `StillRead` stays out, on loan, and its number is not told: `reclaim` may be tried with each number. No
+    /// subscriber holds it any more. No clause says that it is still read, that each try leaves at most one such slot, or that
+    /// all slots that were given back are taken back. For each try, the steps of `collect` and of `loan`.
     pub fn loan_within(&mut self, rt: &impl Wait, tries: u64) -> Option<Loan<'a, X, K>>
         ensures within { IfSome result (λ l. loaned l < slots_of self.old) }
         ensures fresh { IfSome result (λ l. ¬ IsLoaned (table_of self.old) (loaned l)) }
@@ -326,9 +331,9 @@ impl<'a, X: Drop, K: Keeps<X>> Publisher<'a, X, K> {
         None
     }
 
-    /// A loan as soon as there is one. Before each try it takes back what subscribers gave back, and after one that is refused
-    /// another thread may run. It waits for good where no slot comes back, and where no record is left to write. A slot that is
-    /// `StillRead` stays out as by `loan_within`. For each try, the steps of `collect` and of `loan`.
+    /// A loan, as soon as there is a free slot. Before each try it takes back the slots that subscribers gave back, and after a
+    /// try that is refused another thread may run. It waits for good where no slot comes back, and where no record is left to
+    /// write. A slot that is `StillRead` stays out (as `loan_within` says). For each try, the steps of `collect` and of `loan`.
     pub fn loan_waiting(&mut self, rt: &impl Wait) -> Loan<'a, X, K>
         ensures within { loaned result < slots_of self.old }
         ensures fresh { ¬ IsLoaned (table_of self.old) (loaned result) }
@@ -346,11 +351,11 @@ impl<'a, X: Drop, K: Keeps<X>> Publisher<'a, X, K> {
         unreachable!()
     }
 
-    /// Publishes a record, which keeps its rule with the next number. It goes to each who takes part and has it not: how many
-    /// gained it. The slot is on loan no more. Who is too slow loses its oldest record. After the last of 2^64 / p numbers (p: the
-    /// slots, up to a power of two) each loan is given up: 0.
+    /// Publishes a record, which has to keep the rule with the next number. It goes to each subscriber that takes part and does
+    /// not hold its slot. Returns how many gained it. The slot is on loan no more. A subscriber whose queue is full loses its
+    /// oldest record. After the last of 2^64 / p numbers (p: the slots, up to a power of two) each loan is given up: 0.
     ///
-    /// One step on the slot, and a push for each.
+    /// One step on the slot, and the steps of a push for each such subscriber.
     pub fn publish(&mut self, loan: Loan<'a, X, K>) -> usize
         requires fits { K.holds (next_of self.old) loan.value }
         ensures served { HasNumber self.old (loaned loan.entry)
@@ -385,7 +390,7 @@ impl<'a, X: Drop, K: Keeps<X>> Publisher<'a, X, K> {
         gained
     }
 
-    /// Gives a loan up: nobody gets its record, which is kept to be written again (by no clause). One step on the slot.
+    /// Gives a loan up: nobody gets its record, which is kept among the records to write (by no clause). One step on the slot.
     pub fn give_up(&mut self, loan: Loan<'a, X, K>)
         ensures gone { ¬ IsLoaned (table_of self.new) (loaned loan.entry) }
         ensures changes { ChangesAt (loaned loan.entry) publisher (table_of self.old) (table_of self.new) }
@@ -401,9 +406,10 @@ impl<'a, X: Drop, K: Keeps<X>> Publisher<'a, X, K> {
         self.pool.put_back(slot as u64, Holder::publisher());
     }
 
-    /// Tries a slot again that was `StillRead`, or whose loan was dropped. It is left empty, and it is free. Refused where the
-    /// publisher does not hold it (`NotHeld`), and where its word says that somebody reads it still or (its loan is in hand)
-    /// writes it (`InUse`); then nothing changes. A load, at most one compare-exchange and one further step on the slot.
+    /// Tries a slot again that was `StillRead`, or whose loan was dropped: if nobody reads or writes it, the slot is left
+    /// empty, and is free. Refused where the publisher does not hold it (`NotHeld`), and where its word says that somebody
+    /// still reads it or writes it, as while its loan is in hand (`InUse`); then nothing changes. A load, at most one
+    /// compare-exchange and one further step on the slot.
     pub fn reclaim(&mut self, slot: u32) -> Result<Emptied, ReclaimFailure>
         ensures had { IfOk result (λ e. IsLoaned (table_of self.old) slot) }
         ensures emptied { IfOk result (λ e. emptied e ≡ slot) }
@@ -428,7 +434,8 @@ impl<'a, X: Drop, K: Keeps<X>> Publisher<'a, X, K> {
         Ok(emptied)
     }
 
-    /// Takes back what subscribers have given back: nobody gains a slot, and what is on loan stays so. No record is used up.
+    /// Takes back the slots that subscribers have given back: nobody gains a slot, and each slot on loan stays on loan. No
+    /// record is used up.
     pub fn collect(&mut self)
         ensures taken { EachLane (IsTakenBack (slots_of self.old) (table_of self.old) (table_of self.new))
             (lanes_of self.old) (lanes_of self.new) }
@@ -450,8 +457,8 @@ impl<'a, X: Drop, K: Keeps<X>> Publisher<'a, X, K> {
         self.pool.is_free()
     }
 
-    /// How many slots are not free. They are at least those that somebody holds, at most all, and just those where nobody else
-    /// has a share of the pool.
+    /// How many slots are not free: at least as many as somebody holds, at most all, and exactly those that somebody holds if
+    /// the publisher has the whole share of the pool.
     pub fn borrowed(&mut self) -> usize
         ensures table { table_of self.new ≡ table_of self.old }
         ensures least { held_number (table_of self.old) ≤ result }
@@ -464,16 +471,17 @@ impl<'a, X: Drop, K: Keeps<X>> Publisher<'a, X, K> {
         self.pool.borrowed()
     }
 
-    /// The number that the next record gets that is published: 0 for the first.
+    /// The number that the next record to be published gets: 0 for the first.
     pub fn next_number(&self) -> u64
         ensures { result ≡ next_of self.now }
     {
         self.next
     }
 
-    /// Hands out the pass, and the records that are not in a slot, to be written by a later publisher. The slots that it keeps go
-    /// back to the pool (by no clause), by at most 5 atomic steps each.
+    /// Hands out the pass, and the records that are not in a slot, to be written by a later publisher. Each kept slot goes back
+    /// to the pool by at most 5 atomic steps. If nobody holds a slot by the table, the pass holds nothing.
     pub fn finish(self) -> (Pass, Vec<X>)
+        ensures free { AllFree (table_of self.entry) → HoldsNothing (made result.0) }
         ensures set { set_of result.0 ≡ set_in self.entry }
         ensures share { share result.0 ≡ share_in self.entry }
         ensures spares { vec_len result.1 ≡ spares_in self.entry }

@@ -1,5 +1,5 @@
-//! Who takes part in a bus. A container has a record for each subscriber, which is the place of its lane, at an index of its
-//! owner's.
+//! Who takes part in a bus. The registry is a container with a record for each subscriber: the place of its
+//! lane, at an index that its owner holds.
 ghost use Rattle.std.specs.Prelude.{◌≡◌, ◌↔◌, ℕ, None, Some, IsSome, IsTrue, IsFalse, OnOk};
 ghost use Rattle.lock_free_owners.specs.Container.Handles.{container_in, knows};
 ghost use Rattle.lock_free_owners.specs.Container.Names.{container_id, container_of, container_refusal, unnumbered, IsPassOf, IsStateOf};
@@ -9,7 +9,7 @@ use lock_free_sets::mpmc::unique_index_set_enums::{ReleaseMode, UniqueIndexCreat
 use std::alloc::Global;
 use std::sync::Wait;
 
-/// The container, with a pass from which those who take part get theirs.
+/// The registry, with a pass of which one is split off for each who takes part.
 pub struct Members {
     all: Container<u64>,
     pass: Pass<u64>,
@@ -26,7 +26,7 @@ impl Drop for Members {
 }
 
 impl Members {
-    /// Room for the records of so many subscribers, none of whom takes part.
+    /// An empty registry, with room for the records of `subscribers` subscribers.
     pub fn new(alloc: Global, subscribers: usize) -> Result<Members, UniqueIndexCreationError>
         ensures { OnOk result (container_refusal subscribers ≡ None) }
     {
@@ -34,13 +34,13 @@ impl Members {
         Ok(Members { all, pass })
     }
 
-    /// A handle of the container. None where no further pass can be counted.
+    /// A further handle of the registry. None where no further pass can be counted.
     pub fn member(&mut self) -> Option<Handle<'_, u64>> {
         let pass = self.pass.split()?;
         Some(self.member_with(pass))
     }
 
-    /// The same, with a pass of it.
+    /// A handle of the registry, of this pass.
     fn member_with(&self, pass: Pass<u64>) -> Handle<'_, u64>
         requires { container_of pass ≡ container_id (self.now).all }
     {
@@ -48,8 +48,8 @@ impl Members {
     }
 }
 
-/// What the publisher has seen of the container. It looks with a pass of its own, which makes no other call, so that what
-/// the state shows is known to be copied by it.
+/// What the publisher has seen of the registry: the state that it copied last. It copies with a handle of its
+/// own (`looks`), which makes no other call, so that what the state shows is known to be copied by it.
 pub struct Roll<'a> {
     looks: Handle<'a, u64>,
     members: Handle<'a, u64>,
@@ -72,7 +72,8 @@ impl<'a> Drop for Roll<'a> {
 impl<'a> Roll<'a> {
     ghost use Rattle.zero_copy_bus.specs.Rolls.{look_view, HasLooked, HasNotLooked, HasTakenOut, IsShown};
 
-    /// A roll of those who take part now. None where there is no memory, or no further pass can be counted.
+    /// A roll with a first copy of the registry's state. None where there is no memory, or no further pass
+    /// can be counted.
     pub fn new(rt: &impl Wait, mut members: Handle<'a, u64>) -> Option<Roll<'a>> {
         let mut looks = members.split()?;
         let state = looks.get_state(rt).ok()?;
@@ -83,7 +84,7 @@ impl<'a> Roll<'a> {
         })
     }
 
-    /// A handle for one more participant. None where no further pass can be counted.
+    /// A handle of the registry for one more subscriber. None where no further pass can be counted.
     pub fn member(&mut self) -> Option<Handle<'a, u64>>
         ensures shown { (place : ℕ) → IsShown self.old place → IsShown self.new place }
         ensures looks { HasNotLooked self.old self.new }
@@ -91,7 +92,7 @@ impl<'a> Roll<'a> {
         self.members.split()
     }
 
-    /// Looks who takes part: whether anything has changed.
+    /// Copies what has changed in the registry into the state, and answers whether anything has.
     pub fn update(&mut self, rt: &impl Wait) -> bool
         ensures looked { HasLooked result self.old self.new }
         ensures left { IsFalse result → (place : ℕ) → IsShown self.old place → IsShown self.new place }
@@ -113,7 +114,7 @@ impl<'a> Roll<'a> {
         false
     }
 
-    /// Frees each record of an owner who is dead.
+    /// Frees each record of an owner that is dead.
     pub fn recover(&mut self, rt: &impl Wait, dead: OwnerId)
         ensures taken { HasTakenOut dead self.old self.new }
         ensures shown { (place : ℕ) → IsShown self.old place → IsShown self.new place }

@@ -29,7 +29,7 @@ impl<X: Drop, K: Keeps<X>> Drop for Store<X, K> {
 impl<X: Drop, K: Keeps<X>> Store<X, K> {
     ghost use Rattle.zero_copy_bus.specs.Stores.{set_in};
 
-    /// So many slots, each free and with no record; and the first pass of the set.
+    /// A store of `slots` slots, each free and without a record, and the first pass of the set.
     pub fn new(alloc: Global, slots: usize) -> Result<(Store<X, K>, Pass), BusError>
         ensures pass { IfOk result (λ r. IsPassOf (set_in r.0) r.1) }
         ensures nothing { IfOk result (λ r. HoldsNothing (made r.1)) }
@@ -51,7 +51,7 @@ impl<X: Drop, K: Keeps<X>> Store<X, K> {
         &self.set
     }
 
-    /// The places of the records, of which there are as many as slots.
+    /// The slots in which records lie: as many as the set has indices.
     pub fn records(&self) -> &Slots<X, K>
         ensures records { result.now ≡ self.now.records }
         ensures sized { slots_in result.now ≡ capacity_of (set_in self.now) }

@@ -1,4 +1,5 @@
-//! The end of a bus that receives records and reads them.
+//! The end of a bus that receives records and reads them: a seat, the subscriber that takes it, and what one
+//! that left hands back.
 ghost use Rattle.std.specs.Prelude.{◌≡◌, ◌<◌, IsTrue, IsFalse, IfOk, IfErr, IfSome, IfNone, List, [], ◌∷◌, ℕ};
 ghost use Rattle.lock_free_owners.specs.Container.Contracts.{WasNotAdded};
 ghost use Rattle.lock_free_owners.specs.Container.Handles.{container_in};
@@ -22,7 +23,7 @@ use zero_copy_loans::error::ReadFailure;
 use zero_copy_loans::words::Layout;
 use zero_copy_slots::{Anything, Keeps, Reading, Slots};
 
-/// A place at a bus, which a subscriber takes.
+/// The subscriber's end of a free lane, which a thread takes by `join`.
 pub struct Seat<'a, X: Drop, K: Keeps<X> = Anything> {
     inlet: Inlet<'a>,
     records: &'a Slots<X, K>,
@@ -52,6 +53,8 @@ impl<'a, X: Drop, K: Keeps<X>> Seat<'a, X, K> {
     ghost use Rattle.zero_copy_bus.specs.Ends.{place_before, receives_at, receives_before, receives_queue, receives_view, record_of};
     ghost use Rattle.zero_copy_bus.specs.Ends.{slots_at, slots_before, IsLetIn};
 
+    /// A seat with this end of the lane at `place`, whose subscriber receives records from
+    /// the number `first` on.
     pub(crate) fn of(
         inlet: Inlet<'a>,
         records: &'a Slots<X, K>,
@@ -77,8 +80,9 @@ impl<'a, X: Drop, K: Keeps<X>> Seat<'a, X, K> {
         }
     }
 
-    /// Takes part as this owner, whom no other has, from the publisher's next `update` on. Else the seat comes back, with why: the
-    /// same end of the same lane, from the same first number on.
+    /// Adds a record of the seat's place to the registry, as this owner, which no other subscriber may have.
+    /// The subscriber takes part from the publisher's next `update` on. If the registry refuses, the seat
+    /// comes back with the reason: the same end of the same lane, with the same first number.
     pub fn join(
         self,
         rt: &impl Wait,
@@ -159,7 +163,7 @@ impl Sample {
     }
 }
 
-/// A subscriber. Where it is dropped it is dead: what it had stays out until it is recovered.
+/// A subscriber. If it is dropped it counts as dead: the slots that it held stay out until it is recovered.
 pub struct Subscriber<'a, X: Drop, K: Keeps<X> = Anything> {
     inlet: Inlet<'a>,
     records: &'a Slots<X, K>,
@@ -186,8 +190,8 @@ impl<'a, X: Drop, K: Keeps<X>> Drop for Subscriber<'a, X, K> {
     }
 }
 
-/// What a subscriber that left had: of the registry, of the queue that it received from, and of the one by which it gave slots
-/// back. `rejoin` takes in the second alone.
+/// The passes of a subscriber that left: of the registry, of the queue from which it received, and of the one
+/// by which it gave slots back. `Publisher::rejoin` takes in the second alone.
 pub struct Left<'a> {
     pub members: Handle<'a, u64>,
     pub submission: overflow::Pass,
@@ -209,7 +213,7 @@ impl<'a> Drop for Left<'a> {
 impl<'a> Left<'a> {
     ghost use Rattle.zero_copy_bus.specs.Ends.{place_left};
 
-    /// The pass of the queue that it received from, and the place of its lane.
+    /// The pass of the queue from which the subscriber received, and the place of its lane.
     pub(crate) fn into_received(self) -> (overflow::Pass, u64)
         ensures pass { result.0 ≡ self.entry.submission }
         ensures place { result.1 ≡ place_left self.entry }
@@ -230,9 +234,10 @@ impl<'a, X: Drop, K: Keeps<X>> Subscriber<'a, X, K> {
     ghost use Rattle.zero_copy_bus.specs.Ends.{returns_view, slots_at, word_at, HasHad, HasLeft, IsAgain, IsUnread};
     ghost use Rattle.zero_copy_bus.specs.Ends.{ReceivedNone, TookNoneBack, TookOut, WasKept};
 
-    /// The oldest record that waits. Its number is above that of each record that it received before, and not below that of the
-    /// first one that was published after it got its seat. None where none waits, as long as the publisher has not taken it in
-    /// (`update`), or where what came is no such record, and is gone. The steps of `pop`.
+    /// The oldest record that waits. Its number is above that of each record that this subscriber received
+    /// before, and not below the number that was next when its seat was made. None where no record waits (as
+    /// before the publisher's first `update` after the `join`), or where the popped word is of no slot or of
+    /// a lower number; that word is then gone. The steps of `pop`.
     pub fn receive(&mut self, rt: &impl Wait) -> Option<Sample>
         ensures within { IfSome result (λ s. received s < slots_at self.old) }
         ensures rises { Rises (expected_at self.old) (numbers_of result) (expected_at self.new) }
@@ -256,8 +261,9 @@ impl<'a, X: Drop, K: Keeps<X>> Subscriber<'a, X, K> {
         Some(Sample { number, slot })
     }
 
-    /// What comes next, by at most so many tries (by no clause), between which another thread may run. None where no record
-    /// came; words of none may have come and be gone. The steps of `receive` for each try.
+    /// The next record, by at most `tries` tries (by no clause), between which another thread may run. None
+    /// where each try received none; words that are of no record may then be popped and gone. The steps of
+    /// `receive` for each try.
     pub fn receive_within(&mut self, rt: &impl Wait, tries: u64) -> Option<Sample>
         ensures within { IfSome result (λ s. received s < slots_at self.old) }
         ensures oldest { IfSome result (λ s. TookOut s self.old self.new) }
@@ -274,8 +280,9 @@ impl<'a, X: Drop, K: Keeps<X>> Subscriber<'a, X, K> {
         None
     }
 
-    /// What comes next, as soon as it is there. Between two tries another thread may run. It waits for good where no record comes,
-    /// as where the publisher does not take it in (`update`). The steps of `receive` for each try.
+    /// The next record, as soon as it is there. Between two tries another thread may run. It waits for good
+    /// where no record comes, as where the publisher makes no `update` after the `join`. The steps of
+    /// `receive` for each try.
     pub fn receive_waiting(&mut self, rt: &impl Wait) -> Sample
         ensures within { received result < slots_at self.old }
         ensures oldest { TookOut result self.old self.new }
@@ -292,20 +299,21 @@ impl<'a, X: Drop, K: Keeps<X>> Subscriber<'a, X, K> {
         unreachable!()
     }
 
-    /// The number from which on it takes records. That is the one of the first record that was published after it got its seat,
-    /// or one more than that of the record that it received last.
+    /// The least number of a record that it receives from now on: the number that was next when its seat was
+    /// made, or one more than that of the record received last.
     pub fn expected(&self) -> u64
         ensures { result ≡ expected_at self.now }
     {
         self.expected
     }
 
-    /// Reads a record that was received, where it lies. It keeps its rule with the number of the sample. As long as it is read,
-    /// this subscriber calls nothing else and is not dropped. Refused where the slot is (`Slot`), and where a value of another
-    /// number lies there (`Other`, only tested).
+    /// Reads a record that was received, where it lies. The record keeps the rule with the number of the
+    /// sample. As long as the reading lives, this subscriber makes no call that changes it, and is not
+    /// dropped, since the reading borrows it. Refused where the slot cannot be read (`Slot`), and where a
+    /// value of another number lies in it (`Other`, only tested).
     ///
-    /// A load and a compare-exchange, again for each other reader that comes or leaves in between. A reading that is forgotten
-    /// keeps its slot for good (`StillRead`).
+    /// A load and a compare-exchange, again for each other reader that comes or leaves in between. A reading
+    /// that is forgotten (`std::mem::forget`) keeps its slot for good (`StillRead`).
     pub fn read(&self, sample: &Sample) -> Result<Reading<'_, X, K>, ReadFailure>
         ensures published { IfOk result (λ r. (number_in r ≡ number_of sample.now) × (slot_in r ≡ received sample.now)) }
         ensures refused { IfErr result (IsUnread self.now sample.now) }
@@ -322,8 +330,8 @@ impl<'a, X: Drop, K: Keeps<X>> Subscriber<'a, X, K> {
         }
     }
 
-    /// Gives a record back. True, since there is room for each slot (by no clause). False only where the queue is full, or at its
-    /// last position.
+    /// Gives a record's slot back to the publisher. True, since the queue has room for all slots (by no
+    /// clause). False only where the queue is full, or at its last position.
     pub fn give_back(&mut self, sample: Sample) -> bool
         ensures given { IsTrue result
             → PushDone (Index (received sample)) (returns_view self.old) (returns_view self.new) }
@@ -336,10 +344,10 @@ impl<'a, X: Drop, K: Keeps<X>> Subscriber<'a, X, K> {
         self.inlet.returns.push(slot as u64)
     }
 
-    /// Takes part no more: its record is out of the registry, and both roles of its lane are free. What it had comes back once the
-    /// publisher looks who takes part (`update`). Refused where its owner does not have the record any more, as after a `recover`
-    /// of this owner. Then the subscriber comes back as it was, with both roles: its lane is freed only after it is dropped (only
-    /// tested).
+    /// Takes part no more: its record is removed from the registry, and both roles of its lane are released.
+    /// The slots that it held come back at the publisher's next `update`. Refused where its owner does not
+    /// have the record any more, as after a `recover` of this owner. Then the subscriber comes back as it
+    /// was, with both roles: its lane is freed only after it is dropped (only tested).
     pub fn leave(
         self,
         rt: &impl Wait,
@@ -403,7 +411,7 @@ impl<'a, X: Drop, K: Keeps<X>> Subscriber<'a, X, K> {
         }
     }
 
-    /// How many records wait for it at most, as the bus was made.
+    /// How many records wait for this subscriber at most: the capacity of its queue.
     pub fn room(&self) -> usize
         ensures { result ≡ (receives_queue self.now).capacity }
     {

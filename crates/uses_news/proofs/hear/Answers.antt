@@ -41,6 +41,7 @@ pub rejoin-requires : goal.rejoin-requires
 rejoin-requires g c =
     first_left _ _ _ _ _ _ _ _ _ _ (ran g (goal.at.rejoin-requires g c).In_ok-marks) c.in-Ok-leave.left c.in-Ok-leave.ensures.left
 
+-- what the second subscriber left is of its lane, which the first `rejoin` has left as it was
 pub rejoin-requires-2 : goal.rejoin-requires-2
 rejoin-requires-2 g c =
     let run = ran g (goal.at.rejoin-requires-2 g c).In_ok-marks in
@@ -49,6 +50,8 @@ rejoin-requires-2 g c =
     c.rejoin.ensures.same.layout c.rejoin.ensures.next)
     c.in-Ok-leave-2.ensures.left
 
+-- The two subscribers had different lanes. By the first `rejoin` the first one's marks are news of its lane
+-- (`first`), and by the second one the other's (`second`), which leaves the first lane as it was.
 pub returns : goal.returns
 returns g c =
     let run = ran g (goal.at.returns g c).In_ok-marks in

@@ -7,6 +7,7 @@ use Rattle.uses_news.proofs.publish_all.Goals as goal
 pub loop-init : goal.loop-init
 loop-init g c = record { out = published_none _ _ refl refl refl; few = λ before. before }
 
+-- one more block was published
 pub loop-preserved : goal.loop-preserved
 loop-preserved g c =
     record {

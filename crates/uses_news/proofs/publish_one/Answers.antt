@@ -6,6 +6,7 @@ use Rattle.zero_copy_bus.proofs.Published.{next_most, published_none, published_
 use Rattle.uses_news.specs.Marks.{mark}
 use Rattle.uses_news.proofs.publish_one.Goals as goal
 
+-- the block is full of the mark of the next number, and that number is below 100
 pub publish-requires : goal.publish-requires
 publish-requires g c =
     let same : next_of c.loan_within.new.self ≡ c.next_number-number.result = c.loan_within.ensures.tried.next ∙ sym c.next_number-number.ensures in
@@ -19,6 +20,7 @@ publish-requires g c =
 pub returns-then-number-ge-BLOCKS-clause-out : goal.returns-then-number-ge-BLOCKS-clause-out
 returns-then-number-ge-BLOCKS-clause-out g c = published_none _ _ refl refl refl
 
+-- the tries to loan published nothing, and then one record was published
 pub returns-clause-out : goal.returns-clause-out
 returns-clause-out g c =
     let sent = c.publish.ensures in
@@ -26,6 +28,7 @@ returns-clause-out g c =
     (published_one _ c.loan_within.new.self c.publish.new.self c.in_ok-loan.ensures.can sent.same.layout
     sent.taking sent.served sent.next sent.unsent (λ no. (sent.last no).1))
 
+-- the next number rises by 1 at most, from a number below 100
 pub returns-clause-few : goal.returns-clause-few
 returns-clause-few g c before =
     let sent = c.publish.ensures in

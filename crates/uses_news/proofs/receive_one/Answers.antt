@@ -7,6 +7,7 @@ use Rattle.uses_news.proofs.receive_one.Goals as goal
 pub returns-in_default : goal.returns-in_default
 returns-in_default g c = reads_none _ c.in_default.ensures.had.0 _ _ c.in_default.ensures.had.1
 
+-- one record was received, its mark was appended, and it was given back
 pub returns : goal.returns
 returns g c =
     let back = c.give_back.ensures in

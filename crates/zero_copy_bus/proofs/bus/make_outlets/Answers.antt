@@ -8,10 +8,12 @@ use Rattle.zero_copy_bus.proofs.LaneLemmas.{closed_more, placed_more}
 use Rattle.zero_copy_bus.proofs.LanesStay.{new_more}
 use Rattle.zero_copy_bus.proofs.bus.make_outlets.Goals as goal
 
+-- a result that is no error is Ok
 is_fine : {A E : Type 0} (r : Result A E) → is_err r ≡ false → is_ok r ≡ true
 is_fine (Ok x) e = refl
 is_fine (Err x) e = absurd (true≢false e)
 
+-- one more end is appended, whose holder has the bit place + 1
 pub loop-place-preserved : goal.loop-place-preserved
 loop-place-preserved c =
     let was = c.loop-place.invariant in

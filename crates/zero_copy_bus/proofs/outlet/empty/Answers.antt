@@ -11,6 +11,7 @@ pub loop-init : goal.loop-init
 loop-init g c =
     (refl, itself (consumer_view c.args.receives.now).seen, λ some. ([], takes_none_yet (consumer_view c.args.receives.now)))
 
+-- one more word was popped
 pub loop-preserved : goal.loop-preserved
 loop-preserved g c = (
   c.pop.ensures.same.queue ∙ c.loop.invariant.0,
@@ -22,6 +23,7 @@ loop-preserved g c = (
       (before.0 ++ c.in-Some.field-0 ∷ [], takes_more before.0 c.in-Some.field-0 _ _ _ before.1 (c.pop.ensures.same.goes wide) c.in-Some.ensures.popped.0)),
 )
 
+-- the last pop found the queue empty, after all that was seen at first
 pub returns-in-None-clause-empty : goal.returns-in-None-clause-empty
 returns-in-None-clause-empty g c some is =
     let same = ap (λ (q : QueueId). q.capacity) c.loop.invariant.0 in
@@ -29,6 +31,7 @@ returns-in-None-clause-empty g c some is =
     found_since (consumer_view c.args.receives.now) (consumer_view c.loop.receives) (consumer_view c.pop.new.self)
     c.loop.invariant.1 (c.in-None.ensures.empty wide).1
 
+-- the last pop took no word, so the words are those popped before
 pub returns-in-None-clause-taken : goal.returns-in-None-clause-taken
 returns-in-None-clause-taken g c some =
     let wide : 0 < (consumer_queue c.loop.receives).capacity =

@@ -4,6 +4,7 @@ use Rattle.lock_free_queues.specs.Queues.Overflowing.{consumer_queue, consumer_v
 use Rattle.zero_copy_bus.specs.Words.{TakesOn}
 use Rattle.zero_copy_bus.proofs.outlet.empty.Given as given
 
+-- In this order: the queue is the same; its history goes on; the guard has taken the words that were popped.
 abbrev pub invariant-loop : given.invariant-loop
 invariant-loop g l =
     (consumer_queue l.receives ≡ consumer_queue l.fn.receives)

@@ -3,6 +3,8 @@ use Rattle.zero_copy_bus.specs.Outlets.{holders_in, open_in, StaysOrLost}
 use Rattle.zero_copy_bus.proofs.LaneLemmas.{DoneTo}
 use Rattle.zero_copy_bus.proofs.outlets.free_inlet.Given as given
 
+-- The loop has tried the lanes below `place`: each is unchanged or was lost (`DoneTo`), and the
+-- same lanes take part.
 abbrev pub invariant-loop-place : given.invariant-loop-place
 invariant-loop-place l =
     record {

@@ -13,6 +13,8 @@ use Rattle.zero_copy_slots.specs.Slots.{laid_number, laid_slot}
 use Rattle.zero_copy_bus.proofs.outlets.send_to_all.Goals as goal
 use Rattle.zero_copy_bus.proofs.outlets.send_to_all.Goals.{then-send, else-send}
 
+-- The loop serves lane n: the table was `one` at first, is `two` before this lane and `three` after it. What
+-- was done to the lanes before stays true, since this lane's subscriber alone changes in the table.
 pub loop-place-preserved : goal.loop-place-preserved
 loop-place-preserved c =
     let was = c.loop-place.invariant in
@@ -61,6 +63,7 @@ loop-place-preserved c =
       same = same_both _ _ _ was.same now.pool;
     }
 
+-- once the loop has come past the last lane, each is served
 pub returns-clause-served : goal.returns-clause-served
 returns-clause-served c =
     done_all

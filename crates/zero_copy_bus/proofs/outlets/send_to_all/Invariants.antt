@@ -7,6 +7,8 @@ use Rattle.zero_copy_bus.proofs.LaneLemmas.{DoneTo, KeepsAbove}
 use Rattle.zero_copy_slots.specs.Slots.{laid_number, laid_slot}
 use Rattle.zero_copy_bus.proofs.outlets.send_to_all.Given as given
 
+-- The loop has served the lanes below `place`: what it did to them (`served`), how many of their subscribers
+-- gained the slot (`number`), and that bits above are unchanged in the table (`above`).
 abbrev pub invariant-loop-place : given.invariant-loop-place
 invariant-loop-place l =
     record {

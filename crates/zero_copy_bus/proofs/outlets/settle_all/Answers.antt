@@ -12,6 +12,7 @@ use Rattle.zero_copy_bus.proofs.OutletLemmas.{settled_from, settled_still}
 use Rattle.zero_copy_bus.proofs.PoolLemmas.{same_both}
 use Rattle.zero_copy_bus.proofs.outlets.settle_all.Goals as goal
 
+-- if the roll has not changed, an Open lane is still one that it shows
 pub settle_by-requires : goal.settle_by-requires
 settle_by-requires g c stays on =
     let was = c.loop-place.invariant in
@@ -25,6 +26,7 @@ settle_by-requires g c stays on =
     let here : n ≡ place_of mine = omega arith in
     subst (λ k. IsShown c.args.roll.now k) here (c.requires.shown stays n (get_map is_open olds n mine is_old ∙ ap Some on))
 
+-- The loop settles lane n: the table was `one` at first, is `two` before this lane and `three` after it.
 pub loop-place-preserved : goal.loop-place-preserved
 loop-place-preserved g c =
     let was = c.loop-place.invariant in
@@ -52,6 +54,7 @@ loop-place-preserved g c =
       same = same_both _ _ _ was.same now.pool;
     }
 
+-- once the loop has come past the last lane, each is settled
 pub returns-clause-settled : goal.returns-clause-settled
 returns-clause-settled g c =
     done_all (IsSettled c.args.roll.now (table_of c.args.pool.now) (table_of c.loop-place.pool)) c.loop-place.place

@@ -5,6 +5,7 @@ use Rattle.zero_copy_bus.specs.Pools.{table_of, IsSame}
 use Rattle.zero_copy_bus.proofs.LaneLemmas.{DoneTo, KeepsAbove}
 use Rattle.zero_copy_bus.proofs.outlets.settle_all.Given as given
 
+-- The loop has settled the lanes below `place`, and bits above are unchanged in the table.
 abbrev pub invariant-loop-place : given.invariant-loop-place
 invariant-loop-place g l =
     record {

@@ -10,6 +10,8 @@ use Rattle.zero_copy_bus.proofs.OutletLemmas.{taken_from, taken_still}
 use Rattle.zero_copy_bus.proofs.PoolLemmas.{same_both}
 use Rattle.zero_copy_bus.proofs.outlets.take_all_back.Goals as goal
 
+-- The loop takes slots back from lane n: the table was `one` at first, is `two` before this lane
+-- and `three` after it.
 pub loop-place-preserved : goal.loop-place-preserved
 loop-place-preserved c =
     let was = c.loop-place.invariant in
@@ -40,6 +42,7 @@ loop-place-preserved c =
       same = same_both _ _ _ was.same now.pool;
     }
 
+-- once the loop has come past the last lane, each has given its slots back
 pub returns-clause-taken : goal.returns-clause-taken
 returns-clause-taken c =
     done_all (IsTakenBack (slots_of c.args.pool.now) (table_of c.args.pool.now) (table_of c.loop-place.pool))

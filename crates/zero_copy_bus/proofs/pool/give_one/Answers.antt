@@ -5,6 +5,7 @@ use Rattle.zero_copy_bus.specs.Books.{HoldsEach}
 use Rattle.zero_copy_bus.proofs.BookLemmas.{last_held}
 use Rattle.zero_copy_bus.proofs.pool.give_one.Goals as goal
 
+-- the slot that was kept last is held by the pass, so it may be released
 pub release_raw_index-requires-clause-held : goal.release_raw_index-requires-clause-held
 release_raw_index-requires-clause-held c =
     let pass = c.args.pass.now in

@@ -16,6 +16,8 @@ returns-clause-popped g c =
     inr (drained_still c.args.self.now c.empty_submitted.new.self c.empty_returned.new.self c.empty_returned.ensures.waits
     c.empty_returned.ensures.queue (c.empty_submitted.ensures.drained c.if-not-empty_submitted.false))
 
+-- The call ends early: either the first queue could not be emptied, and nothing was popped from the second,
+-- or the first was, and then `WasDrained` holds.
 pub returns-then-not-empty_submitted-clause-popped : goal.returns-then-not-empty_submitted-clause-popped
 returns-then-not-empty_submitted-clause-popped g c =
     elim c.then-not-empty_submitted.branch [

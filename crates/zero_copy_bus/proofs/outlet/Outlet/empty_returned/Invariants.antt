@@ -3,6 +3,7 @@ use Rattle.history.specs.History.{IsBeginning}
 use Rattle.zero_copy_bus.specs.Outlets.{holder_of, takes_view, waits_queue, waits_view}
 use Rattle.zero_copy_bus.proofs.outlet.Outlet.empty_returned.Given as given
 
+-- the pops of the loop change nothing but what is known of the queue of returns
 abbrev pub invariant-loop : given.invariant-loop
 invariant-loop l =
     record {

@@ -6,6 +6,7 @@ use Rattle.lock_free_queues.specs.Queues.Rings.{QueueId, consumer_view, view}
 use Rattle.zero_copy_bus.proofs.ViewLemmas.{found_further}
 use Rattle.zero_copy_bus.proofs.outlet.Outlet.empty_submitted.Goals as goal
 
+-- the split, the acquire, the pops, the release and the join of the body are those that `WasDrained` names
 pub returns-in-Ok-clause-drained : goal.returns-in-Ok-clause-drained
 returns-in-Ok-clause-drained g c seen =
     let taken = c.in-Ok.ensures.acquired in
@@ -27,6 +28,7 @@ returns-in-Ok-clause-drained g c seen =
       history = c.history.ensures.history;
     }
 
+-- the last pop found the queue empty, after all that the lane's pass had seen
 pub returns-in-Ok-clause-empty : goal.returns-in-Ok-clause-empty
 returns-in-Ok-clause-empty g c seen some =
     let taken = c.in-Ok.ensures.acquired.0 in

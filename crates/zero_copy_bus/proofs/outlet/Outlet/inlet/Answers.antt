@@ -4,6 +4,7 @@ use Rattle.lock_free_queues.specs.Queues.Rings.{view}
 use Rattle.zero_copy_bus.specs.Outlets.{waits_view}
 use Rattle.zero_copy_bus.proofs.outlet.Outlet.inlet.Goals as goal
 
+-- the two splits and the two acquires of the body are those that `WasLet` names
 pub returns-clause-leased : goal.returns-clause-leased
 returns-clause-leased c =
     let ours = c.in-Ok.ensures.acquired in

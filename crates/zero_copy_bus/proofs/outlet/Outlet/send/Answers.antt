@@ -7,6 +7,7 @@ use Rattle.zero_copy_bus.proofs.BookLemmas.{keeps_loans}
 use Rattle.zero_copy_bus.proofs.OutletLemmas.{sent_as}
 use Rattle.zero_copy_bus.proofs.outlet.Outlet.send.Goals as goal
 
+-- what was pushed and exchanged is what `IsServed` says of a lane that takes part
 pub returns-clause-served : goal.returns-clause-served
 returns-clause-served c =
     record {

@@ -4,6 +4,7 @@ use Rattle.zero_copy_bus.proofs.BookLemmas.{all_or_none, keeps_loans}
 use Rattle.zero_copy_bus.proofs.Drained.{drained_still}
 use Rattle.zero_copy_bus.proofs.outlet.Outlet.settle.Goals as goal
 
+-- a lane becomes free only if `drain` answered true
 pub returns-then-drain-clause-free : goal.returns-then-drain-clause-free
 returns-then-drain-clause-free g c is = (
   c.drain.ensures.none c.if-drain.true,

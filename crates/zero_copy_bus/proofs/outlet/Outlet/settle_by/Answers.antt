@@ -44,6 +44,7 @@ settled roll before after old new takes is_let taking shown same end queue not_l
     leased : IsFree old → ⊥
     leased is = true≢false (sym is_let ∙ ap lets is)
 
+-- the lane was Closed or Open, and so let, when `settle` was called
 pub returns-clause-settled : goal.returns-clause-settled
 returns-clause-settled g c =
     settled c.args.roll.now _ _ c.args.self.now c.settle.new.self c.has.result is_let c.settle.ensures.taking

@@ -9,6 +9,7 @@ use Rattle.zero_copy_bus.proofs.OutletLemmas.{so_empty, so_full, so_more}
 use Rattle.zero_copy_bus.proofs.PoolLemmas.{same_both}
 use Rattle.zero_copy_bus.proofs.outlet.Outlet.take_back.Goals as goal
 
+-- one more slot number was popped and put back
 pub loop-preserved : goal.loop-preserved
 loop-preserved c =
     let was = c.loop.invariant in

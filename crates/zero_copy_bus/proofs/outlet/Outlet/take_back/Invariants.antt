@@ -5,6 +5,8 @@ use Rattle.zero_copy_bus.specs.Pools.{table_of, IsSame}
 use Rattle.zero_copy_bus.proofs.OutletLemmas.{TakenSo}
 use Rattle.zero_copy_bus.proofs.outlet.Outlet.take_back.Given as given
 
+-- the loop has popped `counter` slot numbers and put them back (`TakenSo`); nothing else has
+-- changed in the table
 abbrev pub invariant-loop : given.invariant-loop
 invariant-loop l =
     record {

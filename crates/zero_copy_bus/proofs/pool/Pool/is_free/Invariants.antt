@@ -3,6 +3,7 @@ use Rattle.zero_copy_bus.specs.Books.{holders_at}
 use Rattle.zero_copy_bus.specs.Holders.{is_held}
 use Rattle.zero_copy_bus.proofs.pool.Pool.is_free.Given as given
 
+-- nobody holds a slot below `slot`
 abbrev pub invariant-loop-slot : given.invariant-loop-slot
 invariant-loop-slot l =
     (l.slot-end ≡ length l.self.table.items)

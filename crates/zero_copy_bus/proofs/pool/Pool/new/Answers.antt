@@ -6,6 +6,7 @@ use Rattle.zero_copy_bus.specs.Holders.{nobody}
 use Rattle.zero_copy_bus.proofs.BookLemmas.{book_opens}
 use Rattle.zero_copy_bus.proofs.pool.Pool.new.Goals as goal
 
+-- a table of free slots agrees with a pass that holds nothing, if none is kept
 pub invariant_of-result : goal.invariant_of-result
 invariant_of-result c =
     let all : c.in-Ok-vec.table.items ≡ replicate c.capacity-slots.result nobody = search rules in

@@ -7,6 +7,7 @@ use Rattle.zero_copy_bus.specs.Holders.{SameBut}
 use Rattle.zero_copy_bus.specs.Books.{holders_at}
 use Rattle.zero_copy_bus.proofs.pool.Pool.take.Goals as goal
 
+-- the book stays right: the slot that `take_one` returned was held by nobody, and is held now
 pub invariant_of-self-2 : goal.invariant_of-self-2
 invariant_of-self-2 g c =
     let mine = c.args.self.now in
@@ -21,6 +22,7 @@ invariant_of-self-2 g c =
           c.with.result lt c.with.ensures.held;
     }
 
+-- nobody held the slot, since it was kept or free
 pub returns-clause-free : goal.returns-clause-free
 returns-clause-free g c =
     let mine = c.args.self.now in
@@ -28,6 +30,7 @@ returns-clause-free g c =
     was_free (view since.pass) since.kept.items mine.table.items c.in_ok-slot.slot since.pass.sound
     (c.in_ok-slot.ensures.taken mine.table.items mine.book)
 
+-- the slot's holders were nobody, and now this holder alone is among them
 pub returns-clause-changes : goal.returns-clause-changes
 returns-clause-changes g c =
     let mine = c.args.self.now in

@@ -27,6 +27,7 @@ returns-in-Ok-clause-spares g c = c.in-Ok.ensures.spares ∙ c.collect.ensures.s
 pub returns-in-Err-clause-kept : goal.returns-in-Err-clause-kept
 returns-in-Err-clause-kept g c = c.in-Err.ensures.kept ∙ c.collect.ensures.spares
 
+-- the `collect`, and then the `loan` that was had
 pub returns-in-Ok-clause-tried : goal.returns-in-Ok-clause-tried
 returns-in-Ok-clause-tried g c =
     let back = c.collect.ensures in
@@ -37,6 +38,7 @@ returns-in-Ok-clause-tried g c =
     (tried_asked c.collect.new.self c.loan.new.self asked.lanes asked.same asked.next (spares_in c.collect.new.self) c.loan.result
     asked.refused asked.free asked.changes asked.loaned)
 
+-- the `collect`, and then the `loan` that was refused
 pub returns-in-Err-clause-tried : goal.returns-in-Err-clause-tried
 returns-in-Err-clause-tried g c =
     let back = c.collect.ensures in

@@ -8,6 +8,7 @@ use Rattle.zero_copy_bus.proofs.publisher.Publisher.loan_waiting.Goals as goal
 pub loop-init : goal.loop-init
 loop-init g c = record { tried = tried_none c.args.self.now; spares = refl }
 
+-- one more try that was refused
 pub loop-preserved : goal.loop-preserved
 loop-preserved g c =
     record {

@@ -9,6 +9,7 @@ use Rattle.zero_copy_bus.proofs.OutletLemmas.{number_of_all, rest_after, served_
 use Rattle.zero_copy_slots.specs.Slots.{laid_number, laid_slot}
 use Rattle.zero_copy_bus.proofs.publisher.Publisher.publish.Goals as goal
 
+-- the sends change no holder of a lane, and not which lanes take part
 pub invariant_of-self : goal.invariant_of-self
 invariant_of-self g c =
     let mine = c.args.self.now in
@@ -20,6 +21,7 @@ invariant_of-self g c =
       shown = subst (AreShown mine.roll) (sym sent.taking) mine.shown;
     }
 
+-- all lanes were served, and then the publisher gave the slot up, which changes nothing for subscribers
 pub returns-clause-served : goal.returns-clause-served
 returns-clause-served g c has =
     let laid = c.put-before.result.0 in
@@ -32,6 +34,7 @@ returns-clause-served g c has =
     (table_of c.put_back.new.self) c.args.self.now.outlets.items c.send_to_all-gained.new.outlets.items at c.slot-slot.ensures changes
     (room_of c.args.self.now) (laid_number laid) (next_of c.args.self.now) c.put-before.ensures.laid.1 c.send_to_all-gained.ensures.served
 
+-- how many subscribers gained the slot was counted while the lanes were served
 pub returns-clause-number : goal.returns-clause-number
 returns-clause-number g c has =
     let laid = c.put-before.result.0 in
@@ -44,6 +47,7 @@ returns-clause-number g c has =
     (table_of c.put_back.new.self) c.args.self.now.outlets.items c.send_to_all-gained.new.outlets.items at c.slot-slot.ensures changes
     c.send_to_all-gained.result c.send_to_all-gained.ensures.number
 
+-- bits without a lane are unchanged by the sends and by the publisher's own change
 pub returns-clause-rest : goal.returns-clause-rest
 returns-clause-rest g c =
     let slot = c.slot-slot.result in

@@ -9,6 +9,7 @@ use Rattle.zero_copy_bus.specs.Outlets.{AreShown, AtLane, EachOther, HaveTheirPl
 use Rattle.zero_copy_bus.proofs.Leases.{shown_but}
 use Rattle.zero_copy_bus.proofs.publisher.Publisher.rejoin.Goals as goal
 
+-- the pass is of the lane at the place that the subscriber left
 pub rejoin_at-requires : goal.rejoin_at-requires
 rejoin_at-requires g c = (
   c.requires.0,
@@ -16,6 +17,7 @@ rejoin_at-requires g c = (
   ap queue_of c.into_received-submission.ensures.pass ∙ c.requires.2,
 )
 
+-- one lane stops taking part, so those that do are still shown
 pub invariant_of-self : goal.invariant_of-self
 invariant_of-self g c =
     let mine = c.args.self.now in
@@ -27,6 +29,7 @@ invariant_of-self g c =
       shown = subst (AreShown mine.roll) (sym one.closed) (shown_but mine.roll _ _ mine.shown);
     }
 
+-- the lane at that place has taken the subscriber's pass in
 pub returns-clause-taken_in : goal.returns-clause-taken_in
 returns-clause-taken_in g c =
     let it = c.into_received-submission in

@@ -17,6 +17,7 @@ pub returns-then-takes_part-clause-loans : goal.returns-then-takes_part-clause-l
 returns-then-takes_part-clause-loans g c =
     subst (λ t. KeepsLoans t (table_of c.update.new.self)) c.seat.ensures.table c.update.ensures.loans
 
+-- the look of `update` counts from before `seat`, which makes no look
 pub returns-then-takes_part-clause-looked : goal.returns-then-takes_part-clause-looked
 returns-then-takes_part-clause-looked g c = (
   c.update.ensures.looked.0,
@@ -28,6 +29,7 @@ pub returns-then-takes_part-clause-part : goal.returns-then-takes_part-clause-pa
 returns-then-takes_part-clause-part g c =
     subst (λ k. slice_get (open_in (lanes_of c.update.new.self)) k ≡ Some true) c.place.ensures (c.takes_part.ensures.0 c.if-takes_part.true)
 
+-- the lane that `seat` let is still let after `update`, since its subscriber takes part
 pub returns-then-takes_part-clause-leased : goal.returns-then-takes_part-clause-leased
 returns-then-takes_part-clause-leased g c =
     let seat = c.in-Some.seat in
@@ -39,6 +41,7 @@ returns-then-takes_part-clause-leased g c =
     (subst (λ k. slice_get (open_in (lanes_of c.update.new.self)) k ≡ Some true) (c.place.ensures ∙ c.in-Ok.ensures.at)
     (c.takes_part.ensures.0 c.if-takes_part.true)))
 
+-- the lanes other than the one that `seat` let are as `seat` and then `update` leave them
 pub returns-then-takes_part-clause-others : goal.returns-then-takes_part-clause-others
 returns-then-takes_part-clause-others g c =
     subst (λ k. EachOther k OthersStay (lanes_of c.args.self.now) (lanes_of c.update.new.self)) (sym c.in-Ok.ensures.at)
@@ -67,6 +70,7 @@ returns-then-takes_part-clause-settled g c =
     c.in-Ok.ensures.receives.0 c.in-Ok.ensures.receives.1 c.in-Some.ensures.leased c.in-Some.ensures.others c.seat.ensures.table
     c.seat.ensures.same.lanes c.update.ensures.settled c.update.ensures.rest
 
+-- the look did not show the subscriber, and it has left
 pub returns-in-Ok-leave-clause-refused : goal.returns-in-Ok-leave-clause-refused
 returns-in-Ok-leave-clause-refused g c = (
   c.in-Ok.subscriber,
@@ -87,6 +91,7 @@ returns-in-Ok-leave-clause-refused g c = (
   c.in-Ok-leave.ensures.left,
 )
 
+-- the look did not show the subscriber, and the registry refused to remove its record
 pub returns-in-Err-leave-clause-refused : goal.returns-in-Err-leave-clause-refused
 returns-in-Err-leave-clause-refused g c = (
   c.in-Ok.subscriber,

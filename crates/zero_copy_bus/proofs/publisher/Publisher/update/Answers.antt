@@ -5,6 +5,7 @@ use Rattle.zero_copy_bus.specs.Pools.{table_of}
 use Rattle.zero_copy_bus.proofs.OutletLemmas.{shown_after}
 use Rattle.zero_copy_bus.proofs.publisher.Publisher.update.Goals as goal
 
+-- after the settling each lane that takes part is one that the roll shows
 pub invariant_of-self : goal.invariant_of-self
 invariant_of-self g c =
     let mine = c.args.self.now in

@@ -3,6 +3,7 @@ use Rattle.std.proofs.Common.{rules}
 use Rattle.zero_copy_bus.proofs.RollLemmas.{told_yes}
 use Rattle.zero_copy_bus.proofs.roll.Roll.recover.Goals as goal
 
+-- the closure answers yes each time it is asked
 pub returns-clause-taken : goal.returns-clause-taken
 returns-clause-taken g c =
     record {

@@ -13,17 +13,20 @@ use Rattle.zero_copy_bus.proofs.subscriber.Subscriber.receive_waiting.Goals as g
 pub loop-init : goal.loop-init
 loop-init g c = waited_none c.args.self.now
 
+-- what came in this try comes behind what came in those before, and the slots are unchanged
 pub loop-preserved : goal.loop-preserved
 loop-preserved g c =
     let more = waited_then [] c.args.self.now c.loop.self c.receive.new.self c.loop.invariant c.in_default.ensures.had in
     record { came = more.0; had = more.1; slots = c.receive.ensures.same.0 ∙ c.loop.invariant.slots }
 
+-- the slot of the sample is one of the publisher's slots, whose number has not changed
 pub returns-in-Some-receive-clause-within : goal.returns-in-Some-receive-clause-within
 returns-in-Some-receive-clause-within g c =
     let slots = c.loop.invariant.slots in
     let within = c.in-Some-receive.ensures.within in
     omega arith
 
+-- the last try popped the word of this sample, made by the layout that has not changed
 pub returns-in-Some-receive-clause-oldest : goal.returns-in-Some-receive-clause-oldest
 returns-in-Some-receive-clause-oldest g c =
     let sample = c.in-Some-receive.sample in (
@@ -34,6 +37,7 @@ returns-in-Some-receive-clause-oldest g c =
           c.loop.invariant.had.layout c.in-Some-receive.ensures.oldest,
     )
 
+-- the number of the sample is at least the one that was expected, and below the one expected now
 pub returns-in-Some-receive-clause-rises : goal.returns-in-Some-receive-clause-rises
 returns-in-Some-receive-clause-rises g c =
     let numbers = number_of c.in-Some-receive.sample ∷ [] in
@@ -44,6 +48,7 @@ pub returns-in-Some-receive-clause-had : goal.returns-in-Some-receive-clause-had
 returns-in-Some-receive-clause-had g c =
     waited_then (number_of c.in-Some-receive.sample ∷ []) c.args.self.now c.loop.self c.receive.new.self c.loop.invariant c.in-Some-receive.ensures.had
 
+-- the number of slots, the layout and the place are as before the loop
 pub returns-in-Some-receive-clause-same : goal.returns-in-Some-receive-clause-same
 returns-in-Some-receive-clause-same g c =
     let same = c.receive.ensures.same in

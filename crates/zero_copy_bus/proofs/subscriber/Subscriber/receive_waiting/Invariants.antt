@@ -1,5 +1,6 @@
 use Rattle.zero_copy_bus.proofs.Tries.{HasWaited}
 use Rattle.zero_copy_bus.proofs.subscriber.Subscriber.receive_waiting.Given as given
 
+-- the tries before received no record
 abbrev pub invariant-loop : given.invariant-loop
 invariant-loop g l = HasWaited l.fn.self l.self

@@ -18,12 +18,14 @@ loop-preserved g c =
     let more = waited_then [] c.args.self.now c.loop.self c.receive.new.self c.loop.invariant c.in_default.ensures.had in
     record { came = more.0; had = more.1; slots = c.receive.ensures.same.0 ∙ c.loop.invariant.slots }
 
+-- the slot of the sample is one of the publisher's slots, whose number has not changed
 pub returns-in-Some-clause-within : goal.returns-in-Some-clause-within
 returns-in-Some-clause-within g c =
     let slots = c.loop.invariant.slots in
     let within = c.in-Some.ensures.within in
     omega arith
 
+-- the last try popped the word of this sample, made by the layout that has not changed
 pub returns-in-Some-clause-oldest : goal.returns-in-Some-clause-oldest
 returns-in-Some-clause-oldest g c =
     let sample = c.in-Some.sample in (
@@ -34,6 +36,7 @@ returns-in-Some-clause-oldest g c =
           c.loop.invariant.had.layout c.in-Some.ensures.oldest,
     )
 
+-- the number of the sample is at least the one that was expected, and below the one expected now
 pub returns-in-Some-clause-rises : goal.returns-in-Some-clause-rises
 returns-in-Some-clause-rises g c =
     let numbers = number_of c.in-Some.sample ∷ [] in
@@ -44,6 +47,7 @@ pub returns-in-Some-clause-had : goal.returns-in-Some-clause-had
 returns-in-Some-clause-had g c =
     waited_then (number_of c.in-Some.sample ∷ []) c.args.self.now c.loop.self c.receive.new.self c.loop.invariant c.in-Some.ensures.had
 
+-- the number of slots, the layout and the place are as before the loop
 pub returns-in-Some-clause-same : goal.returns-in-Some-clause-same
 returns-in-Some-clause-same g c =
     let same = c.receive.ensures.same in
