@@ -17,6 +17,7 @@ use Rattle.machine.proofs.Laws.{laws_of}
 use Rattle.headline.proofs.WantsNothing.{IsNothing, IsDone, HasRoomIn, call_ends}
 use Rattle.headline.proofs.SubmissionRoom.{has_room}
 
+-- A call that asks for no operation and puts no question wants nothing.
 wants_nothing : (want : Want (Unit {0})) → ask_of want ≡ None → is_question want ≡ false → IsNothing want
 wants_nothing = grind arith
 
@@ -25,6 +26,7 @@ module _ {T : Type 0} where
   asks_nothing : (w : World T) (p : ℕ) → call_refusal w (Next p) ≡ None → is_due w.coding (flight_in w p) ≡ false
   asks_nothing = grind (arith, row_passed, is_none)
 
+  -- A party whose call is done has no call under way.
   none_stands : (w : World T) (p : ℕ) (a : After (Flight T) (Answer T)) → IsDone a → StandsAt w p a → flight_in w p ≡ None
   none_stands w p (GoOn flight) done stands = absurd done
   none_stands w p (Done answer) done stands = stands
@@ -37,11 +39,10 @@ module _ {T : Type 0} where
   -- a turn in which a party's call goes on, and asks for no operation, ends the call
   pub ends : (t : Trace T) → IsReached t → (turn : Turn T) → refusal_of t.world turn ≡ None → (p : ℕ) → turn ≡ Next p
       → ask_in t.world turn ≡ None → flight_in (after_turn t turn).world p ≡ None
-  ends t reached turn free p is none =
-      let here : refusal_of t.world (Next p) ≡ None = subst (λ u. refusal_of t.world u ≡ None) is free in
+  ends t reached turn free p is_next none =
+      let here : refusal_of t.world (Next p) ≡ None = rw is_next at free in
       let on = (passes t.world (Next p) here).on in
       let under = may_next t.world p on in
-      subst (λ u. flight_in (after_turn t u).world p ≡ None) (sym is)
-      (by_flight t.world (after_turn t (Next p)).world p (flight_in t.world p) refl (has_room t reached p) (asks_nothing t.world p on)
-      (subst (λ u. ask_in t.world u ≡ None) is none) (subst (λ (o : Option (Flight T)). is_none o ≡ false) (sym under.is) refl)
+      rw is_next (by_flight t.world (after_turn t (Next p)).world p (flight_in t.world p) refl (has_room t reached p) (asks_nothing t.world p on)
+      (subst (λ u. ask_in t.world u ≡ None) is_next none) (subst (λ (o : Option (Flight T)). is_none o ≡ false) (sym under.is) refl)
       ((laws_of t.world.kind).turn t (Next p) refl here reached).call)

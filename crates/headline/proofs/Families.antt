@@ -1,5 +1,5 @@
 -- What each kind's machine does, from what its family promises and from the laws of turns.
-use Rattle.std.proofs.Common.{◌≡◌, ◌⊎◌, ⊎_elim, inl, inr, ◌<◌, ℕ, true, false, Some, List, [], ◌∷◌, refl, sym, ap, subst, ◌∙◌}
+use Rattle.std.proofs.Common.{◌≡◌, ◌⊎◌, ⊎_elim, inl, inr, ◌<◌, ℕ, true, false, Some, List, [], ◌∷◌, refl, sym, ap, ◌∙◌}
 use Rattle.model.specs.declared.event.Answer.{Answer}
 use Rattle.model.specs.declared.event.Event.{Event}
 use Rattle.model.specs.declared.event.Event.TheVariants.{Published, HandedOut, Claimed, Freed, Filled, Granted}
@@ -146,16 +146,16 @@ module _ {T : Type 0} where
     claims_free : TakesFree claims t.events
     claims_free (Claimed p i) before index holder at takes =
         let same_index : i ≡ index = cc in
-        subst (λ n. holders claims n before ≡ []) same_index
-        (none_latest (holders claims i before) (claims_read i before ∙ (kept.promised.holds before at.0 (Claimed p i) at.1).1))
+        rw (← same_index) (none_latest (holders claims i before) (claims_read i before ∙ (kept.promised.holds before at.0 (Claimed p i) at.1).1))
     claims_free (Freed p i) before index holder at takes = absurd (cc)
     claims_free e before index holder at takes = absurd (cc)
 
+    -- An index is claimed only while the set is not locked.
     claims_unlocked : (e : Event T) (before : List (Event T)) (index holder : ℕ) → Follows e before t.events → claims e ≡ Takes index holder
         → unique.is_locked before ≡ false
-    claims_unlocked (Claimed p i) before index holder at takes = (kept.promised.holds before at.0 (Claimed p i) at.1).2
-    claims_unlocked (Freed p i) before index holder at takes = absurd (cc)
-    claims_unlocked e before index holder at takes = absurd (cc)
+    claims_unlocked (Claimed p i) before index holder follows takes = (kept.promised.holds before follows.0 (Claimed p i) follows.1).2
+    claims_unlocked (Freed p i) before index holder follows takes = absurd (cc)
+    claims_unlocked e before index holder follows takes = absurd (cc)
 
     one_claim : NoTwoHold claims t.events
     one_claim = no_two_hold claims t.events claims_free
@@ -164,8 +164,9 @@ module _ {T : Type 0} where
     claims_within before after (Claimed p i) at = (kept.promised.holds before after (Claimed p i) at).0
     claims_within before after e at = tt
 
+    -- Acts that are equal under Some to those of one claim are those of one claim.
     index_claimed : (index : ℕ) (all : SetActs) → Some (claimed index) ≡ Some all → all ≡ claimed index
-    index_claimed index all e = cc
+    index_claimed index all same_acts = cc
 
     -- the call that frees an index is a release of it
     by_release : (p index : ℕ) (span : Span T) → index_promises.promise.may_stand (Freed p index) span → IsRelease index (call_in span)
@@ -204,8 +205,7 @@ module _ {T : Type 0} where
     fills_free : TakesFree fills events
     fills_free (Filled p i o) before index holder at takes =
         let same_index : i ≡ index = cc in
-        subst (λ n. holders fills n before ≡ []) same_index
-        (none_latest (holders fills i before) (fills_read i before ∙ (does before at.0 (Filled p i o) at.1).1))
+        rw (← same_index) (none_latest (holders fills i before) (fills_read i before ∙ (does before at.0 (Filled p i o) at.1).1))
     fills_free (FreedOf p i o) before index holder at takes = absurd (cc)
     fills_free e before index holder at takes = absurd (cc)
 
@@ -216,17 +216,19 @@ module _ {T : Type 0} where
     fills_within before after (Filled p i o) at = (does before after (Filled p i o) at).0
     fills_within before after e at = tt
 
+    -- What an acquire has done to the set, together with the fact that the set has its index.
     acquired_of : (p index owner : ℕ) (e : Event T) (before : List (Event T)) → Follows e before events
         → robust.set_acts_of p before ≡ Fills index owner ∷ Grants index owner ∷ []
         → (robust.set_acts_of p before ≡ Fills index owner ∷ Grants index owner ∷ []) × (index < capacity)
-    acquired_of p index owner e before at did =
-        (did, filled_below capacity p index owner (Grants index owner ∷ []) events before (e ∷ at.0) fills_within at.1 did)
+    acquired_of p index owner e before follows did =
+        (did, filled_below capacity p index owner (Grants index owner ∷ []) events before (e ∷ follows.0) fills_within follows.1 did)
 
+    -- An index that is freed has one owner in its cell, the one for whom it is freed.
     freed_of : (p index owner : ℕ) (before : List (Event T)) → Follows (FreedOf p index owner) before events
         → holders fills index before ≡ owner ∷ []
-    freed_of p index owner before at =
-        one_latest (holders fills index before) owner (fills_read index before ∙ (does before at.0 (FreedOf p index owner) at.1).0)
-        (no_two_fill before (FreedOf p index owner ∷ at.0) at.1 index)
+    freed_of p index owner before follows =
+        one_latest (holders fills index before) owner (fills_read index before ∙ (does before follows.0 (FreedOf p index owner) follows.1).0)
+        (no_two_fill before (FreedOf p index owner ∷ follows.0) follows.1 index)
 
     -- in a well-formed run
     module _ (holds : Each robust_promises.HoldsRight events) where
@@ -234,16 +236,16 @@ module _ {T : Type 0} where
       grants_free : TakesFree grants events
       grants_free (Granted p i o) before index holder at takes =
           let same_index : i ≡ index = cc in
-          subst (λ n. holders grants n before ≡ []) same_index
-          (none_latest (holders grants i before) (grants_read i before ∙ holds before at.0 (Granted p i o) at.1))
+          rw (← same_index) (none_latest (holders grants i before) (grants_read i before ∙ holds before at.0 (Granted p i o) at.1))
       grants_free (FreedOf p i o) before index holder at takes = absurd (cc)
       grants_free e before index holder at takes = absurd (cc)
 
+      -- An index is granted only while the set is not locked.
       grants_unlocked : (e : Event T) (before : List (Event T)) (index holder : ℕ) → Follows e before events → grants e ≡ Takes index holder
           → unique.is_locked before ≡ false
-      grants_unlocked (Granted p i o) before index holder at takes = (does before at.0 (Granted p i o) at.1).0
-      grants_unlocked (FreedOf p i o) before index holder at takes = absurd (cc)
-      grants_unlocked e before index holder at takes = absurd (cc)
+      grants_unlocked (Granted p i o) before index holder follows takes = (does before follows.0 (Granted p i o) follows.1).0
+      grants_unlocked (FreedOf p i o) before index holder follows takes = absurd (cc)
+      grants_unlocked e before index holder follows takes = absurd (cc)
 
       one_grant : NoTwoHold grants events
       one_grant = no_two_hold grants events grants_free
@@ -281,7 +283,7 @@ module _ {T : Type 0} where
 
   -- a robust index set that keeps its promise runs as the headline says
   robust_runs : (t : Trace T) → t.world.kind ≡ kinds.Robust → IsReached t → IsKeptBy robust_promises.promise t → RobustRuns t
-  robust_runs t is reached kept =
+  robust_runs t of_kind reached kept =
       let set = kept.promised in
       record {
         no_two_fill = no_two_fill t.world.capacity t.events set.does;
@@ -297,23 +299,23 @@ module _ {T : Type 0} where
         );
         recovered = λ p index owner mode before at. (set.answers before at.0 _ at.1).1.gone index owner;
         asked_each = λ p index owner mode before at. (set.answers before at.0 _ at.1).1.asked index owner;
-        locks = λ p index owner before at. locking.locks t is reached before at.0 _ at.1 index owner;
+        locks = λ p index owner before at. locking.locks t of_kind reached before at.0 _ at.1 index owner;
         found = λ p owner number before at. set.answers before at.0 _ at.1;
       }
 
   -- the indices of a container are held right, however its replaces overlap
   holds_right : (t : Trace T) → t.world.kind ≡ kinds.Container → IsReached t → robust_promises.IsWellFormed t.events
       → Each robust_promises.HoldsRight t.events
-  holds_right t is reached well = (reached_sound shown t is reached).holds.good.holds (well, tt)
+  holds_right t of_kind reached well = (reached_sound shown t of_kind reached).holds.good.holds (well, tt)
 
   -- a container that keeps its promise runs as the headline says
   container_runs : (t : Trace T) → t.world.kind ≡ kinds.Container → IsReached t → IsKeptBy container_promises.promise t → ContainerRuns t
-  container_runs t is reached kept =
+  container_runs t of_kind reached kept =
       let set = kept.promised in
       record {
         no_two_fill = no_two_fill t.world.capacity t.events set.does;
-        no_two_hold = λ well. one_grant t.world.capacity t.events set.does (holds_right t is reached well);
-        none_once_locked = λ well. none_granted t.world.capacity t.events set.does (holds_right t is reached well);
+        no_two_hold = λ well. one_grant t.world.capacity t.events set.does (holds_right t of_kind reached well);
+        none_once_locked = λ well. none_granted t.world.capacity t.events set.does (holds_right t of_kind reached well);
         acquired = λ p index owner value before at.
             let finished = finished_wrote container_promises.promise t p _ _ before kept at in
             acquired_of t.world.capacity t.events set.does p index owner _ before at
@@ -332,12 +334,12 @@ module _ {T : Type 0} where
         recovered = λ p index owner mode before at. (set.answers before at.0 _ at.1).1.gone index;
         asked_each = λ p index owner mode before at. (set.answers before at.0 _ at.1).1.asked index;
         locks = λ p index owner before at. (set.answers before at.0 _ at.1).2 index;
-        visits = visits_unlocked t is reached kept;
+        visits = visits_unlocked t of_kind reached kept;
         found = λ p owner number before at. set.answers before at.0 _ at.1;
-        waits = waiting.waits t is reached;
-        changes = counting.counts_changes t is reached;
-        met = λ p before at. meeting.meets_changes t is reached before at.0 _ at.1;
-        met_none = λ p before at. meeting.meets_changes t is reached before at.0 _ at.1;
+        waits = waiting.waits t of_kind reached;
+        changes = counting.counts_changes t of_kind reached;
+        met = λ p before at. meeting.meets_changes t of_kind reached before at.0 _ at.1;
+        met_none = λ p before at. meeting.meets_changes t of_kind reached before at.0 _ at.1;
       }
 
   -- ---- the loan channel
@@ -350,29 +352,29 @@ module _ {T : Type 0} where
   moved_by (starts.Loan other) answer wrote sends_or_receives h = absurd (cc)
   moved_by other answer wrote sends_or_receives h = absurd (cc)
 
+  -- A party that is in a reclaim by its span has the reclaim as its latest call.
   reclaiming : (span : Span T) → loan_promises.IsReclaiming span → call_in span ≡ Some (starts.Loan calls.Reclaim)
   reclaiming Never is_reclaiming = absurd is_reclaiming
   reclaiming (Open call wrote) is_reclaiming = ap (λ (c : Start T). Some c) is_reclaiming.0
   reclaiming (Ended call answer wrote) is_reclaiming = absurd is_reclaiming
 
   module _ (book : Book) (t : Trace T) (channel : loan_promises.IsChannelOf book t) where
+    -- The holders of an index before an event are those that its spot names.
     with_at : (i : ℕ) (e : Event T) (before : List (Event T)) → Follows e before t.events → (spot : Spot) → spot_of i before ≡ spot
         → IsWith spot (holders loans i before)
-    with_at i e before at spot is = loaned_at t.world.capacity t.events channel.moves i e before at spot is
+    with_at i e before follows spot spot_is = loaned_at t.world.capacity t.events channel.moves i e before follows spot spot_is
 
     -- an index goes to a party only where it is with nobody
     loans_free : TakesFree loans t.events
     loans_free (Claimed p i) before index holder at takes =
         let same_index : i ≡ index = cc in
-        subst (λ n. holders loans n before ≡ []) same_index (with_at i (Claimed p i) before at Free (channel.moves before at.0 (Claimed p i) at.1).1)
+        rw (← same_index) (with_at i (Claimed p i) before at Free (channel.moves before at.0 (Claimed p i) at.1).1)
     loans_free (HandedOut p (items.Index i)) before index holder at takes =
         let same_index : i ≡ index = cc in
-        subst (λ n. holders loans n before ≡ []) same_index
-        (with_at i (HandedOut p (items.Index i)) before at Waiting (channel.moves before at.0 (HandedOut p (items.Index i)) at.1).1)
+        rw (← same_index) (with_at i (HandedOut p (items.Index i)) before at Waiting (channel.moves before at.0 (HandedOut p (items.Index i)) at.1).1)
     loans_free (TakenBack p i) before index holder at takes =
         let same_index : i ≡ index = cc in
-        subst (λ n. holders loans n before ≡ []) same_index
-        (with_at i (TakenBack p i) before at Returning (channel.moves before at.0 (TakenBack p i) at.1).1)
+        rw (← same_index) (with_at i (TakenBack p i) before at Returning (channel.moves before at.0 (TakenBack p i) at.1).1)
     loans_free (Published p (items.Index i)) before index holder at takes = absurd (cc)
     loans_free (Returned p i) before index holder at takes = absurd (cc)
     loans_free (Freed p i) before index holder at takes = absurd (cc)
@@ -385,30 +387,32 @@ module _ {T : Type 0} where
     loans_within before after (Claimed p i) at = (channel.moves before after (Claimed p i) at).0
     loans_within before after e at = tt
 
+    -- Each index that is handed out is below the number of slots.
     receives_within : Each (λ before e. HandsOutBelow t.world.capacity e) t.events
     receives_within before after (HandedOut p (items.Index i)) at = (channel.moves before after (HandedOut p (items.Index i)) at).0
     receives_within before after (HandedOut p (items.Value value)) at = tt
     receives_within before after e at = tt
 
+    -- A party with whom an index is, or in whose call it is in passing, is its one holder.
     is_with : (index x : ℕ) (e : Event T) (before : List (Event T)) → Follows e before t.events
         → (spot_of index before ≡ With x) ⊎ (spot_of index before ≡ Passing x) → holders loans index before ≡ x ∷ []
-    is_with index x e before at is =
-        one_latest (holders loans index before) x (⊎_elim (with_at index e before at (With x)) (with_at index e before at (Passing x)) is)
-        (one_has before (e ∷ at.0) at.1 index)
+    is_with index x e before follows with_party =
+        one_latest (holders loans index before) x (⊎_elim (with_at index e before follows (With x)) (with_at index e before follows (Passing x)) with_party)
+        (one_has before (e ∷ follows.0) follows.1 index)
 
     -- who frees an index has it, or it was left over
     freed_by : (p index : ℕ) (before : List (Event T)) → Follows (Freed p index) before t.events
         → (holders loans index before ≡ p ∷ []) ⊎ IsLeftOver p index before
-    freed_by p index before at =
-        ⊎_elim (λ passes. inl (is_with index p (Freed p index) before at (inr passes)))
+    freed_by p index before follows =
+        ⊎_elim (λ passes. inl (is_with index p (Freed p index) before follows (inr passes)))
         (λ left.
         inr
         (record {
           reclaims = reclaiming (span_of p before) left.0;
           dead = left.1.0;
-          held = is_with index (receiver_of before) (Freed p index) before at left.1.1;
+          held = is_with index (receiver_of before) (Freed p index) before follows left.1.1;
         }))
-        (channel.moves before at.0 (Freed p index) at.1).1
+        (channel.moves before follows.0 (Freed p index) follows.1).1
 
     -- a loan channel with this book, which keeps its promise, runs as the headline says
     channel_of : IsKeptBy loan_promises.promise t → queue_in t.world.kept ≡ Some book.queue → ChannelRuns book.queue t
@@ -437,25 +441,25 @@ module _ {T : Type 0} where
   -- a loan channel that keeps its promise runs as the headline says, with the submission queue that it has
   channel_runs : (queue : ℕ) (t : Trace T) (kept : Registry T) → IsKeptBy loan_promises.promise t → t.world.kept ≡ kept
       → loan_promises.IsChannelBy kept t → queue_in t.world.kept ≡ Some queue → ChannelRuns queue t
-  channel_runs queue t (registries.Loan book) all is channel length =
-      let same : Some book.queue ≡ Some queue = sym (ap queue_in is) ∙ length in
+  channel_runs queue t (registries.Loan book) all kept_is channel length =
+      let same : Some book.queue ≡ Some queue = sym (ap queue_in kept_is) ∙ length in
       let one : book.queue ≡ queue = cc in
-      subst (λ n. ChannelRuns n t) one (channel_of book t channel all (length ∙ sym same))
-  channel_runs queue t kept all is channel length = absurd channel
+      rw (← one) (channel_of book t channel all (length ∙ sym same))
+  channel_runs queue t kept all kept_is channel length = absurd channel
 
   -- ---- every kind
 
   -- a machine of each kind runs as the headline says
   pub by_kind : (kind : Kind) (queue : ℕ) (t : Trace T) → t.world.kind ≡ kind → (r : IsReached t) → r.queue ≡ queue
       → IsKeptBy (promise_of kind) t → IsLinearized kind t → Runs kind queue t
-  by_kind kinds.IndexQueue queue t is r same kept linearizable = queue_runs queue_kinds.IndexQueue t kept linearizable
-  by_kind kinds.Overflow queue t is r same kept linearizable = queue_runs queue_kinds.Overflow t kept linearizable
-  by_kind kinds.Queue queue t is r same kept linearizable = queue_runs queue_kinds.Queue t kept linearizable
-  by_kind kinds.Atomic queue t is r same kept linearizable = value_runs t kept linearizable
-  by_kind kinds.Bits queue t is r same kept linearizable = bits_run t kept
-  by_kind kinds.Counts queue t is r same kept linearizable = counts_run t kept
-  by_kind kinds.Indices queue t is r same kept linearizable = indices_run t kept
-  by_kind kinds.Robust queue t is r same kept linearizable = robust_runs t is r kept
-  by_kind kinds.Container queue t is r same kept linearizable = container_runs t is r kept
-  by_kind kinds.Loan queue t is r same kept linearizable =
-      channel_runs queue t t.world.kept kept refl kept.promised (submission.queue_is t is r ∙ ap (λ (n : ℕ). Some n) same)
+  by_kind kinds.IndexQueue queue t of_kind r same kept linearizable = queue_runs queue_kinds.IndexQueue t kept linearizable
+  by_kind kinds.Overflow queue t of_kind r same kept linearizable = queue_runs queue_kinds.Overflow t kept linearizable
+  by_kind kinds.Queue queue t of_kind r same kept linearizable = queue_runs queue_kinds.Queue t kept linearizable
+  by_kind kinds.Atomic queue t of_kind r same kept linearizable = value_runs t kept linearizable
+  by_kind kinds.Bits queue t of_kind r same kept linearizable = bits_run t kept
+  by_kind kinds.Counts queue t of_kind r same kept linearizable = counts_run t kept
+  by_kind kinds.Indices queue t of_kind r same kept linearizable = indices_run t kept
+  by_kind kinds.Robust queue t of_kind r same kept linearizable = robust_runs t of_kind r kept
+  by_kind kinds.Container queue t of_kind r same kept linearizable = container_runs t of_kind r kept
+  by_kind kinds.Loan queue t of_kind r same kept linearizable =
+      channel_runs queue t t.world.kept kept refl kept.promised (submission.queue_is t of_kind r ∙ ap (λ (n : ℕ). Some n) same)

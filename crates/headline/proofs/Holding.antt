@@ -11,24 +11,28 @@ use Rattle.headline.specs.Holders.{Hand, Takes, Gives, Neither, held_after, clai
 use Rattle.headline.specs.Moments.{Follows}
 
 pub is_it : (index i : ℕ) → (index == i) ≡ true → index ≡ i
-is_it index i t = grind (arith, nat_tests)
+is_it index i test = grind (arith, nat_tests)
 
+-- A choice between a list and the same list is that list.
 either : (b : Bool) (held : List ℕ) → (if b then held else held) ≡ held
 either true held = refl
 either false held = refl
 
+-- An index without holders stays without one, if the event takes none.
 stays_none : (i : ℕ) (h : Hand) → ((index holder : ℕ) → h ≡ Takes index holder → ⊥) → held_after i [] h ≡ []
 stays_none i (Takes index holder) never = absurd (never index holder refl)
 stays_none i (Gives index) never = either (index == i) []
 stays_none i Neither never = refl
 
 true_false : (b : Bool) → b ≡ true → b ≡ false → ⊥
-true_false b t f = cc
+true_false b same_true same_false = cc
 
 module _ {T : Type 0} (hand : Event T → Hand) where
+  -- The holders of index i after an event, from those before it.
   abbrev pub after : ℕ → List ℕ → Event T → List ℕ
   after i held e = held_after i held (hand e)
 
+  -- The holders after one event more follow from those before it.
   pub one_after : (i : ℕ) (before : List (Event T)) (e : Event T) → holders hand i (before ++ e ∷ []) ≡ after i (holders hand i before) e
   one_after i before e = fold-append (after i) [] before (e ∷ [])
 
@@ -40,14 +44,16 @@ module _ {T : Type 0} (hand : Event T → Hand) where
       → (past future : List (Event T)) → events ≡ past ++ future → P past
   always P events first next past future is = go past [] is first
     where
+      -- What holds before some events holds after them, one event after another.
       go : (es before : List (Event T)) → events ≡ before ++ (es ++ future) → P before → P (before ++ es)
-      go [] before is h = subst P (sym (append-nil before)) h
-      go (e ∷ es) before is h =
+      go [] before split h = subst P (sym (append-nil before)) h
+      go (e ∷ es) before split h =
           subst P (append_assoc before (e ∷ []) es)
-          (go es (before ++ e ∷ []) (is ∙ sym (append_assoc before (e ∷ []) (es ++ future))) (next e before (es ++ future, is) h))
+          (go es (before ++ e ∷ []) (split ∙ sym (append_assoc before (e ∷ []) (es ++ future))) (next e before (es ++ future, split) h))
 
   -- ---- what an index goes to, goes to it where it has no holder
 
+  -- An index is taken only where it has no holder before the event.
   abbrev pub TakesFree : List (Event T) → Type 0
   TakesFree events =
       (e : Event T) (before : List (Event T)) (index holder : ℕ) → Follows e before events → hand e ≡ Takes index holder
@@ -58,14 +64,16 @@ module _ {T : Type 0} (hand : Event T → Hand) where
       → length held ≤ 1 → length (held_after i held h) ≤ 1
   at_most_one i held (Takes index holder) free few = go (index == i) refl
     where
+      -- If the index that is taken is i, then i had no holder.
       none : index ≡ i → held ≡ []
-      none is = free index holder refl (sym is)
+      none same_index = free index holder refl (sym same_index)
 
       go : (b : Bool) → (index == i) ≡ b → length (if b then holder ∷ held else held) ≤ 1
-      go true t = let same_index : index ≡ i = is_it index i t in rw (none same_index) (omega arith)
-      go false t = few
+      go true test = let same_index : index ≡ i = is_it index i test in rw (none same_index) (omega arith)
+      go false test = few
   at_most_one i held (Gives index) free few = go (index == i)
     where
+      -- The cases are whether the index that is given back is i.
       go : (b : Bool) → length (if b then [] else held) ≤ 1
       go true = omega arith
       go false = few
@@ -76,9 +84,8 @@ module _ {T : Type 0} (hand : Event T → Hand) where
   no_two_hold events free =
       always (λ past. (i : ℕ) → length (holders hand i past) ≤ 1) events (λ i. omega arith)
       (λ e before at few i.
-      subst (λ (held : List ℕ). length held ≤ 1) (sym (one_after i before e))
-      (at_most_one i (holders hand i before) (hand e)
-      (λ index holder takes is. subst (λ n. holders hand n before ≡ []) (sym is) (free e before index holder at takes)) (few i)))
+      rw (one_after i before e) (at_most_one i (holders hand i before) (hand e)
+      (λ index holder takes is. rw is (free e before index holder at takes)) (few i)))
 
   -- ---- none is held once the set is locked
 
@@ -89,49 +96,56 @@ module _ {T : Type 0} (hand : Event T → Hand) where
     pub before_lock : (e : Event T) (before : List (Event T)) (index holder : ℕ) → Follows e before events → hand e ≡ Takes index holder
         → unique.is_locked before ≡ false
 
+  -- If the set is locked, no index has a holder.
   abbrev IsNone : List (Event T) → Type 0
   IsNone past = unique.is_locked past ≡ true → (i : ℕ) → holders hand i past ≡ []
 
   -- an event that is no lock
   quiet_none : (events : List (Event T)) → LocksFree events → (e : Event T) (before : List (Event T)) → Follows e before events
       → ((b : Bool) → unique.locked_after b e ≡ b) → IsNone before → IsNone (before ++ e ∷ [])
-  quiet_none events free e before at quiet none locked i =
+  quiet_none events free e before follows quiet none locked i =
       let still : unique.is_locked before ≡ true =
       sym (quiet (unique.is_locked before)) ∙ (sym (fold-append unique.locked_after false before (e ∷ [])) ∙ locked) in
       one_after i before e
       ∙ (ap (λ (held : List ℕ). after i held e) (none still i)
-      ∙ stays_none i (hand e) (λ index holder takes. true_false (unique.is_locked before) still (free.before_lock e before index holder at takes)))
+      ∙ stays_none i (hand e) (λ index holder takes. true_false (unique.is_locked before) still (free.before_lock e before index holder follows takes)))
 
   -- an event keeps that no index has a holder once the set is locked
   next_none : (events : List (Event T)) → LocksFree events → (e : Event T) (before : List (Event T)) → Follows e before events
       → IsNone before → IsNone (before ++ e ∷ [])
-  next_none events free (Locked p) before at none = λ locked i.
+  next_none events free (Locked p) before follows none = λ locked i.
       one_after i before (Locked p)
-      ∙ (ap (held_after i (holders hand i before)) (free.locked p) ∙ free.at_lock p before at i)
-  next_none events free e before at none = quiet_none events free e before at (λ b. refl) none
+      ∙ (ap (held_after i (holders hand i before)) (free.locked p) ∙ free.at_lock p before follows i)
+  next_none events free e before follows none = quiet_none events free e before follows (λ b. refl) none
 
+  -- If no index is given once the set is locked, then none is in these events.
   pub none_once_locked : (events : List (Event T)) → LocksFree events → NoneOnceLocked hand events
   none_once_locked events free = always IsNone events (λ locked i. refl) (next_none events free)
 
 -- ---- the holder that a family reads is the latest one
 
+-- The latest holder, if there is one.
 abbrev pub latest : List ℕ → Option ℕ
 latest [] = None
 latest (x ∷ xs) = Some x
 
+-- A list without a latest holder is empty.
 pub none_latest : (held : List ℕ) → latest held ≡ None → held ≡ []
-none_latest [] e = refl
-none_latest (x ∷ xs) e = absurd (cc)
+none_latest [] latest_is = refl
+none_latest (x ∷ xs) latest_is = absurd (cc)
 
+-- A list of at most one holder, whose latest is x, has x alone.
 pub one_latest : (held : List ℕ) (x : ℕ) → latest held ≡ Some x → length held ≤ 1 → held ≡ x ∷ []
-one_latest [] x e few = absurd (cc)
-one_latest (y ∷ []) x e few = let same_item : y ≡ x = cc in ap (λ (n : ℕ). n ∷ []) same_item
-one_latest (y ∷ z ∷ zs) x e few = absurd (omega arith)
+one_latest [] x latest_is few = absurd (cc)
+one_latest (y ∷ []) x latest_is few = let same_item : y ≡ x = cc in ap (λ (n : ℕ). n ∷ []) same_item
+one_latest (y ∷ z ∷ zs) x latest_is few = absurd (omega arith)
 
+-- The latest holder after an event that takes the index, if it is this index that is taken.
 if_takes : (b : Bool) (x : ℕ) (held : List ℕ) → latest (if b then x ∷ held else held) ≡ (if b then Some x else latest held)
 if_takes true x held = refl
 if_takes false x held = refl
 
+-- The latest holder after an event that gives the index back, if it is this index that is given back.
 if_gives : (b : Bool) (held : List ℕ) → latest (if b then [] else held) ≡ (if b then None else latest held)
 if_gives true held = refl
 if_gives false held = refl
@@ -146,26 +160,32 @@ module _ {T : Type 0} where
   reads hand i read one (e ∷ es) held =
       reads hand i read one es (held_after i held (hand e)) ∙ ap (λ (o : Option ℕ). fold read o es) (one held e)
 
+  -- The latest holder by claims changes with an event as the holder of the unique index set does.
   one_claim : (i : ℕ) (held : List ℕ) (e : Event T) → latest (held_after i held (claims e)) ≡ unique.holder_after i (latest held) e
   one_claim i held (Claimed p index) = if_takes (index == i) p held
   one_claim i held (Freed p index) = if_gives (index == i) held
   one_claim i held e = refl
 
+  -- The latest holder by the claims is the holder that the index set reads.
   pub claims_read : (i : ℕ) (events : List (Event T)) → latest (holders claims i events) ≡ unique.holder_of i events
   claims_read i events = reads claims i (unique.holder_after i) (one_claim i) events []
 
+  -- The latest owner by fills changes with an event as the owner that fills the index does.
   one_fill : (i : ℕ) (held : List ℕ) (e : Event T) → latest (held_after i held (fills e)) ≡ robust.filled_after i (latest held) e
   one_fill i held (Filled p index o) = if_takes (index == i) o held
   one_fill i held (FreedOf p index o) = if_gives (index == i) held
   one_fill i held e = refl
 
+  -- The latest holder by the fills is the owner that the robust set reads.
   pub fills_read : (i : ℕ) (events : List (Event T)) → latest (holders fills i events) ≡ robust.filled_of i events
   fills_read i events = reads fills i (robust.filled_after i) (one_fill i) events []
 
+  -- The latest owner by grants changes with an event as the holder in a set of owners does.
   one_grant : (i : ℕ) (held : List ℕ) (e : Event T) → latest (held_after i held (grants e)) ≡ robust.holder_after i (latest held) e
   one_grant i held (Granted p index o) = if_takes (index == i) o held
   one_grant i held (FreedOf p index o) = if_gives (index == i) held
   one_grant i held e = refl
 
+  -- The latest holder by the grants is the holder that the robust set reads.
   pub grants_read : (i : ℕ) (events : List (Event T)) → latest (holders grants i events) ≡ robust.holder_of i events
   grants_read i events = reads grants i (robust.holder_after i) (one_grant i) events []

@@ -17,7 +17,8 @@ use Rattle.headline.specs.Holders.{held_after, loans, holders}
 use Rattle.headline.specs.Moments.{Follows}
 use Rattle.headline.proofs.Holding.{is_it, latest, always, one_after}
 
--- an index that is free or in a queue is with nobody; another one is with its party
+-- The holders that an index has at a spot: none if it is free or in a queue, else its latest holder is the
+-- party that it is with, or in whose call it is in passing.
 abbrev pub IsWith : Spot → List ℕ → Type 0
 IsWith Free held = held ≡ []
 IsWith (Passing p) held = latest held ≡ Some p
@@ -25,25 +26,29 @@ IsWith (With p) held = latest held ≡ Some p
 IsWith Waiting held = held ≡ []
 IsWith Returning held = held ≡ []
 
+-- With an index that goes to x its holders become x and those before, whether the move is of this
+-- index or of another.
 goes_to : (b : Bool) (spot to : Spot) (x : ℕ) (held : List ℕ) → IsWith to (x ∷ held) → IsWith spot held
     → IsWith (if b then to else spot) (if b then x ∷ held else held)
 goes_to true spot to x held new old = new
 goes_to false spot to x held new old = old
 
+-- With an index that comes back it has no holder, whether the move is of this index or of another.
 comes_back : (b : Bool) (spot to : Spot) (held : List ℕ) → IsWith to [] → IsWith spot held
     → IsWith (if b then to else spot) (if b then [] else held)
 comes_back true spot to held new old = new
 comes_back false spot to held new old = old
 
--- a call of the party that has it begins or ends
+-- An index stays with its party as a call of that party that names it begins or ends.
 stays_with : (b : Bool) (spot from to : Spot) (held : List ℕ) → (b ≡ true → spot ≡ from) → (IsWith from held → IsWith to held)
     → IsWith spot held → IsWith (if b then to else spot) held
-stays_with true spot from to held is same old = same (subst (λ (s : Spot). IsWith s held) (is refl) old)
-stays_with false spot from to held is same old = old
+stays_with true spot from to held from_spot same old = same (rw (← from_spot refl) old)
+stays_with false spot from to held from_spot same old = old
 
 module _ {T : Type 0} (slots : ℕ) where
+  -- An index that an event moves is at the spot from which the event moves it.
   comes_from : (i index : ℕ) (from : Spot) (before : List (Event T)) → spot_of index before ≡ from → (index == i) ≡ true → spot_of i before ≡ from
-  comes_from i index from before is t = subst (λ (n : ℕ). spot_of n before ≡ from) (is_it index i t) is
+  comes_from i index from before spot_is test = rw (← is_it index i test) spot_is
 
   -- an event that moves an index right leaves it with whom its spot says
   one_loan : (i : ℕ) (before : List (Event T)) (held : List ℕ) (e : Event T) → MovesRight slots before e → IsWith (spot_of i before) held
@@ -83,12 +88,11 @@ module _ {T : Type 0} (slots : ℕ) where
   loaned events moves i =
       always loans (λ past. IsWith (spot_of i past) (holders loans i past)) events refl
       (λ e before at old.
-      subst (λ (s : Spot). IsWith s (holders loans i (before ++ e ∷ []))) (sym (fold-append (spot_after i) Free before (e ∷ [])))
-      (subst (IsWith (spot_after i (spot_of i before) e)) (sym (one_after loans i before e))
+      rw (fold-append (spot_after i) Free before (e ∷ [])) (subst (IsWith (spot_after i (spot_of i before) e)) (sym (one_after loans i before e))
       (one_loan i before (holders loans i before) e (moves before at.0 e at.1) old)))
 
   -- right before an event of the run
   pub loaned_at : (events : List (Event T)) → Each (MovesRight slots) events → (i : ℕ) (e : Event T) (before : List (Event T))
       → Follows e before events → (spot : Spot) → spot_of i before ≡ spot → IsWith spot (holders loans i before)
-  loaned_at events moves i e before at spot is =
-      subst (λ (s : Spot). IsWith s (holders loans i before)) is (loaned events moves i before (e ∷ at.0) at.1)
+  loaned_at events moves i e before follows spot spot_is =
+      rw (← spot_is) (loaned events moves i before (e ∷ follows.0) follows.1)

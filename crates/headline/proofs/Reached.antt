@@ -1,5 +1,5 @@
 -- What holds of every machine that turns have reached.
-use Rattle.std.proofs.Common.{◌≤◌, refl, subst}
+use Rattle.std.proofs.Common.{◌≤◌, refl}
 use Rattle.model.specs.Turns.{IsReached}
 use Rattle.model.specs.World.{Trace, progress_in}
 use Rattle.model.specs.Progress.{guarantee_of}
@@ -25,7 +25,7 @@ holds t r =
             paid = λ p g is.
                 pays (promise_of t.world.kind) t.world.capacity t.world.coding.size (span_of p t.events) (progress_in t.world p) g (kept.progress p) is;
             bounded = λ p start g call is.
-                subst (λ most. g.steps ≤ most) (most_promised t.world.kind t.world.capacity t.world.coding.size start g.backs)
+                rw (← most_promised t.world.kind t.world.capacity t.world.coding.size start g.backs)
                 (is_bounded (promise_of t.world.kind) t.world.capacity t.world.coding.size (span_of p t.events) (progress_in t.world p) start g
                 (kept.progress p) call is);
             guaranteed = λ p start g call is.

@@ -16,23 +16,25 @@ module _ {T : Type 0} where
 
   -- a world that was made as a second, which was made as a third, was made as the third
   still : (v old new : World T) → SameMaking v old → SameMaking old new → SameMaking v new
-  still v old new a b =
+  still v old new making_before making_now =
       record {
-        coding = b.coding ∙ a.coding;
-        kind = b.kind ∙ a.kind;
-        capacity = b.capacity ∙ a.capacity;
-        parties = b.parties ∙ a.parties;
+        coding = making_now.coding ∙ making_before.coding;
+        kind = making_now.kind ∙ making_before.kind;
+        capacity = making_now.capacity ∙ making_before.capacity;
+        parties = making_now.parties ∙ making_before.parties;
       }
 
+  -- Turns keep what a machine was made with: its coding, kind, capacity and number of parties.
   goes_on : (v : World T) (turns : List (Turn T)) (t : Trace T) → SameMaking v t.world → SameMaking v (run turns t).world
   goes_on v =
       run_keeps refusal_of (λ t. SameMaking v t.world)
       (λ t turn e m. still v t.world (after_turn t turn).world m (turn_making t.world turn))
 
+  -- Turns from two openings that were made with equal numbers lead to the same machine.
   same_opening : (turns : List (Turn T)) (code code' : Coding T) (kind kind' : Kind) (capacity capacity' queue parties parties' : ℕ)
       → code' ≡ code → kind' ≡ kind → capacity' ≡ capacity → parties' ≡ parties
       → run turns (opened code kind capacity queue parties) ≡ run turns (opened code' kind' capacity' queue parties')
-  same_opening turns code code' kind kind' capacity capacity' queue parties parties' a b c d = rw (a, b, c, d) refl
+  same_opening turns code code' kind kind' capacity capacity' queue parties parties' same_code same_kind c d = rw (same_code, same_kind, c, d) refl
 
   -- each list of turns reaches a machine, at an admitted capacity and with an admitted submission queue
   pub reaches : (code : Coding T) (kind : Kind) (capacity queue parties : ℕ) (turns : List (Turn T)) → IsCoding code

@@ -33,36 +33,44 @@ use Rattle.laws_machine.specs.Others.{queue_in}
 use Rattle.headline.proofs.WantsNothing.{HasRoom, HasRoomIn}
 use Rattle.headline.proofs.Holding.{is_it}
 
+-- A submission queue, if there is one, has room for an index.
 abbrev TakesOne : Option ℕ → Type 0
 TakesOne None = Unit {0}
 TakesOne (Some queue) = 1 ≤ queue
 
+-- A loan call that begins has room in a submission queue of at least one place.
 begins_roomy : (slots : ℕ) (book : Book) (start : LoanStart) → 1 ≤ book.queue → HasRoom (first slots book start)
 begins_roomy = grind (arith, nat_tests)
 
 module _ {T : Type 0} where
+  -- The call goes on at a stage at which its submission queue has room, or it is done.
   abbrev GoesRoomy : After LoanFlight (Answer T) → Type 0
   GoesRoomy (GoOn flight) = HasRoom flight
   GoesRoomy (Done answer) = Unit {0}
 
 module _ (T : Type 0) where
+  -- A loan call that has room still has room after a step, if it goes on.
   goes_roomy : (places : List Place) (flight : LoanFlight) (old : ℕ) → HasRoom flight → GoesRoomy (after {T = T} places flight old)
   goes_roomy = grind arith
 
+  -- A machine that opens without an error has a submission queue that takes at least one index.
   opens_roomy : (kind : Kind) (capacity queue : ℕ) → queue_error kind queue ≡ None → TakesOne (queue_in (kept_opened {T = T} kind capacity queue))
   opens_roomy = grind (arith, nat_tests)
 
 module _ {T : Type 0} where
   -- ---- any call
 
+  -- The call that a begin leads to has room.
   first_roomy : (kind : Kind) (capacity : ℕ) (start : Start T) (kept : Registry T) → TakesOne (queue_in kept)
       → HasRoomIn (first_of kind capacity start kept)
   first_roomy = grind (arith, begins_roomy)
 
+  -- The machine's call goes on at a stage at which its submission queue has room, or it is done.
   abbrev StepsRoomy : After (Flight T) (Answer T) → Type 0
   StepsRoomy (GoOn flight) = HasRoomIn (Some flight)
   StepsRoomy (Done answer) = Unit {0}
 
+  -- A call of any family that has room still has room after a step, if it goes on.
   steps_roomy : (code : Coding T) (words : List ℕ) (beside : Option (ℕ × ℕ)) (p : ℕ) (start : Start T) (flight : Flight T) (old : ℕ)
       (kept : Registry T) → HasRoomIn (Some flight) → StepsRoomy (step_of code words beside p start flight old kept).after
   steps_roomy = grind (arith, goes_roomy)
@@ -70,34 +78,39 @@ module _ {T : Type 0} where
   -- ---- a turn
 
   module _ (w : World T) (p : ℕ) where
+    -- If the call that begins has room, then the party's call has room after the begin.
     begun : (start : Start T) (o : Option (Flight T)) → HasRoomIn o → HasRoomIn (flight_in w p) → HasRoomIn (flight_in (after_begin w p start o) p)
     begun = grind (arith, party_put_same)
 
+    -- After a step or a decision the party's call, if one is under way, has room.
     answered : (x : Party T) (ask : Option Ask) (answer : ℕ) (doing : Doing T) → HasRoomIn (flight_of (Some doing)) → HasRoomIn (flight_in w p)
         → HasRoomIn (flight_in (after_answer w p x ask answer doing) p)
     answered = grind (arith, step_in, steps_roomy, party_put_same)
 
+    -- After a turn `Next` the party's call, if one is under way, has room.
     went : (o : Option (Party T)) → HasRoomIn (flight_of (doing_of o)) → HasRoomIn (flight_in w p) → HasRoomIn (flight_in (after_next w p o) p)
     went = grind (arith, answered)
 
     -- after a decision the party's call still has room for what it submits
     decided : (said : Bool) (o : Option (Party T)) → HasRoomIn (flight_of (doing_of o)) → HasRoomIn (flight_in w p)
         → HasRoomIn (flight_in (after_decision w p said o) p)
-    decided said None h here = here
-    decided said (Some x) h here = answered x None (number_of said) x.doing h here
+    decided said None has_room here = here
+    decided said (Some x) has_room here = answered x None (number_of said) x.doing has_room here
 
   record IsRoomy (w : World T) : Type 0 where
     pub queue : TakesOne (queue_in w.kept)
     pub calls : (p : ℕ) → HasRoomIn (flight_in w p)
 
-  -- the party of the turn stands so, and the others where they stood
+  -- If the call of the turn's party has room in the submission queue after the turn, then so has every
+  -- party's, since the other calls stay where they stood.
   by_party : (w : World T) (turn : Turn T) (p : ℕ) → ((q : ℕ) → q ≢ p → ¬ IsParty turn q) → IsRoomy w
       → HasRoomIn (flight_in (world_after w turn) p) → (q : ℕ) → HasRoomIn (flight_in (world_after w turn) q)
   by_party w turn p alone roomy here q = go (q == p) refl
     where
+      -- The cases are whether q is the party of the turn.
       go : (b : Bool) → (q == p) ≡ b → HasRoomIn (flight_in (world_after w turn) q)
-      go true t = subst (λ n. HasRoomIn (flight_in (world_after w turn) n)) (sym (is_it q p t)) here
-      go false t =
+      go true test = rw (is_it q p test) here
+      go false test =
           let other : q ≢ p = grind (arith, nat_tests) in
           subst HasRoomIn (sym (others.others_stay w turn q (alone q other))) (roomy.calls q)
 
@@ -110,10 +123,14 @@ module _ {T : Type 0} where
   calls_roomy w (Decide p said) roomy = by_party w (Decide p said) p (λ q ne. ne) roomy (decided w p said (party_of p w.latest) (roomy.calls p) (roomy.calls p))
   calls_roomy w (Die owner) roomy = λ q. roomy.calls q
 
+  -- Each turn that is not refused leaves the submission queue with its room, and each call at a
+  -- stage with room.
   turn_roomy : (t : Trace T) (turn : Turn T) → refusal_of t.world turn ≡ None → IsRoomy t.world → IsRoomy (after_turn t turn).world
   turn_roomy t turn free roomy =
       record { queue = subst TakesOne (sym (submission.keeps_queue t.world turn)) roomy.queue; calls = calls_roomy t.world turn roomy }
 
+  -- In a reached machine no send or reclaim under way is at a stage at which its submission queue
+  -- has no room.
   pub has_room : (t : Trace T) → IsReached t → (p : ℕ) → HasRoomIn (flight_in t.world p)
   has_room t reached =
       (kept_by_runs (λ u. IsRoomy u.world) turn_roomy t

@@ -52,7 +52,7 @@ both_refused no_two_hold = few (holders claims 3 both) (no_two_hold both [] refl
 
 -- one holds it at the lock
 held_at_lock : NoneOnceLocked {T = ℕ} claims (Claimed 0 3 ∷ Locked 1 ∷ []) → ⊥
-held_at_lock h = let none = h (Claimed 0 3 ∷ Locked 1 ∷ []) [] refl refl 3 in cc
+held_at_lock none_locked = let none = none_locked (Claimed 0 3 ∷ Locked 1 ∷ []) [] refl refl 3 in cc
 
 -- an index is filled for its owner before he is granted it
 abbrev filled : List (Event ℕ)
@@ -99,6 +99,7 @@ acts_inside =
 abbrev refusing : Trace ℕ
 refusing = ran one_word kinds.Container 1 2 (begins 0 (starts.Container (Remove 5 7 Default)) 0)
 
+-- A call is under way whose next turn asks for no operation, and that turn ends it.
 ends_refused : (is_some (flight_in refusing.world 0) ≡ true) × (ask_in refusing.world (Next 0) ≡ None)
     × (flight_in (after_turn refusing (Next 0)).world 0 ≡ None)
 ends_refused = (refl, refl, refl)
@@ -107,6 +108,7 @@ ends_refused = (refl, refl, refl)
 abbrev pushing : Trace ℕ
 pushing = ran one_word kinds.Overflow 0 2 (begins 0 (starts.Queues AcquireProducer) 1 ++ begins 0 push 0)
 
+-- A push is under way whose next turn asks for no operation, and that turn ends it.
 ends_handed_back : (is_some (flight_in pushing.world 0) ≡ true) × (ask_in pushing.world (Next 0) ≡ None)
     × (flight_in (after_turn pushing (Next 0)).world 0 ≡ None)
 ends_handed_back = (refl, refl, refl)
@@ -116,9 +118,11 @@ ends_handed_back = (refl, refl, refl)
 abbrev replace : Start ℕ
 replace = starts.Container (Replace 0 5 7)
 
+-- Both parties have begun to replace the value at index 0, which owner 7 holds.
 abbrev begun_twice : List (Event ℕ)
 begun_twice = Finished 0 (starts.Container (Add 4 7)) (answers.Index 0) ∷ Begun 0 replace ∷ Begun 1 replace ∷ []
 
+-- The replace of party 0 ends with Done.
 abbrev overlapping : List (Event ℕ)
 overlapping = begun_twice ++ Finished 0 replace Done ∷ []
 
@@ -127,12 +131,12 @@ removes_well_formed = Each-append FreesRight [] overlapping (Each-nil FreesRight
 
 -- since the first replace began another has begun that takes the same index
 begun_meanwhile : (before since : List (Event ℕ)) (start : Start ℕ) → begun_twice ≡ before ++ Begun 0 start ∷ since → NoneTakes 0 7 since → ⊥
-begun_meanwhile [] since start is none = absurd (cc)
-begun_meanwhile (a ∷ []) since start is none =
+begun_meanwhile [] since start split none = absurd (cc)
+begun_meanwhile (a ∷ []) since start split none =
     let rest : since ≡ Begun 1 replace ∷ [] = cc in (subst (NoneTakes 0 7) rest none).0 (refl, refl)
-begun_meanwhile (a ∷ b ∷ []) since start is none = absurd (cc)
-begun_meanwhile (a ∷ b ∷ c ∷ []) since start is none = absurd (cc)
-begun_meanwhile (a ∷ b ∷ c ∷ d ∷ before) since start is none = absurd (cc)
+begun_meanwhile (a ∷ b ∷ []) since start split none = absurd (cc)
+begun_meanwhile (a ∷ b ∷ c ∷ []) since start split none = absurd (cc)
+begun_meanwhile (a ∷ b ∷ c ∷ d ∷ before) since start split none = absurd (cc)
 
 replaces_ill_formed : Each ReplacesRight overlapping → ⊥
 replaces_ill_formed each =

@@ -24,6 +24,7 @@ use Rattle.laws_loan.specs.LockFree.{channel_bound}
 
 -- ---- bounds, by parties, capacity and words of a value: first the sizes of the worked runs in which no call ends
 
+-- A bound at these numbers, if there is one.
 abbrev at : Option Bound → ℕ → ℕ → ℕ → Option ℕ
 at None n capacity size = None
 at (Some bound) n capacity size = Some (bound n capacity size)
@@ -50,6 +51,7 @@ counts_bound = (refl, refl)
 indices_bound : (at (lock_free_bound Indices) 1 1 1 ≡ Some 5) × (at (lock_free_bound Indices) 3 2 1 ≡ Some 54)
 indices_bound = (refl, refl)
 
+-- The robust set, the container and the loan channel have no bound that holds in all runs.
 no_bound : (lock_free_bound Robust ≡ None) × ((lock_free_bound Container ≡ None) × (lock_free_bound Loan ≡ None))
 no_bound = (refl, (refl, refl))
 
@@ -92,17 +94,20 @@ container_may_not : (index value owner : ℕ)
     ∷ [])
 container_may_not index value owner = (tt, (tt, (tt, (tt, (tt, (tt, (tt, (tt, (tt, (tt, tt))))))))))
 
+-- A release in the mode LockIfLastIndex is not one of the calls that may not lock.
 release_may : (index owner : ℕ) → IsDefault {T = ℕ} (starts.Robust (robusts.Release index owner LockIfLastIndex)) → ⊥
-release_may index owner is = is
+release_may index owner default_mode = default_mode
 
 recovery_may : IsDefault {T = ℕ} (starts.Robust (robusts.Recover LockIfLastIndex)) → ⊥
-recovery_may is = is
+recovery_may default_mode = default_mode
 
+-- A remove in the mode LockIfLastIndex is not one of the calls that may not lock.
 remove_may : (index owner : ℕ) → IsDefault {T = ℕ} (starts.Container (containers.Remove index owner LockIfLastIndex)) → ⊥
-remove_may index owner is = is
+remove_may index owner default_mode = default_mode
 
+-- A recovery in the mode LockIfLastIndex is not one of the calls that may not lock.
 container_recovery_may : (owner : ℕ) → IsDefault {T = ℕ} (starts.Container (containers.Recover owner LockIfLastIndex)) → ⊥
-container_recovery_may owner is = is
+container_recovery_may owner default_mode = default_mode
 
 -- ---- of all events only the last one is an end
 
@@ -150,16 +155,20 @@ one_word_codes = record { some = omega arith; few = omega arith; sized = λ n. r
 abbrev after : Kind → List (Turn ℕ) → Trace ℕ
 after kind before = run_on before (opening one_word kind 1 2)
 
--- These turns of party 0 take so many steps from there. One call has ended before them, and none ends in them.
+-- These turns of party 0 take the number of steps that the bound has. One call has ended before them, and
+-- none ends in them.
 record IsEndless (t : Trace ℕ) (kind : Kind) (turns : List (Turn ℕ)) (steps : ℕ) : Type 0 where
+  -- the machine: turns reach it that begin no call which may lock, and its numbers
   pub reached : IsReachedOn t
   pub such_before : AllByRecursion (BeginsSuch IsDefault) reached.turns
   pub is : t.world.kind ≡ kind
   pub capacity : t.world.capacity ≡ 1
   pub size : t.world.coding.size ≡ 1
+  -- the turns: none is refused, all are of party 0, and none begins a call that may lock
   pub allowed : AreAllowedOn t turns
   pub below : AllByRecursion (IsBelow 1) turns
   pub such : AllByRecursion (BeginsSuch IsDefault) turns
+  -- the steps of these turns, and that one call had ended before them and after
   pub many : steps_in t turns ≡ steps
   pub ended_before : ends t.events ≡ 1
   pub ended_after : ends (after_turns t turns).events ≡ 1
@@ -169,12 +178,12 @@ low : 0 < 1
 low = omega arith
 
 none_more : (before after ended : ℕ) → before ≡ ended → after ≡ ended → before < after → ⊥
-none_more before after ended was is less = absurd (omega arith)
+none_more before after ended was leads less = absurd (omega arith)
 
 more_steps : (most steps here : ℕ) → here ≡ steps → most < steps → most < here
 more_steps most steps here all_taken most_below = omega arith
 
--- a run in which no call ends for so many steps refuses each smaller bound
+-- A run in which no call ends for n steps refuses each bound below n.
 no_less : (t : Trace ℕ) (kind : Kind) (turns : List (Turn ℕ)) (steps : ℕ) → IsEndless t kind turns steps
     → (bound : Bound) → bound 1 1 1 < steps → IsLockFreeOf ℕ kind IsDefault bound → ⊥
 no_less t kind turns steps endless bound few free =

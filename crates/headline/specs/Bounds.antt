@@ -13,8 +13,9 @@ use Rattle.model.specs.Families.Indices.Robust.Bounds as of_robust
 use Rattle.model.specs.Families.Loan.Bounds as of_loan
 use Rattle.model.specs.Families.Queues.Bounds as of_queue
 
--- How many steps a call takes at most at this capacity, where a value has so many words and the call has begun a loop's
--- turn again so often. A call of another family takes no step, since none begins.
+-- How many steps a call takes at most, by the capacity, the number of words of a value (`size`), and how
+-- often the call has turned back to the start of a loop (`backs`). A call of another family takes no step,
+-- since it cannot begin.
 abbrev pub most_steps : {T : Type 0} → Kind → ℕ → ℕ → Start T → ℕ → ℕ
 most_steps IndexQueue capacity size (starts.Queues start) backs = of_queue.most_steps size queues.IndexQueue start backs
 most_steps Overflow capacity size (starts.Queues start) backs = of_queue.most_steps size queues.Overflow start backs

@@ -1,4 +1,4 @@
--- What finds, and looks at a container, have done in the turn in which they end.
+-- What a find, and a look at a container (`get_state`, `update_state`), has done when it ends.
 use Rattle.std.specs.Prelude.{◌≡◌, ◌≢◌, ◌<◌, ℕ, ◌+◌, true, false, Some, is_some, List, [], ◌∷◌, ◌++◌}
 use Rattle.steps.specs.Container.State.{shown_number}
 use Rattle.steps.specs.declared.container.state.ContainerState.{ContainerState}
@@ -32,9 +32,10 @@ module _ {T : Type 0} where
 
   -- ---- a look: a call that makes a state of its party, or one that brings that state up to date
 
-  -- What a look has done when it ends.
+  -- What a look at a container has done in the turn in which it ends: what its answer says, and what the
+  -- state shows that its party then has.
   pub record Looks (old new : Trace T) : Type 0 where
-    -- Its party has a state.
+    -- When a look ends, its party has a state.
     pub leaves : (p : ℕ) (start : ContainerStart T) (answer : Answer T)
         → IsLook start
         → EndsWith p (Container start) answer old new
@@ -49,7 +50,8 @@ module _ {T : Type 0} where
         → WasAnnounced p index new.events
         → StoodThrough p index value new.events
         → shows state index ≡ Some value
-    -- In a well-formed run the state is the contents where no other call was under way during the look.
+    -- In a well-formed run, if no other call was under way during the look, the state shows at each index
+    -- what the container has there.
     pub alone : IsWellFormedRun new
         → (p index : ℕ) (start : ContainerStart T) (answer : Answer T) (state : ContainerState T)
         → IsLook start
@@ -66,7 +68,7 @@ module _ {T : Type 0} where
         → state_in new.world.kept p ≡ Some state
         → index < old.world.capacity
         → HeldSometime p (λ past. shows state index ≡ contents_of index past) new.events
-    -- A new state shows only values that the very call has copied.
+    -- A state that `get_state` has made shows only values that this call has copied.
     pub own : (p index : ℕ) (value : T) (answer : Answer T) (state : ContainerState T)
         → EndsWith p (Container GetState) answer old new
         → state_in new.world.kept p ≡ Some state
@@ -88,12 +90,12 @@ module _ {T : Type 0} where
   -- What a find of a robust set has counted when it ends: each index that its owner filled during the whole call, and
   -- none that the owner filled at no moment of it.
   pub record RobustFinds (old : Trace T) (turn : Turn T) (new : Trace T) : Type 0 where
-    -- If no decision to stop ends it, it has counted the indices of the set.
+    -- A find that ends in another turn than a decision to stop has counted all indices of the set.
     pub all : (p owner number : ℕ)
         → new.events ≡ old.events ++ Finished p (Robust (robust.Find owner)) (Number number) ∷ []
         → turn ≢ Decide p false
         → IsCount p (IsFilledWith owner) old.world.capacity number old.events
-    -- If such a decision comes, the find ends, and has counted the indices up to the one that it asked about.
+    -- A decision to stop ends the find in that turn, and it has counted the indices up to the one that it asked about.
     pub up_to : (p owner index : ℕ)
         → turn ≡ Decide p false
         → IsIn p (Robust (robust.Find owner)) old
@@ -106,16 +108,18 @@ module _ {T : Type 0} where
   -- copied: a value of each index that it has counted, if one stood there during
   -- the whole call. (That it is the one that stood is `copied` of `ContainerRuns`.)
   pub record ContainerFinds (old : Trace T) (turn : Turn T) (new : Trace T) : Type 0 where
-    -- If no decision to stop ends it, it has counted the indices of the container.
+    -- A find that ends in another turn than a decision to stop has counted all indices of the container.
     pub all : (p owner number : ℕ) (wrote : List (Event T))
         → new.events ≡ old.events ++ (wrote ++ Finished p (Container (containers.Find owner)) (Number number) ∷ [])
         → turn ≢ Decide p false
         → IsCount p (IsFilledWith owner) old.world.capacity number (old.events ++ wrote)
+    -- In a well-formed run it has also copied a value of each index that it counted, if one stood at it
+    -- during the whole call.
     pub all_copied : IsWellFormedRun new → (p owner number : ℕ) (wrote : List (Event T))
         → new.events ≡ old.events ++ (wrote ++ Finished p (Container (containers.Find owner)) (Number number) ∷ [])
         → turn ≢ Decide p false
         → IsFoundWhole p owner old.world.capacity number (old.events ++ wrote)
-    -- If such a decision comes, the find ends, and has counted the indices up to the one that it asked about.
+    -- A decision to stop ends the find in that turn, and it has counted the indices up to the one that it asked about.
     pub up_to : (p owner index : ℕ) (value : T)
         → turn ≡ Decide p false
         → IsIn p (Container (containers.Find owner)) old

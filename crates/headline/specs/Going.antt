@@ -1,4 +1,5 @@
--- A call ends whose party goes on: where no call begins but such ones, and on a schedule on which turns may be refused.
+-- A call ends whose party goes on: in runs in which only calls of a certain sort begin, and on a fair
+-- schedule on which turns may be refused.
 use Rattle.std.specs.Prelude.{◌≡◌, ◌⊎◌, ◌<◌, ◌≤◌, ℕ, zero, suc, ◌+◌, true, is_some, None, List}
 use Rattle.std.specs.List.{AllByRecursion}
 use Rattle.model.specs.declared.event.Start.{Start}
@@ -12,8 +13,8 @@ use Rattle.model.specs.Turns.{AreAllowed, IsReached, IsReachedOn, after_turns, a
 use Rattle.model.specs.World.{Trace, World, flight_in}
 use Rattle.headline.specs.Nexts.{begins_of_others, nexts_in, own_ends}
 
--- In runs in which no call begins but such ones: a party with a call under way, that goes on in more turns than the
--- load of the calls that were under way and of those that others begin, ends it.
+-- In runs in which `Such` holds of each call that begins: a party with a call under way, that goes on in more
+-- turns than the load of the calls that were under way and of those that others begin, ends its call.
 abbrev pub EndsByTurnsOf : (T : Type 0) → Kind → (Start T → Type 0) → Bound → Type 0
 EndsByTurnsOf T kind Such bound =
     (t : Trace T) → t.world.kind ≡ kind → (r : IsReached t) → AllByRecursion (BeginsSuch Such) r.turns
@@ -24,7 +25,8 @@ EndsByTurnsOf T kind Such bound =
     → own_ends p t.events < own_ends p (after_turns t turns).events
 
 module _ {T : Type 0} where
-  -- after the first k turns of an endless schedule, of which one that is refused changes nothing
+  -- The machine and its events after the first k turns of an endless schedule. A turn that is
+  -- refused changes nothing.
   abbrev pub moment_on : Trace T → (ℕ → Turn T) → ℕ → Trace T
   moment_on t turns zero = t
   moment_on t turns (suc k) = attempt_on (moment_on t turns k) (turns k)
@@ -33,15 +35,17 @@ module _ {T : Type 0} where
   abbrev pub IsStepOf : ℕ → World T → Turn T → Type 0
   IsStepOf p w turn = (call_refusal w turn ≡ None) × (own_step p w turn ≡ 1)
 
-  -- The schedule is fair to a party: after each moment there is one at which it takes a step, or has no call under way.
+  -- The schedule is fair to a party: after each moment there is one, `at k`, at which the party takes a step
+  -- or has no call under way.
   pub record IsFairOn (t : Trace T) (turns : ℕ → Turn T) (p : ℕ) : Type 0 where
     pub at : ℕ → ℕ
     pub later : (k : ℕ) → k ≤ at k
     pub goes : (k : ℕ) → (flight_in (moment_on t turns (at k)).world p ≡ None)
         ⊎ IsStepOf p (moment_on t turns (at k)).world (turns (at k))
 
--- Whatever endless schedule n parties follow on which at most so many calls begin: each party to which it is fair comes
--- to a moment at which it has no call under way. A turn may be refused, so the others may have nothing more to do.
+-- On whatever endless schedule of n parties, if finitely many calls begin: each party to which the schedule
+-- is fair comes to a moment at which it has no call under way. A turn may be refused, so a party may be
+-- scheduled that has no call.
 abbrev pub EndsIfFairOn : Type 0 → Kind → Bound → Type 0
 EndsIfFairOn T kind bound =
     (t : Trace T) → t.world.kind ≡ kind → IsReachedOn t → (n calls : ℕ) (turns : ℕ → Turn T)

@@ -60,6 +60,10 @@ use Rattle.headline.specs.Holders.{holders, claims, fills, grants, loans, NoTwoH
 use Rattle.headline.specs.Moments.{Follows, call_in, ActedOnce, AtMostOnce, ActAs}
 
 module _ {T : Type 0} where
+  -- How to read the fields: `Follows e before t.events` says that the run has written the event `e` right after the
+  -- events `before`. So a field that asks it of `Finished p start answer` is about the end of a call of party p, and
+  -- `before` is the run up to that end. `span_of p before` is that call with what it has written so far.
+
   -- ---- the queues and the value
 
   -- Each finished push and pop acts at one moment inside it on one bounded list, or on one that overflows. The values
@@ -76,8 +80,9 @@ module _ {T : Type 0} where
 
   -- ---- bits and counts are conserved
 
-  -- Each bit was set as often as it was cleared, and once more if it stands. A set that answers true has set its bit
-  -- once, and a reset of the next one has cleared the bit that it answers once.
+  -- What every run of a bit set keeps. Each bit was set as often as it was cleared, and once more if it
+  -- stands. A set that answers true has set its bit once, and a reset of the next bit that answers a bit has
+  -- cleared that bit once.
   pub record BitsRun (t : Trace T) : Type 0 where
     pub conserved : (b : ℕ) → sets b t.events ≡ clears b t.events + one_if (stands t.world.words b)
     pub set : (p b : ℕ) (before : List (Event T))
@@ -86,13 +91,14 @@ module _ {T : Type 0} where
     pub reset : (p b : ℕ) (before : List (Event T))
         → Follows (Finished p (Bits bits.ResetNext) (Reset b)) before t.events
         → clears b (wrote_in (span_of p before)) ≡ 1
-    -- It has come to that bit from where the reset position stood at a moment of the call. Each place that it passed
-    -- was clear at a moment of the call.
+    -- Such a reset came to its bit by going through the places from where the reset position stood at a
+    -- moment of the call. Each place that it passed was clear at a moment of the call.
     pub reset_came : (p b : ℕ) (before : List (Event T))
         → Follows (Finished p (Bits bits.ResetNext) (Reset b)) before t.events
         → CameTo p t.world.capacity b before
 
-  -- What was counted at a place is what was taken out of it plus what it counts now. A set has counted its place once.
+  -- What every run of a counting bit set keeps. The number of times that a place was counted is what was
+  -- taken out of it plus what it counts now. A set has counted its place once.
   pub record CountsRun (t : Trace T) : Type 0 where
     pub conserved : (b : ℕ) → counts b t.events ≡ takes b t.events + slice_index t.world.words b
     pub counted : (p b number : ℕ) (before : List (Event T))
@@ -101,21 +107,29 @@ module _ {T : Type 0} where
 
   -- ---- unique indices
 
-  -- No index has two holders, and none has one once the set is locked. Who is answered an index of the set has claimed
-  -- it in that call, and holds it until a release of his frees it.
+  -- What every run of a unique index set keeps. No index has two holders, and none has one once the set is
+  -- locked. An acquire that answers an index has claimed it in that call, and an index is freed only by its
+  -- holder, in a release of it.
   pub record IndicesRun (t : Trace T) : Type 0 where
+    -- No index has two holders.
     pub no_two_hold : NoTwoHold claims t.events
+    -- No index has a holder once the set is locked.
     pub none_once_locked : NoneOnceLocked claims t.events
+    -- An acquire that answers an index has claimed it and done nothing else to the set, which has that index.
     pub acquired : (p index : ℕ) (before : List (Event T))
         → Follows (Finished p (Indices indices.Acquire) (Index index)) before t.events
         → (set_acts (wrote_in (span_of p before)) ≡ claimed index) × (index < t.world.capacity)
+    -- Who frees an index is its one holder, in a release of it.
     pub freed : (p index : ℕ) (before : List (Event T))
         → Follows (Freed p index) before t.events
         → (holders claims index before ≡ p ∷ []) × IsRelease index (call_in (span_of p before))
 
   -- ---- indices of owners
 
-  -- What every run of a robust set keeps. The second and the third field are of well-formed runs.
+  -- What every run of a robust set keeps. An index is filled for an owner as soon as its cell has the
+  -- owner, and granted (from then on held) once the same acquire has found the set unlocked. Where a
+  -- field asks for it, the run is well-formed: each release that freed an index was begun while its owner
+  -- might give that index back.
   pub record RobustRuns (t : Trace T) : Type 0 where
     -- No index is filled for two owners.
     pub no_two_fill : NoTwoHold fills t.events
@@ -127,7 +141,8 @@ module _ {T : Type 0} where
     pub acquired : (p index owner : ℕ) (before : List (Event T))
         → Follows (Finished p (Robust (Acquire owner)) (Index index)) before t.events
         → (set_acts_of p before ≡ Fills index owner ∷ Grants index owner ∷ []) × (index < t.world.capacity)
-    -- An index that is freed was filled for that owner, and a release for the owner frees it, or a recovery that was told to.
+    -- An index that is freed was filled for that owner. A release of it for the owner frees it, or a recovery
+    -- that was told to free it.
     pub freed : (p index owner : ℕ) (before : List (Event T))
         → Follows (FreedOf p index owner) before t.events
         → (holders fills index before ≡ owner ∷ []) × GivesBack p index owner before
@@ -136,12 +151,14 @@ module _ {T : Type 0} where
         → Follows (Finished p (Robust (Recover mode)) (State Unlocked)) before t.events
         → IsOneOf (Yes index owner) (set_acts_of p before)
         → filled_of index before ≢ Some owner
-    -- Such a recovery has asked about each index that one owner filled during the whole call, or until the call itself freed it.
+    -- A recovery that answers Unlocked has asked about each index that one owner filled during the whole
+    -- call, or until the call itself freed it.
     pub asked_each : (p index owner : ℕ) (mode : ReleaseMode) (before : List (Event T))
         → Follows (Finished p (Robust (Recover mode)) (State Unlocked)) before t.events
         → HeldThroughout p (StillToFree p owner index) before
         → IsOneOf (Asks index owner) (set_acts_of p before)
-    -- In the mode that locks, for each index that it freed, some index stood filled at a moment of the call after that.
+    -- A recovery in the mode that locks answers Unlocked only if, for each index that it freed, some index stood
+    -- filled at a moment of the call after that.
     pub locks : (p index owner : ℕ) (before : List (Event T))
         → Follows (Finished p (Robust (Recover LockIfLastIndex)) (State Unlocked)) before t.events
         → IsOneOf (Frees index owner) (set_acts_of p before)
@@ -154,14 +171,17 @@ module _ {T : Type 0} where
 
   -- ---- the container
 
-  -- The party comes to an index: it copies what stands there, is shown that nothing does, or frees the index.
+  -- With this event the party visits an index of a container: it copies the value that stands at it, is shown
+  -- that none does, or frees it.
   abbrev pub IsVisit : ℕ → Event T → Type 0
   IsVisit p (Copied q index value) = q ≡ p
   IsVisit p (Shown q index) = q ≡ p
   IsVisit p (FreedOf q index owner) = q ≡ p
   IsVisit p e = ⊥
 
-  -- What every run of a container keeps. A run is well-formed here if its removes are; `IsWellFormedRun` asks it of its replaces too.
+  -- What every run of a container keeps. A run is well-formed if each remove that freed an index was begun
+  -- while its owner might give that index back (`IsWellFormed`), and, for what is said of values, each
+  -- replace while its owner might replace (`IsWellFormedRun`).
   pub record ContainerRuns (t : Trace T) : Type 0 where
     -- No index is filled for two owners.
     pub no_two_fill : NoTwoHold fills t.events
@@ -178,19 +198,22 @@ module _ {T : Type 0} where
     pub freed : (p index owner : ℕ) (before : List (Event T))
         → Follows (FreedOf p index owner) before t.events
         → (holders fills index before ≡ owner ∷ []) × GivesBack p index owner before
-    -- What a call copies is the element that stands there, whole.
+    -- In a well-formed run, what a call copies from an index is the value that stands at it, whole.
     pub copied : IsWellFormedRun t → (p index : ℕ) (value : T) (before : List (Event T))
         → Follows (Copied p index value) before t.events
         → contents_of index before ≡ Some value
-    -- An add that answers an index has placed its value there.
+    -- In a well-formed run, an add that answers an index has placed its value at that index,
+    -- and no other value.
     pub added : IsWellFormedRun t → (p index owner : ℕ) (value : T) (before : List (Event T))
         → Follows (Finished p (Container (containers.Add value owner)) (Index index)) before t.events
         → places (acts_of p before) ≡ (index, value) ∷ []
-    -- A replace that answers Done has placed its value at its index.
+    -- In a well-formed run, a replace that answers Done has placed its value at its index,
+    -- and no other value.
     pub replaced : IsWellFormedRun t → (p index owner : ℕ) (value : T) (before : List (Event T))
         → Follows (Finished p (Container (containers.Replace index value owner)) Done) before t.events
         → places (acts_of p before) ≡ (index, value) ∷ []
-    -- What a call asks about is the value that it has copied last.
+    -- A question of a find or a recovery is about the value that its call has copied last, and about the
+    -- index of that value.
     pub asked : (p index : ℕ) (value : T) → question_at t p ≡ Some (index, value)
         → IsLatest (Copies index value) (acts_of p t.events)
     -- While a party has no look under way, it has copied each value that its state shows.
@@ -204,13 +227,14 @@ module _ {T : Type 0} where
         → Follows (Finished p (Container (containers.Recover owner mode)) (State Unlocked)) before t.events
         → IsOneOf (Yes index owner) (set_acts_of p before) ⊎ IsOneOf (Sees index) (acts_of p before)
         → filled_of index before ≢ Some owner
-    -- Such a recovery has asked about each index that its owner filled during the whole call, or until the call itself
-    -- freed it, or was shown it empty.
+    -- A recovery that answers Unlocked has asked about each index that its owner filled during the whole
+    -- call, or until the call itself freed it, or was shown it empty.
     pub asked_each : (p index owner : ℕ) (mode : ReleaseMode) (before : List (Event T))
         → Follows (Finished p (Container (containers.Recover owner mode)) (State Unlocked)) before t.events
         → HeldThroughout p (StillToFree p owner index) before
         → IsOneOf (Asks index owner) (set_acts_of p before) ⊎ IsOneOf (Sees index) (acts_of p before)
-    -- In the mode that locks, for each index that it freed, some index stood filled at a moment of the call after that.
+    -- A recovery in the mode that locks answers Unlocked only if, for each index that it freed, some index stood
+    -- filled at a moment of the call after that.
     pub locks : (p index owner : ℕ) (before : List (Event T))
         → Follows (Finished p (Container (containers.Recover owner LockIfLastIndex)) (State Unlocked)) before t.events
         → IsOneOf (Frees index owner) (set_acts_of p before)
@@ -235,20 +259,22 @@ module _ {T : Type 0} where
     pub met : (p : ℕ) (before : List (Event T))
         → Follows (Finished p (Container containers.UpdateState) (Truth true)) before t.events
         → (seen_by p before).least < changes_of before
-    -- One that answers false has met no change since that look ended.
+    -- An update that answers false has met no change since the look ended that last brought
+    -- the state up to date.
     pub met_none : (p : ℕ) (before : List (Event T))
         → Follows (Finished p (Container containers.UpdateState) (Truth false)) before t.events
         → changes_of before ≡ (seen_by p before).most
 
   -- ---- the loan channel, with a submission queue of this capacity
 
-  -- The party is in a reclaim, the receiver has died, and the index was with him.
+  -- Why a reclaim may free an index that the party has not: the receiver has died, and the index
+  -- was with the receiver.
   pub record IsLeftOver (p index : ℕ) (before : List (Event T)) : Type 0 where
     pub reclaims : call_in (span_of p before) ≡ Some (Loan channels.Reclaim)
     pub dead : has_died_by (receiver_of before) before ≡ true
     pub held : holders loans index before ≡ receiver_of before ∷ []
 
-  -- the calls whose moments act on the list that a loan channel's submission queue is
+  -- The calls that act on the list of a loan channel's submission queue: sends and receives.
   abbrev pub is_send_or_receive : Start T → Bool
   is_send_or_receive (Loan (channels.Send index)) = true
   is_send_or_receive (Loan channels.Receive) = true
@@ -269,7 +295,7 @@ module _ {T : Type 0} where
     pub received : (p index : ℕ) (before : List (Event T))
         → Follows (Finished p (Loan channels.Receive) (PoppedIndex index)) before t.events
         → (handed_out (wrote_in (span_of p before)) ≡ items.Index index ∷ []) × (index < t.world.capacity)
-    -- The party that has an index frees it. A reclaim frees what a receiver had that has died.
+    -- An index is freed by the party that has it, or by a reclaim if a receiver had it that has died.
     pub freed : (p index : ℕ) (before : List (Event T))
         → Follows (Freed p index) before t.events
         → (holders loans index before ≡ p ∷ []) ⊎ IsLeftOver p index before
@@ -280,7 +306,8 @@ module _ {T : Type 0} where
         → ActedOnce p start answer before
     -- No call acts more than once.
     pub once : AtMostOnce t.events
-    -- In the order of these moments they act on one list that overflows. A reclaim pops from it what it takes out of the queue.
+    -- In the order of these moments sends and receives act on one list that overflows. A reclaim pops from
+    -- that list what it takes out of the queue.
     pub list : IsLegal (overflowing_list queue) (queue_moments t.events)
     -- What waits in the submission queue was sent there and not yet taken out.
     pub sent : published t.events
@@ -309,7 +336,8 @@ module _ {T : Type 0} where
   pub record MakesProgress (t : Trace T) : Type 0 where
     -- Each turn back to the start of a loop is paid by a change that another party has made to a word since the call began.
     pub paid : (p : ℕ) (g : Progress) → progress_in t.world p ≡ Some g → g.backs ≤ g.others
-    -- Its steps, which are its operations on words, are bounded by its turns back.
+    -- The steps of a call, which are its operations on words, are bounded by how often it has turned back to
+    -- the start of a loop.
     pub bounded : (p : ℕ) (start : Start T) (g : Progress)
         → call_in (span_of p t.events) ≡ Some start
         → progress_in t.world p ≡ Some g
@@ -330,15 +358,16 @@ module _ {T : Type 0} where
 
   -- What a turn that was taken does.
   pub record Takes (old : Trace T) (turn : Turn T) (new : Trace T) : Type 0 where
-    -- It changes one word at most, as its operation says.
+    -- It changes one word at most, as the operation says that the turn asks for.
     pub one_word : new.world.words ≡ words_after old.world.words (ask_in old.world turn)
     -- The calls of all other parties stay where they stood.
     pub others_stay : (q : ℕ) → ¬ IsParty turn q → flight_in new.world q ≡ flight_in old.world q
-    -- It writes behind what was written.
+    -- Its events come after all earlier ones, which stay as they are.
     pub grows : (wrote : List (Event T)) × (new.events ≡ old.events ++ wrote)
     -- The capacity of a submission queue stays as it was.
     pub keeps_queue : queue_in new.world.kept ≡ queue_in old.world.kept
-    -- A turn without a decision in which a call asks for no operation ends that call. So no call goes on so for ever.
+    -- A turn `Next` in which the call asks for no operation ends that call. So no call takes
+    -- such turns for ever.
     pub ends : (p : ℕ) → turn ≡ Next p → ask_in old.world turn ≡ None → flight_in new.world p ≡ None
     -- If a turn of a robust set writes that a call asks about an owner's index, the call then asks about that index of that owner.
     pub asks : old.world.kind ≡ kinds.Robust → (p index owner : ℕ) (wrote : List (Event T))
@@ -351,12 +380,15 @@ module _ {T : Type 0} where
         → ask_in old.world turn ≡ Some (loads_cell index)
         → asked_of new.world.coding (flight_in new.world p)
         ≡ index_if owner index (filled_of index old.events)
-    -- In a robust set and in a container a call does not wait right after a decision.
+    -- In a robust set and in a container a call that was given a decision does not wait for
+    -- another one right after it.
     pub answered : (old.world.kind ≡ kinds.Robust) ⊎ (old.world.kind ≡ kinds.Container)
         → (p : ℕ) (said : Bool) → turn ≡ Decide p said
         → waits_at new p ≡ false
-    -- A find of a robust set and of a container has counted right when it ends.
+    -- When a find ends in this turn, its number is that of its owner's indices, as `RobustFinds` and
+    -- `ContainerFinds` state.
     pub found : old.world.kind ≡ kinds.Robust → RobustFinds old turn new
     pub found_there : old.world.kind ≡ kinds.Container → ContainerFinds old turn new
-    -- A look at a container has left its party a state when it ends, which shows what stood there during the look.
+    -- When a look at a container ends in this turn, it has left its party a state, which shows what stood in
+    -- the container during the look.
     pub looked : old.world.kind ≡ kinds.Container → Looks old new

@@ -11,11 +11,11 @@ use Rattle.model.specs.Objects.{IsLegal}
 use Rattle.model.specs.Reading.{moments, Span, Never, Open, Ended}
 
 module _ {T : Type 0} where
-  -- P holds at each moment of a run: of each beginning of its events
+  -- P holds at each moment of a run, which is each beginning (prefix) of its events.
   abbrev pub Always : (List (Event T) → Type 0) → List (Event T) → Type 0
   Always P events = (past future : List (Event T)) → events ≡ past ++ future → P past
 
-  -- the event comes in a run right after these
+  -- The event comes in the run `events` right after the events `before`.
   abbrev pub Follows : Event T → List (Event T) → List (Event T) → Type 0
   Follows e before events = (after : List (Event T)) × (events ≡ before ++ e ∷ after)
 
@@ -32,8 +32,8 @@ module _ {T : Type 0} where
   act_of p (Acted q start answer) = if q == p then (start, answer) ∷ [] else []
   act_of p e = []
 
-  -- The party has begun this call, and since then, and before what comes next,
-  -- it has acted once: as this call, with this answer.
+  -- The party's latest call in these events is `start`, and since its begin the party has acted exactly once:
+  -- as this call, with this answer.
   pub record ActedOnce (p : ℕ) (start : Start T) (answer : Answer T) (events : List (Event T))
       : Type 0 where
     pub before : List (Event T)
@@ -44,8 +44,8 @@ module _ {T : Type 0} where
     -- it acted once since, as this call with this answer
     pub once : flat_map (act_of p) since ≡ (start, answer) ∷ []
 
-  -- Since a call began, and before its party begins another one,
-  -- it acts at most once, and as this call, whether it finishes or not.
+  -- Between the begin of a call and its party's next begin, the party acts at most once, and as this call,
+  -- whether the call finishes or not.
   abbrev pub AtMostOnce : List (Event T) → Type 0
   AtMostOnce events =
       (p : ℕ) (start : Start T) (before since after : List (Event T))

@@ -41,8 +41,8 @@ module _ {T : Type 0} where
   abbrev pub own_ends : ℕ → List (Event T) → ℕ
   own_ends p events = sum_by (own_end p) events
 
--- A party with a call under way, that goes on in more turns than the load of the calls that were under way and of those
--- that others begin, ends it.
+-- A party with a call under way, that goes on in more turns than the load of the calls that were under way
+-- and of those that others begin, ends its call: more of its calls have ended than before.
 abbrev pub EndsByTurns : Type 0 → Kind → Bound → Type 0
 EndsByTurns T kind bound =
     (t : Trace T) → t.world.kind ≡ kind → IsReached t → (p : ℕ) → is_some (flight_in t.world p) ≡ true

@@ -13,9 +13,9 @@ ghost use Rattle.laws_loan.specs.LockFree.{channel_bound};
 ghost use Rattle.headline.specs.Nexts.{EndsByTurns};
 
 /// A finite load ends. Whatever n parties do from any state that turns reach, all their steps together are at most the
-/// bound and one for each call that was under way or begins: each call costs at most so many on average. Of a robust index
-/// set and a container the small bounds hold in runs in which no call may lock, and of a loan channel in the runs of
-/// machines.
+/// bound and one for each call that was under way or begins: on average a call costs at most the bound and one. Of a
+/// robust index set and a container the small bounds hold in runs in which no call may lock, and of a loan channel in
+/// the runs of machines.
 pub fn finite_loads<T>()
     ensures load_ends { (kind : Kind) → IfSome (lock_free_bound kind) (EndsLoad T kind) }
     ensures load_ends_by_default { EndsLoadOf T Robust IsDefault default_bound }

@@ -26,32 +26,33 @@ use Rattle.headline_program.specs.Refused.{IsSameBefore}
 tells : (whole : List ℕ) → IsSameBefore (refusal_text NoMemory) whole
 tells whole = record { before = []; after = []; rest = whole; tells = sym (append-nil _); same = refl }
 
--- a text that is the same up to the line is so behind any first text
+-- Two texts that are the same up to the line of a refusal are still so with the same text before both.
 after_first : (first text whole : List ℕ) → IsSameBefore text whole → IsSameBefore (first ++ text) (first ++ whole)
-after_first first text whole p =
+after_first first text whole same_before =
     record {
-      before = first ++ p.before;
-      after = p.after;
-      rest = p.rest;
-      tells = ap (λ (xs : List ℕ). first ++ xs) p.tells ∙ sym (append_assoc first p.before (refusal_text NoMemory ++ p.after));
-      same = ap (λ (xs : List ℕ). first ++ xs) p.same ∙ sym (append_assoc first p.before p.rest);
+      before = first ++ same_before.before;
+      after = same_before.after;
+      rest = same_before.rest;
+      tells = ap (λ (xs : List ℕ). first ++ xs) same_before.tells ∙ sym (append_assoc first same_before.before (refusal_text NoMemory ++ same_before.after));
+      same = ap (λ (xs : List ℕ). first ++ xs) same_before.same ∙ sym (append_assoc first same_before.before same_before.rest);
     }
 
--- a text that is the same up to the line is so whatever comes behind both
+-- Two texts that are the same up to the line of a refusal are still so with any texts behind them.
 more_behind : (text whole more other : List ℕ) → IsSameBefore text whole → IsSameBefore (text ++ more) (whole ++ other)
-more_behind text whole more other p =
+more_behind text whole more other same_before =
     record {
-      before = p.before;
-      after = p.after ++ more;
-      rest = p.rest ++ other;
-      tells = ap (λ (xs : List ℕ). xs ++ more) p.tells
-          ∙ (append_assoc p.before (refusal_text NoMemory ++ p.after) more
-          ∙ ap (λ (xs : List ℕ). p.before ++ xs) (append_assoc (refusal_text NoMemory) p.after more));
-      same = ap (λ (xs : List ℕ). xs ++ other) p.same ∙ append_assoc p.before p.rest other;
+      before = same_before.before;
+      after = same_before.after ++ more;
+      rest = same_before.rest ++ other;
+      tells = ap (λ (xs : List ℕ). xs ++ more) same_before.tells
+          ∙ (append_assoc same_before.before (refusal_text NoMemory ++ same_before.after) more
+          ∙ ap (λ (xs : List ℕ). same_before.before ++ xs) (append_assoc (refusal_text NoMemory) same_before.after more));
+      same = ap (λ (xs : List ℕ). xs ++ other) same_before.same ∙ append_assoc same_before.before same_before.rest other;
     }
 
 -- ---- turns
 
+-- A state of the program: its world, and to which of the next turns memory is refused.
 abbrev at : World ℕ → List Bool → State
 at w refusals = record { world = w; refusals = refusals }
 
@@ -59,22 +60,28 @@ at w refusals = record { world = w; refusals = refusals }
 abbrev Alike : Printed → Printed → Type 0
 Alike p whole = ((p.text ≡ whole.text) × (whole.state ≡ at p.state.world [])) ⊎ IsSameBefore p.text whole.text
 
+-- The outcome of a turn that is refused for memory: nothing is taken, and the world stays.
 abbrev refused_as : World ℕ → Outcome
 refused_as w = record { text = refusal_text NoMemory; is_taken = false; world = w }
 
+-- A turn has the same outcome where memory may be short as where it is not, or it is refused for memory.
 either : (w : World ℕ) (turn : Turn ℕ) (short : Bool) (o : Option Refusal)
     → (outcome_as w turn (refusal_where short o) ≡ outcome_as w turn (refusal_where false o)) ⊎ (outcome_as w turn (refusal_where short o) ≡ refused_as w)
 either w turn short (Some refusal) = inl refl
 either w turn true None = inr refl
 either w turn false None = inl refl
 
+-- A turn has the same outcome where memory may be short as where it is not, or it is refused for memory.
 one_turn : (w : World ℕ) (turn : Turn ℕ) (short : Bool) → (outcome short w turn ≡ outcome false w turn) ⊎ (outcome short w turn ≡ refused_as w)
 unfolding outcome
 one_turn w turn short = either w turn short (refusal_of w turn)
 
+-- What is printed for a turn, and, if the program goes on after it, for the turns that follow.
 abbrev chosen : Bool → Outcome → Printed → List Bool → Printed
 chosen go o more refusals = if go then after_text o.text more else printed o refusals
 
+-- If what follows an outcome prints alike, then the outcome with what follows does, whether the
+-- program goes on after it or not.
 choose : (go : Bool) (o : Outcome) (more whole : Printed) (refusals : List Bool) → Alike more whole → Alike (chosen go o more refusals) (chosen go o whole [])
 choose true o more whole refusals (inl (same, state)) = inl (ap (λ (xs : List ℕ). o.text ++ xs) same, state)
 choose true o more whole refusals (inr same) = inr (after_first o.text more.text whole.text same)
@@ -105,12 +112,14 @@ several (suc most) party s =
     one_more most party s.world o (outcome false s.world (Next party)) (later s.refusals) (one_turn s.world (Next party) (is_short s.refusals))
     (several most party (at o.world (later s.refusals)))
 
+-- One turn prints the same as without refusals, or the refusal.
 once : (turn : Turn ℕ) (w : World ℕ) (o whole : Outcome) (refusals : List Bool) → (o ≡ whole) ⊎ (o ≡ refused_as w)
     → Alike (printed o refusals) (printed whole [])
-once turn w o whole refusals (inl same) = subst (λ (x : Outcome). Alike (printed o refusals) (printed x [])) same (inl (refl, refl))
+once turn w o whole refusals (inl same) = rw (← same) (inl (refl, refl))
 once turn w o whole refusals (inr refused) =
-    subst (λ (x : Outcome). Alike (printed x refusals) (printed whole [])) (sym refused) (inr (tells whole.text))
+    rw refused (inr (tells whole.text))
 
+-- A command prints alike where memory may be refused and where it is not.
 command : (c : Command) (s : State) → Alike (commanded c s) (commanded c (at s.world []))
 command (Once turn) s =
     once turn s.world (next_outcome s turn) (outcome false s.world turn) (later s.refusals) (one_turn s.world turn (is_short s.refusals))
@@ -118,6 +127,7 @@ command (Times party most) s = several most party s
 
 -- ---- lines
 
+-- The two outputs are equal, or their texts are the same up to the first refusal for memory.
 abbrev AreAlike : Output → Output → Type 0
 AreAlike o whole = (o ≡ whole) ⊎ IsSameBefore o.text whole.text
 
@@ -139,9 +149,8 @@ line_behind kind number lines p whole (inl (same, state)) (inl rest) =
     ∙ ap (behind whole.text) (rest ∙ ap (lines_from kind number lines) (sym state)))
 line_behind kind number lines p whole (inl (same, state)) (inr rest) =
     inr
-    (subst (λ (xs : List ℕ). IsSameBefore (p.text ++ (lines_from kind number lines p.state).text) (xs ++ (lines_from kind number lines whole.state).text)) same
-    (subst (λ (s : State). IsSameBefore (p.text ++ (lines_from kind number lines p.state).text) (p.text ++ (lines_from kind number lines s).text)) (sym state)
-    (after_first p.text (lines_from kind number lines p.state).text (lines_from kind number lines (at p.state.world [])).text rest)))
+    (rw (← same)
+    (rw state (after_first p.text (lines_from kind number lines p.state).text (lines_from kind number lines (at p.state.world [])).text rest)))
 line_behind kind number lines p whole (inr same) rest =
     inr (more_behind p.text whole.text (lines_from kind number lines p.state).text (lines_from kind number lines whole.state).text same)
 
@@ -164,6 +173,7 @@ line_by_line kind number ((b ∷ bs) ∷ lines) s =
 
 -- ---- the end
 
+-- Whatever a line was read as, the program ends in the same way from either state.
 choose_end : (kind : Kind) (number : ℕ) (lines : List (List ℕ)) (s t : State) (read : Result Command Cause)
     → ((s t : State) → (lines_from kind (number + 1) lines s).end ≡ (lines_from kind (number + 1) lines t).end)
     → (line_as kind number lines s read).end ≡ (line_as kind number lines t read).end
@@ -180,30 +190,38 @@ same_end kind number ((b ∷ bs) ∷ lines) s t =
 
 -- ---- the first line
 
+-- The output after the first line, by how that line was read: the program stops, or goes on with
+-- the further lines.
 abbrev first_as : List (List ℕ) → List Bool → Result Setup Cause → Output
 first_as rest refusals read =
     elim read [ Err cause ↦ stopped 1 cause | Ok setup ↦ lines_from (kind_in setup.shape) 2 rest (opened setup refusals) ]
 
+-- However the first line was read, the output is alike with refusals for memory and without.
 first_alike : (rest : List (List ℕ)) (refusals : List Bool) (read : Result Setup Cause) → AreAlike (first_as rest refusals read) (first_as rest [] read)
 first_alike rest refusals (Err cause) = inl refl
 first_alike rest refusals (Ok setup) = line_by_line (kind_in setup.shape) 2 rest (opened setup refusals)
 
+-- However the first line was read, the program ends in the same way with refusals for memory and without.
 first_end : (rest : List (List ℕ)) (refusals : List Bool) (read : Result Setup Cause) → (first_as rest refusals read).end ≡ (first_as rest [] read).end
 first_end rest refusals (Err cause) = refl
 first_end rest refusals (Ok setup) = same_end (kind_in setup.shape) 2 rest (opened setup refusals) (opened setup [])
 
+-- The whole output is alike, with refusals of memory and without.
 whole_alike : (refusals : List Bool) (all : List (List ℕ)) → AreAlike (output_of_lines refusals all) (output_of_lines [] all)
 unfolding output_of_lines
 whole_alike refusals [] = inl refl
 whole_alike refusals (first ∷ rest) = first_alike rest refusals (machine_of (words first))
 
+-- The program ends in the same way, with refusals of memory and without.
 whole_end : (refusals : List Bool) (all : List (List ℕ)) → (output_of_lines refusals all).end ≡ (output_of_lines [] all).end
 unfolding output_of_lines
 whole_end refusals [] = refl
 whole_end refusals (first ∷ rest) = first_end rest refusals (machine_of (words first))
 
+-- The output with refusals of memory is the whole output up to the first of them.
 pub alike : (input : List ℕ) (refusals : List Bool) → AreAlike (output_of input refusals) (output_of input [])
 alike input refusals = whole_alike refusals (lines input)
 
+-- The program ends alike with refusals of memory and without.
 pub ends : (input : List ℕ) (refusals : List Bool) → (output_of input refusals).end ≡ (output_of input []).end
 ends input refusals = whole_end refusals (lines input)

@@ -10,9 +10,9 @@ ghost use Rattle.schedule.specs.Output.{machine_of, output_of};
 ghost use Rattle.headline_program.specs.Printing.{IsOfMachine};
 ghost use Rattle.headline_program.specs.Refused.{IsSameBefore};
 
-/// Where the first line of an input makes a machine, the program's output for it is made of the events of such a machine that turns
-/// have reached, in order, and of why turns were refused. That a run writes this output, for the turns to which memory
-/// was refused, says `schedule::run`.
+/// Where the first line of an input makes a machine, the program's output for it is made of the events of such a machine
+/// that turns have reached, in order, and of why turns were refused. That a run writes this output, for the turns to which
+/// memory was refused, is what `schedule::run` says.
 pub fn printed<T>()
     ensures { (refusals : List Bool) (input first : List ℕ) (rest : List (List ℕ)) (setup : Setup)
         → lines input ≡ first ∷ rest → machine_of (words first) ≡ Ok setup

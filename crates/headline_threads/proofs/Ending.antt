@@ -21,16 +21,18 @@ use Rattle.headline_threads.specs.Ends.{PassesEndOf, PassesKeepEndingOf, KnownKe
 use Rattle.headline_threads.proofs.Knowing.{Runs, between, one_more, load_between, rests_between, known, load_known}
 use Rattle.headline_threads.proofs.Passing.{any_such}
 
-abbrev Any : (T : Type 0) → Kind → Bound → Type 0
-Any T kind bound = Runs {T = T} kind (λ start. Unit {0}) bound
+-- What is known of the runs of a kind, whichever calls begin.
+abbrev RunsOfAny : (T : Type 0) → Kind → Bound → Type 0
+RunsOfAny T kind bound = Runs {T = T} kind (λ start. Unit {0}) bound
 
 -- ---- the kinds that have a bound, whose runs are closed
 
+-- What a kind keeps of ending calls holds, too, if any start is allowed.
 of_any : {T : Type 0} (kind : Kind) (bound : Bound) → KeepsEnding T kind bound → KeepsEndingBy {T = T} call_refusal kind (λ start. Unit {0}) bound
 of_any kind bound keeps t is r before n turns allowed below such = keeps t is r n turns allowed below
 
 -- each kind that has a bound keeps ending calls, whichever begin
-runs_of : (T : Type 0) (kind : Kind) → IfSome (lock_free_bound kind) (Any T kind)
+runs_of : (T : Type 0) (kind : Kind) → IfSome (lock_free_bound kind) (RunsOfAny T kind)
 runs_of T IndexQueue = record { possible = possible_on; keeps = of_any IndexQueue _ (keep_ending T IndexQueue) }
 runs_of T Overflow = record { possible = possible_on; keeps = of_any Overflow _ (keep_ending T Overflow) }
 runs_of T Queue = record { possible = possible_on; keeps = of_any Queue _ (keep_ending T Queue) }
@@ -47,18 +49,18 @@ runs_of T Loan = tt
 robust_default : (T : Type 0) → Runs {T = T} Robust IsDefault default_bound
 robust_default T = record { possible = possible_open; keeps = default_keeps_ending_by {T = T} open_refusal possible_open }
 
-robust_room : (T : Type 0) → Any T Robust room_bound
+robust_room : (T : Type 0) → RunsOfAny T Robust room_bound
 robust_room T = record { possible = possible_open; keeps = room_keeps_ending {T = T} open_refusal possible_open }
 
 container_default : (T : Type 0) → Runs {T = T} Container IsDefault default_container_bound
 container_default T = record { possible = possible_open; keeps = container_keeps_ending_by {T = T} open_refusal possible_open }
 
-container_room : (T : Type 0) → Any T Container room_container_bound
+container_room : (T : Type 0) → RunsOfAny T Container room_container_bound
 container_room T = record { possible = possible_open; keeps = room_container {T = T} open_refusal possible_open }
 
 -- ---- what follows
 
-module _ {T : Type 0} (kind : Kind) (bound : Bound) (R : Any T kind bound) where
+module _ {T : Type 0} (kind : Kind) (bound : Bound) (R : RunsOfAny T kind bound) where
   passes : PassesEnd T kind bound
   passes code capacity old new knows later n below far =
       one_more kind (λ start. Unit {0}) bound R code capacity old new knows later n below (any_such new.seen) far
@@ -76,6 +78,7 @@ module _ {T : Type 0} (kind : Kind) (bound : Bound) (R : Any T kind bound) where
   all_load : KnownEndsLoad T kind bound
   all_load code capacity v knows n below = load_known kind (λ start. Unit {0}) bound R code capacity v knows n below (any_such v.seen)
 
+  -- The operations that a pass asked for are some of the table's steps, so they are within the load.
   asks : KnownAsksLoad T kind bound
   asks code capacity v knows n below =
       let most = knows.asked.most in
@@ -86,25 +89,25 @@ module _ {T : Type 0} (kind : Kind) (bound : Bound) (R : Any T kind bound) where
   rests code capacity old new knows later n below = rests_between kind (λ start. Unit {0}) bound R code capacity old new knows later n below (any_such new.seen)
 
 pub passes_end : (T : Type 0) (kind : Kind) → IfSome (lock_free_bound kind) (PassesEnd T kind)
-passes_end T kind = if_some (Any T kind) (PassesEnd T kind) (lock_free_bound kind) (passes kind) (runs_of T kind)
+passes_end T kind = if_some (RunsOfAny T kind) (PassesEnd T kind) (lock_free_bound kind) (passes kind) (runs_of T kind)
 
 pub passes_keep_ending : (T : Type 0) (kind : Kind) → IfSome (lock_free_bound kind) (PassesKeepEnding T kind)
-passes_keep_ending T kind = if_some (Any T kind) (PassesKeepEnding T kind) (lock_free_bound kind) (keeps kind) (runs_of T kind)
+passes_keep_ending T kind = if_some (RunsOfAny T kind) (PassesKeepEnding T kind) (lock_free_bound kind) (keeps kind) (runs_of T kind)
 
 pub known_keeps_ending : (T : Type 0) (kind : Kind) → IfSome (lock_free_bound kind) (KnownKeepsEnding T kind)
-known_keeps_ending T kind = if_some (Any T kind) (KnownKeepsEnding T kind) (lock_free_bound kind) (all_known kind) (runs_of T kind)
+known_keeps_ending T kind = if_some (RunsOfAny T kind) (KnownKeepsEnding T kind) (lock_free_bound kind) (all_known kind) (runs_of T kind)
 
 pub passes_end_load : (T : Type 0) (kind : Kind) → IfSome (lock_free_bound kind) (PassesEndLoad T kind)
-passes_end_load T kind = if_some (Any T kind) (PassesEndLoad T kind) (lock_free_bound kind) (load_passes kind) (runs_of T kind)
+passes_end_load T kind = if_some (RunsOfAny T kind) (PassesEndLoad T kind) (lock_free_bound kind) (load_passes kind) (runs_of T kind)
 
 pub known_ends_load : (T : Type 0) (kind : Kind) → IfSome (lock_free_bound kind) (KnownEndsLoad T kind)
-known_ends_load T kind = if_some (Any T kind) (KnownEndsLoad T kind) (lock_free_bound kind) (all_load kind) (runs_of T kind)
+known_ends_load T kind = if_some (RunsOfAny T kind) (KnownEndsLoad T kind) (lock_free_bound kind) (all_load kind) (runs_of T kind)
 
 pub known_asks_load : (T : Type 0) (kind : Kind) → IfSome (lock_free_bound kind) (KnownAsksLoad T kind)
-known_asks_load T kind = if_some (Any T kind) (KnownAsksLoad T kind) (lock_free_bound kind) (asks kind) (runs_of T kind)
+known_asks_load T kind = if_some (RunsOfAny T kind) (KnownAsksLoad T kind) (lock_free_bound kind) (asks kind) (runs_of T kind)
 
 pub passes_rest : (T : Type 0) (kind : Kind) → IfSome (lock_free_bound kind) (PassesRest T kind)
-passes_rest T kind = if_some (Any T kind) (PassesRest T kind) (lock_free_bound kind) (rests kind) (runs_of T kind)
+passes_rest T kind = if_some (RunsOfAny T kind) (PassesRest T kind) (lock_free_bound kind) (rests kind) (runs_of T kind)
 
 -- ---- where no call begins but such ones
 
@@ -124,6 +127,8 @@ module _ {T : Type 0} (kind : Kind) (Such : Start T → Type 0) (bound : Bound) 
   all_load_of : KnownEndsLoadOf T kind Such bound
   all_load_of = load_known kind Such bound R
 
+  -- The operations that a pass asked for are some of the table's steps, so they are within the load, also
+  -- where passes have seen only calls begin for which `Such` holds.
   asks_of : KnownAsksLoadOf T kind Such bound
   asks_of code capacity v knows n below such =
       let most = knows.asked.most in
@@ -138,9 +143,11 @@ module _ {T : Type 0} (kind : Kind) (Such : Start T → Type 0) (bound : Bound) 
 
 -- all that follows where any call may begin
 pub record EndsAll (T : Type 0) (kind : Kind) (bound : Bound) : Type 0 where
+  -- calls end: between two times, and as often as the steps have the bound
   pub end : PassesEnd T kind bound
   pub keep : PassesKeepEnding T kind bound
   pub known : KnownKeepsEnding T kind bound
+  -- finite loads end: the steps, the operations of a pass, and rounds
   pub between : PassesEndLoad T kind bound
   pub load : KnownEndsLoad T kind bound
   pub asks : KnownAsksLoad T kind bound
@@ -148,16 +155,18 @@ pub record EndsAll (T : Type 0) (kind : Kind) (bound : Bound) : Type 0 where
 
 -- all that follows where none may lock
 pub record EndsDefault (T : Type 0) (kind : Kind) (bound : Bound) : Type 0 where
+  -- calls end: between two times, and as often as the steps have the bound
   pub end : PassesEndOf T kind IsDefault bound
   pub keep : PassesKeepEndingOf T kind IsDefault bound
   pub known : KnownKeepsEndingOf T kind IsDefault bound
+  -- finite loads end: the steps, the operations of a pass, and rounds
   pub between : PassesEndLoadOf T kind IsDefault bound
   pub load : KnownEndsLoadOf T kind IsDefault bound
   pub asks : KnownAsksLoadOf T kind IsDefault bound
   pub rest : PassesRestOf T kind IsDefault bound
 
 -- a kind that keeps ending calls, whichever begin, does all of this
-all_end : (T : Type 0) (kind : Kind) (bound : Bound) → Any T kind bound → EndsAll T kind bound
+all_end : (T : Type 0) (kind : Kind) (bound : Bound) → RunsOfAny T kind bound → EndsAll T kind bound
 all_end T kind bound R =
     record {
       end = passes kind bound R;

@@ -25,9 +25,11 @@ use Rattle.history.specs.History.{Knows, Continues, refusal_as, run_of}
 use Rattle.headline_threads.specs.Ends.{AreBelow, BeginSuch, steps_between}
 use Rattle.headline_threads.proofs.Passing.{all_after, all_before, turns_after, all_such, allowed_after, allowed_before, all_below, runs_so}
 
+-- In more steps than the bound at least one call more has ended.
 more_ends : (bound steps before after : ℕ) → bound < steps → AreWithinEnds bound steps before after → before < after
 more_ends bound steps before after far within = ⊎_elim (λ less. less) none (cases_lt before after)
   where
+    -- If no more calls had ended after the turns than before, the steps would be more than the bound allows.
     none : after ≤ before → before < after
     none le = let paid = worth after before (bound + 1) le in absurd (omega arith)
 
@@ -37,7 +39,7 @@ pub record Runs {T : Type 0} (kind : Kind) (Such : Start T → Type 0) (bound : 
   pub keeps : KeepsEndingBy (refusal_as kind) kind Such bound
 
 module _ {T : Type 0} where
-  -- after any turns the world is made as before
+  -- Turns keep what a machine was made with: its coding, kind, capacity and number of parties.
   making_of : (t : Trace T) (turns : List (Turn T)) → SameMaking t.world (after_turns t turns).world
   making_of t [] = record { coding = refl; kind = refl; capacity = refl; parties = refl }
   making_of t (turn ∷ turns) =
@@ -50,34 +52,42 @@ module _ {T : Type 0} where
         parties = rest.parties ∙ here.parties;
       }
 
+  -- In a machine without parties no call is under way.
   none_pending : (n : ℕ) (code : Coding T) (kind : Kind) (capacity : ℕ) → pending n (opening code kind capacity 0).world ≡ 0
   none_pending zero code kind capacity = refl
   none_pending (suc n) code kind capacity = let rest = none_pending n code kind capacity in omega arith
 
   module _ (kind : Kind) (Such : Start T → Type 0) (bound : Bound) (R : Runs kind Such bound) (code : Coding T) (capacity : ℕ) where
+    -- The table as it opens.
     abbrev start : Trace T
     start = opening code kind capacity 0
 
+    -- The table after these turns.
     abbrev so_far : List (Turn T) → Trace T
     so_far turns = run_of code kind capacity turns
 
+    -- The bound for n parties at this capacity and coding.
     abbrev most : ℕ → ℕ
     most n = bound n capacity code.size
 
     -- what is known of the first turns of a list, and of those after them
     record Later (first rest : List (Turn T)) (n : ℕ) : Type 0 where
+      -- the machine after the first turns: its kind, its numbers, and that turns reach it
       pub of_kind : (so_far first).world.kind ≡ kind
       pub sized : (so_far first).world.capacity ≡ capacity
       pub coded : (so_far first).world.coding ≡ code
       pub reached : IsReachedBy (refusal_as kind) (so_far first)
       pub such_before : AllByRecursion (BeginsSuch Such) reached.turns
+      -- the turns are allowed, the first and then the rest
       pub allowed_before : AreAllowedBy (refusal_as kind) start first
       pub allowed : AreAllowedBy (refusal_as kind) (so_far first) rest
+      -- all are of parties below n
       pub below_before : AllByRecursion (IsBelow n) first
       pub below : AllByRecursion (IsBelow n) rest
+      -- the rest begin only calls for which `Such` holds
       pub such : AllByRecursion (BeginsSuch Such) rest
 
-    -- what is known of all turns is known of the first of them and of the others
+    -- What is known of a list of turns is known of a beginning of it, and of the turns after that.
     later_on : (first rest : List (Turn T)) (n : ℕ) → IsCoding code → capacity_error kind capacity ≡ None
         → AreAllowedBy (refusal_as kind) start (first ++ rest) → AreBelow n (so_far (first ++ rest)).events → BeginSuch Such (so_far (first ++ rest)).events
         → Later first rest n
@@ -92,10 +102,9 @@ module _ {T : Type 0} where
           coded = making.coding;
           reached =
               record {
-                coded = subst (λ (c : Coding T). IsCoding c) (sym making.coding) coded;
+                coded = rw making.coding coded;
                 admitted =
-                    subst (λ k. capacity_error k (so_far first).world.capacity ≡ None) (sym making.kind)
-                    (subst (λ c. capacity_error kind c ≡ None) (sym making.capacity) admitted);
+                    rw making.kind (rw making.capacity admitted);
                 turns = first;
                 is = runs_so (refusal_as kind) R.possible start first before ∙ sym (opens making);
               };
@@ -107,6 +116,7 @@ module _ {T : Type 0} where
           such = all_after (BeginsSuch Such) first rest all;
         }
       where
+        -- The opening that the first turns have been made with is the table's own start.
         opens : SameMaking start.world (so_far first).world
             → run_by (refusal_as kind) first
             (opening (so_far first).world.coding (so_far first).world.kind (so_far first).world.capacity (so_far first).world.parties)
@@ -122,20 +132,15 @@ module _ {T : Type 0} where
           → AreWithinEnds (most n) (steps_in (so_far first) turns) (ends (so_far first).events) (ends (after_turns (so_far first) turns).events)
       all_end turns allowed below such =
           let run_now = so_far first in
-          subst (λ (c : ℕ). AreWithinEnds (bound n c code.size) (steps_in run_now turns) (ends run_now.events)
-          (ends (after_turns run_now turns).events))
-          h.sized
-          (subst (λ (c : Coding T). AreWithinEnds (bound n run_now.world.capacity c.size) (steps_in run_now turns) (ends run_now.events)
-          (ends (after_turns run_now turns).events))
-          h.coded
-          (R.keeps run_now h.of_kind h.reached h.such_before n turns allowed below such))
+          rw h.sized at (rw h.coded at (R.keeps run_now h.of_kind h.reached h.such_before n turns allowed below such))
 
+      -- In the later turns calls end as often as the steps have the bound.
       ends_within : AreWithinEnds (most n) (steps_in (so_far first) rest) (ends (so_far first).events) (ends (so_far (first ++ rest)).events)
       ends_within =
-          subst (λ (u : Trace T). AreWithinEnds (most n) (steps_in (so_far first) rest) (ends (so_far first).events) (ends u.events))
-          (sym (turns_after start first rest)) (all_end rest h.allowed h.below h.such)
+          rw (turns_after start first rest) (all_end rest h.allowed h.below h.such)
 
-      -- the steps of the others are at most the load of the calls that had not ended
+      -- The steps of the later turns are at most the load of the calls that had begun and not ended before
+      -- them, and of those that begin in them.
       load_of : steps_in (so_far first) rest ≤ load (most n) (begun (so_far (first ++ rest)).events - ends (so_far first).events)
       load_of =
           let run_now = so_far first in
@@ -151,7 +156,7 @@ module _ {T : Type 0} where
           let runs : begun (so_far (first ++ rest)).events ≡ begun (after_turns run_now rest).events
           = ap (λ (u : Trace T). begun u.events) (turns_after start first rest) in
           let same : pending n run_now.world + begins_in rest ≡ begun (so_far (first ++ rest)).events - ends run_now.events = omega arith in
-          subst (λ k. steps_in run_now rest ≤ load (most n) k) same steps
+          rw (← same) steps
 
     -- ---- of what a pass knows
 
@@ -160,50 +165,56 @@ module _ {T : Type 0} where
       seen : new.seen ≡ (so_far (old.turns ++ later.first.rest)).events
       seen = later.knows.is ∙ ap (λ ts. (so_far ts).events) later.first.is
 
+      -- The turns that the later pass knows are those of the earlier one with more after them, and
+      -- all are allowed.
       there : Later old.turns later.first.rest n
       there =
           later_on old.turns later.first.rest n knows.coded knows.admitted
           (subst (AreAllowedBy (refusal_as kind) start) later.first.is later.knows.allowed)
           (subst (AreBelow n) seen below) (subst (BeginSuch Such) seen such)
 
+      -- The steps of the table between what the pass knew and what it knows.
       abbrev steps : ℕ
       steps = steps_between code kind capacity old new later
 
+      -- Between what a pass knew and what it knows calls have ended as often as the steps have the bound.
       pub between : AreWithinEnds (most n) steps (ends old.seen) (ends new.seen)
       between =
-          subst (λ (es : List (Event T)). AreWithinEnds (most n) steps (ends old.seen) (ends es)) (sym seen)
-          (subst (λ (es : List (Event T)). AreWithinEnds (most n) steps (ends es) (ends (so_far (old.turns ++ later.first.rest)).events)) (sym knows.is)
-          (ends_within old.turns later.first.rest n there))
+          rw seen
+          (rw knows.is (ends_within old.turns later.first.rest n there))
 
       pub one_more : most n < steps → ends old.seen < ends new.seen
       one_more far = more_ends (most n) steps (ends old.seen) (ends new.seen) far between
 
+      -- The steps between what a pass knew and what it knows are within the load of the calls that
+      -- had begun and not ended.
       pub load_between : steps ≤ load (most n) (begun new.seen - ends old.seen)
       load_between =
-          subst (λ (es : List (Event T)). steps ≤ load (most n) (begun es - ends old.seen)) (sym seen)
-          (subst (λ (es : List (Event T)). steps ≤ load (most n) (begun (so_far (old.turns ++ later.first.rest)).events - ends es)) (sym knows.is)
-          (load_of old.turns later.first.rest n there))
+          rw seen (rw knows.is (load_of old.turns later.first.rest n there))
 
+      -- In more rounds than that load a party that takes a step in each round has no call under
+      -- way as one of them begins.
       pub rests_between : (rounds : List (List (Turn T))) → later.first.rest ≡ turns_of rounds → (p : ℕ) → StepsInEach p (so_far old.turns) rounds
           → load (most n) (begun new.seen - ends old.seen) < length rounds → RestsInOne p (so_far old.turns) rounds
-      rests_between rounds is p each many =
+      rests_between rounds rounds_are p each many =
           rests_by p (so_far old.turns) rounds each (load (most n) (begun new.seen - ends old.seen))
-          (subst (λ turns. steps_in (so_far old.turns) turns ≤ load (most n) (begun new.seen - ends old.seen)) is load_between) many
+          (rw (← rounds_are) load_between) many
 
     -- from the opening on
     module _ (v : View T) (knows : Knows code kind capacity v) (n : ℕ) (below : AreBelow n v.seen) (such : BeginSuch Such v.seen) where
+      -- All turns that a pass knows, from the opening on, are allowed.
       all_there : Later [] v.turns n
       all_there =
           later_on [] v.turns n knows.coded knows.admitted
           knows.allowed (subst (AreBelow n) knows.is below) (subst (BeginSuch Such) knows.is such)
 
+      -- From the opening on calls have ended as often as the steps that a pass knows have the bound.
       pub known : AreWithinEnds (most n) (steps_in start v.turns) 0 (ends v.seen)
       known =
-          subst (λ (es : List (Event T)). AreWithinEnds (most n) (steps_in start v.turns) 0 (ends es)) (sym knows.is)
-          (ends_within [] v.turns n all_there)
+          rw knows.is (ends_within [] v.turns n all_there)
 
+      -- All steps that a pass knows are within the load of the calls that it has seen begin.
       pub load_known : steps_in start v.turns ≤ load (most n) (begun v.seen)
       load_known =
-          subst (λ (es : List (Event T)). steps_in start v.turns ≤ load (most n) (begun es)) (sym knows.is)
-          (let none : begun (so_far v.turns).events - 0 ≡ begun (so_far v.turns).events = omega arith in
-          subst (λ k. steps_in start v.turns ≤ load (most n) k) none (load_of [] v.turns n all_there))
+          rw knows.is (let none : begun (so_far v.turns).events - 0 ≡ begun (so_far v.turns).events = omega arith in
+          rw (← none) (load_of [] v.turns n all_there))

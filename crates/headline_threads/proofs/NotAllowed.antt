@@ -20,6 +20,7 @@ abbrev knowing : Kind → ℕ → List (Turn ℕ) → View ℕ
 knowing kind capacity turns =
     record (first_view capacity) { seen = (run_of one_word kind capacity turns).events; turns = turns }
 
+-- A pass knows these turns, and what they have written, as a run of the table.
 abbrev IsKnown : Kind → ℕ → List (Turn ℕ) → Type 0
 IsKnown kind capacity turns = Knows one_word kind capacity (knowing kind capacity turns)
 
@@ -31,10 +32,11 @@ one_word_codes = record { some = omega arith; few = omega arith; sized = λ n. r
 abbrev acquire : Start ℕ
 acquire = Indices Acquire
 
+-- A party begins an acquire while its acquire is under way.
 abbrev again : List (Turn ℕ)
 again = Begin 0 acquire ∷ Begin 0 acquire ∷ []
 
--- all but `allowed` is so
+-- All that `Knows` says of these turns holds, but that they are allowed.
 all_but_allowed : IsCoding one_word
     × ((capacity_error kinds.Indices 1 ≡ None)
     × (AreFresh (opening one_word kinds.Indices 1 0) again

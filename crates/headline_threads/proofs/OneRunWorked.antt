@@ -30,6 +30,7 @@ use Rattle.headline_threads.specs.Ends.{AreBelow, steps_between}
 abbrev acquire : Start ℕ
 acquire = Indices Acquire
 
+-- A unique index set of capacity 1 after these turns.
 abbrev after : List (Turn ℕ) → Trace ℕ
 after turns = run_of one_word kinds.Indices 1 turns
 
@@ -53,6 +54,7 @@ told turns events =
       others = 0;
     }
 
+-- What a pass knows that has seen all that these turns have written.
 abbrev knowing : List (Turn ℕ) → View ℕ
 knowing turns = told turns (after turns).events
 
@@ -61,9 +63,11 @@ one_word_codes = record { some = omega arith; few = omega arith; sized = λ n. r
 
 -- ---- two parties acquire, one after the other: the second finds no index left
 
+-- Party 0 acquires the one index.
 abbrev first : List (Turn ℕ)
 first = begins 0 acquire 4
 
+-- Party 1 begins an acquire and takes one step.
 abbrev second : List (Turn ℕ)
 second = begins 1 acquire 1
 
@@ -166,28 +170,28 @@ module _ (turns : List (Turn ℕ)) (turn : Turn ℕ) (e : Event ℕ) (wrote : Li
     (writes : events_of (after turns).world turn ≡ e ∷ wrote) where
   -- a pass that lacks the last turn knows no run
   one_too_few : Knows one_word kinds.Indices 1 (told turns (after (turns ++ turn ∷ [])).events) → ⊥
-  one_too_few h =
+  one_too_few knows =
       let start : Trace ℕ = opening one_word kinds.Indices 1 0 in
       let more : (after turns).events ++ e ∷ wrote ≡ (after turns).events =
-      ap (λ ws. (after turns).events ++ ws) (sym writes) ∙ (sym (ap (λ (t : Trace ℕ). t.events) (after_turns_more start turns turn)) ∙ h.is) in
+      ap (λ ws. (after turns).events ++ ws) (sym writes) ∙ (sym (ap (λ (t : Trace ℕ). t.events) (after_turns_more start turns turn)) ∙ knows.is) in
       let long = ap length more in
       let one = length-append (after turns).events (e ∷ wrote) in
       absurd (omega arith)
 
 -- so the pass of a call that has ended knows its last turn
 last_left_out : Knows one_word kinds.Indices 1 (told (begins 0 acquire 3) (after first).events) → ⊥
-last_left_out h = one_too_few (begins 0 acquire 3) (Next 0) _ _ refl h
+last_left_out knows = one_too_few (begins 0 acquire 3) (Next 0) _ _ refl knows
 
 -- nor does it count a change by another that its run does not have
 one_change_too_many : Knows one_word kinds.Indices 1 (record knows { others = 1 }) → ⊥
-one_change_too_many h = cc (h.others)
+one_change_too_many knows = cc (knows.others)
 
 -- nor has it asked for less than the run took, where it has the whole share, or for more
 one_asked_too_few : Knows one_word kinds.Indices 1 (record knows { asked = 4 }) → ⊥
-one_asked_too_few h = let e : 4 ≡ 0 + 5 = h.asked.all refl in absurd (omega (e, arith))
+one_asked_too_few knows = let e : 4 ≡ 0 + 5 = knows.asked.all refl in absurd (omega (e, arith))
 
 one_asked_too_many : Knows one_word kinds.Indices 1 (record knows { asked = 6 }) → ⊥
-one_asked_too_many h = let e : 6 ≤ 0 + 5 = h.asked.most in absurd (omega (e, arith))
+one_asked_too_many knows = let e : 6 ≤ 0 + 5 = knows.asked.most in absurd (omega (e, arith))
 
 -- a split is aside, and half the share may have asked for less
 split_off : HasAsked (record knows { asked = 3; aside = 1; share = half_of all_shares }) 5

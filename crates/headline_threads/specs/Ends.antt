@@ -1,4 +1,4 @@
--- Where calls end between threads, and loads.
+-- Lock-freedom between threads, said of what passes have seen: calls end, and finite loads end.
 use Rattle.std.specs.Prelude.{◌≡◌, ◌<◌, ◌≤◌, ℕ, ◌+◌, ◌-◌, Option, Some, None, IfSome, List, length}
 use Rattle.std.specs.List.{AllByRecursion}
 use Rattle.model.specs.declared.event.Event.{Event}
@@ -43,8 +43,8 @@ PassesEnd T kind bound =
     → bound n capacity code.size < steps_between code kind capacity old new later
     → ends old.seen < ends new.seen
 
--- The same as calls go on ending: where k calls have ended meanwhile,
--- the table has taken at most k + 1 times the bound and k steps.
+-- For what a pass knew and what it knows later: if k calls have ended between the two, the table has taken at most
+-- k + 1 times the bound and k steps.
 abbrev pub PassesKeepEnding : Type 0 → Kind → Bound → Type 0
 PassesKeepEnding T kind bound =
     (code : Coding T) (capacity : ℕ) (old new : View T) → Knows code kind capacity old
@@ -52,7 +52,8 @@ PassesKeepEnding T kind bound =
     → AreWithinEnds (bound n capacity code.size) (steps_between code kind capacity old new later)
     (ends old.seen) (ends new.seen)
 
--- The same of all that a pass knows, from the opening of the table on.
+-- For all that a pass knows, from the opening of the table on: if k calls have ended, the table has taken at most k
+-- + 1 times the bound and k steps.
 abbrev pub KnownKeepsEnding : Type 0 → Kind → Bound → Type 0
 KnownKeepsEnding T kind bound =
     (code : Coding T) (capacity : ℕ) (v : View T) → Knows code kind capacity v
@@ -60,7 +61,7 @@ KnownKeepsEnding T kind bound =
     → AreWithinEnds (bound n capacity code.size) (steps_in (opening code kind capacity 0) v.turns)
     0 (ends v.seen)
 
--- ---- of passes that have seen no call begin but such ones
+-- ---- of passes that have seen only calls begin for which `Such` holds
 
 -- as `PassesEnd`, of passes that have seen only calls begin for which `Such` holds, and by a bound for these
 abbrev pub PassesEndOf : (T : Type 0) → Kind → (Start T → Type 0) → Bound → Type 0
@@ -104,8 +105,8 @@ KnownEndsLoad T kind bound =
     → (n : ℕ) → AreBelow n v.seen
     → steps_in (opening code kind capacity 0) v.turns ≤ load (bound n capacity code.size) (begun v.seen)
 
--- All operations that a pass has asked for are at most that load too,
--- but for those that were aside: splits, joins, looks.
+-- All operations on words that a pass has asked for, but for those of splits, joins and looks, are at most the load
+-- of the calls that it has seen begin.
 abbrev pub KnownAsksLoad : Type 0 → Kind → Bound → Type 0
 KnownAsksLoad T kind bound =
     (code : Coding T) (capacity : ℕ) (v : View T) → Knows code kind capacity v

@@ -27,14 +27,15 @@ pub fn passes_keep_ending<T>()
     ensures known { (kind : Kind) → IfSome (lock_free_bound kind) (KnownKeepsEnding T kind) }
 {}
 
-/// A finite load ends between threads, of the same kinds and parties. All steps that the table took, as far as a pass knows, are at most the bound and one for
-/// each call that it has seen begin (`known`), so a pass with the whole share knows a bound of all steps that threads have
-/// taken there. Since an earlier time they are at most so many for each call that had begun then and not ended, and for each
-/// that has begun since (`between`). All operations on words that a pass has asked for, but its splits, joins and looks, are at
-/// most so many too (`asks`).
+/// A finite load ends between threads, of the same kinds and parties. All steps that the table took, as far as a pass
+/// knows, are at most the load of the calls that it has seen begin: the bound and one for each (`known`). So a pass with
+/// the whole share knows a bound of all steps that threads have taken there. Since an earlier time the steps are at most
+/// the load of the calls that had begun then and not ended, and of those that have begun since (`between`). All operations
+/// on words that a pass has asked for, but those of its splits, joins and looks, are at most the load of the calls that it
+/// has seen begin (`asks`).
 ///
-/// So a thread's call ends if the thread goes on: cut what the table did since then into more rounds than that, and a party
-/// that took a step in each had no call under way as one of them began (`rest`).
+/// So a thread's call ends if the thread goes on: if what the table did since then is cut into more rounds than that load,
+/// a party that took a step in each had no call under way as one of them began (`rest`).
 pub fn passes_end_loads<T>()
     ensures between { (kind : Kind) → IfSome (lock_free_bound kind) (PassesEndLoad T kind) }
     ensures known { (kind : Kind) → IfSome (lock_free_bound kind) (KnownEndsLoad T kind) }
@@ -42,9 +43,9 @@ pub fn passes_end_loads<T>()
     ensures rest { (kind : Kind) → IfSome (lock_free_bound kind) (PassesRest T kind) }
 {}
 
-/// Of robust index sets and containers, whose runs between threads are open (nobody sees an owner die), what
-/// `passes_keep_ending` says of the others. Where any call may begin the bounds say nothing of practice. They are small where the
-/// pass has seen no call begin that may lock (`by_default`).
+/// What `passes_keep_ending` says, of robust index sets and containers, whose runs between threads are open (nobody sees an
+/// owner die). Where any call may begin the bounds say nothing of practice. They are small where the pass has seen no call
+/// begin that may lock (`by_default`).
 pub fn owners_keep_ending<T>()
     ensures robust { PassesEnd T Robust room_bound }
     ensures robust_keep { PassesKeepEnding T Robust room_bound }
@@ -60,7 +61,7 @@ pub fn owners_keep_ending<T>()
     ensures container_known_by_default { KnownKeepsEndingOf T Container IsDefault default_container_bound }
 {}
 
-/// And what `passes_end_loads` says of them, with the same bounds.
+/// What `passes_end_loads` says, of robust index sets and containers, with the bounds of `owners_keep_ending`.
 pub fn owners_end_loads<T>()
     ensures robust_between { PassesEndLoad T Robust room_bound }
     ensures robust_load { KnownEndsLoad T Robust room_bound }

@@ -71,7 +71,7 @@ module _ {T : Type 0} where
 
   -- ---- it goes on as its table says
 
-  -- a step of such a call goes on as the table of the call says
+  -- A step of a call that agrees with what is kept goes on as the table of the call says.
   pub goes_so : (code : Coding T) (words : List ℕ) (beside : Option (ℕ × ℕ)) (p : ℕ) (start : Start T) (flight : Flight T) (old : ℕ)
       (kept : Registry T) → Agree start flight kept
       → (step_of code words beside p start flight old kept).after ≡ after_of code flight old
@@ -86,23 +86,26 @@ module _ {T : Type 0} where
 
   -- ---- and then stays one of its family
 
+  -- If `GoOn f` is `GoOn d`, then the calls f and d are one.
   same_flight : (f d : Flight T) → ◌≡◌ {A = After (Flight T) (Answer T)} (GoOn f) (GoOn d) → f ≡ d
   same_flight f d e = cc
 
+  -- A call of a family that goes on after its step is a call of that family again.
   stays : {R : Type 0} (start : Start T) (kept : Registry T) (outer : R → Flight T) → ((r : R) → Agree start (outer r) kept)
       → (d : Flight T) (a : After R (Answer T)) → as_call outer (λ (answer : Answer T). answer) a ≡ GoOn d → Agree start d kept
-  stays start kept outer all d (GoOn r) e = subst (λ f. Agree start f kept) (same_flight (outer r) d e) (all r)
-  stays start kept outer all d (Done answer) e = absurd (cc)
+  stays start kept outer all d (GoOn r) leads = subst (λ f. Agree start f kept) (same_flight (outer r) d leads) (all r)
+  stays start kept outer all d (Done answer) leads = absurd (cc)
 
-  -- the same of a call of the container, which is no look
+  -- A call of the container that is no look, and goes on after its step, is a call of the container again.
   still_none : {R A : Type 0} (start : ContainerStart T) (kept : Registry T) (wrap : R → ContainerFlight T) (say : A → Answer T)
       → ((r : R) → Agree (starts.Container start) (flights.Container (wrap r)) kept) → (d : Flight T) (a : After R A)
       → as_call flights.Container (λ (answer : Answer T). answer) (as_call wrap say a) ≡ GoOn d → Agree (starts.Container start) d kept
-  still_none start kept wrap say all d (GoOn r) e =
-      subst (λ f. Agree (starts.Container start) f kept) (same_flight (flights.Container (wrap r)) d e) (all r)
-  still_none start kept wrap say all d (Done answer) e = absurd (cc)
+  still_none start kept wrap say all d (GoOn r) leads =
+      subst (λ f. Agree (starts.Container start) f kept) (same_flight (flights.Container (wrap r)) d leads) (all r)
+  still_none start kept wrap say all d (Done answer) leads = absurd (cc)
 
-  -- where a step leads on, the call is one of the family still, beside what is kept then
+  -- If a call goes on after its step, it is a call of the same family, and what the machine keeps is what
+  -- that family keeps.
   pub agrees_then : (code : Coding T) (words : List ℕ) (beside : Option (ℕ × ℕ)) (p : ℕ) (start : Start T) (flight : Flight T) (old : ℕ)
       (kept : Registry T) (d : Flight T) → Agree start flight kept → after_of code flight old ≡ GoOn d
       → Agree start d (step_of code words beside p start flight old kept).kept
@@ -153,20 +156,24 @@ module _ {T : Type 0} where
   -- ---- and writes no end of a call but its own
 
   module _ (is_call : Start T → Bool) where
+    -- A step of a call of the unique index set writes no end of a call.
     index_writes : (p : ℕ) (freed : Option ℕ) (outcome : Option (Answer T)) → flat_map (whole.answer_in is_call) (index_steps.effects p freed outcome) ≡ []
     index_writes p (Some index) outcome = refl
     index_writes p None (Some (answers.Index index)) = refl
     index_writes p None (Some (answers.State Locked)) = refl
     index_writes p None outcome = refl
 
+    -- An event that ends no call, written or not, ends no call.
     if_writes : (b : Bool) (e : Event T) → whole.answer_in is_call e ≡ [] → flat_map (whole.answer_in is_call) (if b then e ∷ [] else []) ≡ []
     if_writes true e none = ap (λ (xs : List (Start T × Answer T)). xs ++ []) none
     if_writes false e none = refl
 
+    -- An event that ends no call, left out or written, ends no call.
     unless_writes : (b : Bool) (e : Event T) → whole.answer_in is_call e ≡ [] → flat_map (whole.answer_in is_call) (if b then [] else e ∷ []) ≡ []
     unless_writes true e none = refl
     unless_writes false e none = ap (λ (xs : List (Start T × Answer T)). xs ++ []) none
 
+    -- The clearing of bits ends no call.
     clears_none : (p : ℕ) (bits : List ℕ) → flat_map (whole.answer_in is_call) (map (λ bit. events.Cleared p bit) bits) ≡ []
     clears_none p [] = refl
     clears_none p (bit ∷ bits) = clears_none p bits
@@ -175,6 +182,7 @@ module _ {T : Type 0} where
     bit_writes : (p : ℕ) (flight : BitsFlight) (old : ℕ) → flat_map (whole.answer_in is_call) (bits_steps.effects_of {T = T} p flight old) ≡ []
     bit_writes p (bit_flights.Set run) old = set_writes run.call.stage
       where
+        -- A step of a set of a bit writes no end of a call.
         set_writes : (stage : SetStage) → flat_map (whole.answer_in is_call) (bits_steps.set_events {T = T} p run.given stage old) ≡ []
         set_writes sets.LoadsElement = refl
         set_writes (sets.ExchangesElement found) = if_writes (old == found) (events.Set p run.given) refl
@@ -191,22 +199,25 @@ module _ {T : Type 0} where
     bit_writes p (bit_flights.CountOf run) old = refl
     bit_writes p (bit_flights.TakeAll run) old = unless_writes (old == 0) (events.TakenOut p run.call.word old) refl
 
+    -- An event that tells what a step did to a structure ends no call.
     effect_none : (turn : Turn T) (e : Event T) → IsEffectOf turn e → whole.answer_in is_call e ≡ []
-    effect_none turn (Finished q start answer) h = absurd h
-    effect_none turn e h = refl
+    effect_none turn (Finished q start answer) effect = absurd effect
+    effect_none turn e effect = refl
 
+    -- What a step does to a structure is no end of a call.
     effects_none : (turn : Turn T) (es : List (Event T)) → AllByRecursion (IsEffectOf turn) es → flat_map (whole.answer_in is_call) es ≡ []
     effects_none turn [] all = refl
     effects_none turn (e ∷ es) all =
         ap (λ (xs : List (Start T × Answer T)). xs ++ flat_map (whole.answer_in is_call) es) (effect_none turn e all.0) ∙ effects_none turn es all.1
 
+    -- A step of a call of the container writes no end of a call.
     pub container_writes : (code : Coding T) (p : ℕ) (flight : ContainerFlight T) (old : ℕ) (states : List (ℕ × ContainerState T))
         → flat_map (whole.answer_in is_call) (container_steps.effects code p (state_of p states) flight old ++ container_steps.questions p flight old) ≡ []
     container_writes code p flight old states =
         effects_none (Next p) (container_steps.effects code p (state_of p states) flight old ++ container_steps.questions p flight old)
         (container.all_effects (Next p) p refl code (state_of p states) flight old)
 
-    -- a step of such a call writes the end of no call
+    -- A step of a call that agrees with what is kept writes the end of no call.
     pub writes_none : (code : Coding T) (words : List ℕ) (beside : Option (ℕ × ℕ)) (p : ℕ) (start : Start T) (flight : Flight T) (old : ℕ)
         (kept : Registry T) → Agree start flight kept
         → flat_map (whole.answer_in is_call) (step_of code words beside p start flight old kept).wrote ≡ []

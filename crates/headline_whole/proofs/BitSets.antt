@@ -47,9 +47,11 @@ use Rattle.headline_whole.proofs.Law.{IsMadeSo, Reading, Answers, BeginsSo, Law}
 use Rattle.headline_whole.proofs.Owners.{not_past}
 use Rattle.headline_whole.proofs.Sweeps.{cleared, all_cleared, all_but_first, sweep_runs}
 
+-- A bit set opens with a capacity below 2 ^ 32.
 admitted_bits : (c : ℕ) → capacity_error kinds.Bits c ≡ None → c < 2 ^ 32
 admitted_bits = grind arith
 
+-- A counting bit set has a capacity below 2^32.
 admitted_counts : (c : ℕ) → capacity_error kinds.Counts c ≡ None → c < 2 ^ 32
 admitted_counts = grind arith
 
@@ -110,6 +112,7 @@ module _ {T : Type 0} where
   -- ---- a set of places
 
   module _ (code : Coding T) (capacity turns : ℕ) (words : List ℕ) (fits : Represents capacity words) where
+    -- The call of a bit set, run alone from these words, answers and leaves what its object does.
     abbrev PlacesWhole : BitsStart → BitsFlight → Type 0
     PlacesWhole start flight = FlightRuns code (Answers (places_reading capacity) turns words (starts.Bits start)) (flights.Bits flight) words
 
@@ -178,6 +181,7 @@ module _ {T : Type 0} where
   -- ---- counts of places
 
   module _ (code : Coding T) (capacity turns : ℕ) (words : List ℕ) (long : length words ≡ capacity) where
+    -- The call of a counting bit set, run alone from these words, answers and leaves what its object does.
     abbrev CountsWhole : BitsStart → BitsFlight → Type 0
     CountsWhole start flight = FlightRuns code (Answers (counts_reading capacity) turns words (starts.Bits start)) (flights.Bits flight) words
 
@@ -234,18 +238,22 @@ module _ {T : Type 0} where
 
   -- ---- the laws
 
+  -- A call of a bit set that is let begin is named as one of its family, and the machine keeps
+  -- what that family keeps.
   has_registry : (capacity p : ℕ) (start : BitsStart) (flight : Flight T) (f : BitsFlight) (kept : Registry T) → flights.Bits f ≡ flight
       → first_row (kept_rows capacity start kept p) ≡ None → Agree (starts.Bits start) flight kept
-  has_registry capacity p start flight f registries.Nothing is e = subst (λ x. Agree (starts.Bits start) x registries.Nothing) is tt
-  has_registry capacity p start flight f kept is e = absurd (cc)
+  has_registry capacity p start flight f registries.Nothing flight_is rows_passed = subst (λ x. Agree (starts.Bits start) x registries.Nothing) flight_is tt
+  has_registry capacity p start flight f kept flight_is rows_passed = absurd (cc)
 
+  -- A look at a place that is let begin is at a place below the capacity.
   low_look : (capacity p place : ℕ) (kept : Registry T) → first_row (kept_rows capacity (calls.IsSet place) kept p) ≡ None → place < capacity
-  low_look capacity p place registries.Nothing e = let row = row_passed _ _ _ e in not_past capacity place row.0
-  low_look capacity p place kept e = absurd (cc)
+  low_look capacity p place registries.Nothing rows_passed = let row = row_passed _ _ _ rows_passed in not_past capacity place row.0
+  low_look capacity p place kept rows_passed = absurd (cc)
 
+  -- A set of a place that is let begin is of a place below the capacity.
   low_place : (capacity p place : ℕ) (kept : Registry T) → first_row (kept_rows capacity (calls.Set place) kept p) ≡ None → place < capacity
-  low_place capacity p place registries.Nothing e = let row = row_passed _ _ _ e in not_past capacity place row.0
-  low_place capacity p place kept e = absurd (cc)
+  low_place capacity p place registries.Nothing rows_passed = let row = row_passed _ _ _ rows_passed in not_past capacity place row.0
+  low_place capacity p place kept rows_passed = absurd (cc)
 
   module _ (code : Coding T) (capacity : ℕ) where
     -- each call that a bit set lets begin, run alone, answers and leaves what the set of places does
@@ -257,7 +265,7 @@ module _ {T : Type 0} where
         (subst (λ n. first_row (kept_rows n start t.world.kept p) ≡ None) made.capacity
         (may_begin t.world p (starts.Bits start) (passes t.world (Begin p (starts.Bits start)) free).on).rows)
       where
-        -- a call that its rows let begin has begun so, if it does so when run alone
+        -- A call that its tests let begin begins as `BeginsSo` says, if, run alone, it answers what the object does.
         so : (s : BitsStart) (f : BitsFlight) → flights.Bits f ≡ flight → first_row (kept_rows capacity s t.world.kept p) ≡ None
             → PlacesWhole code capacity t.world.turns t.world.words fits s f → BeginsSo (places_reading capacity) code t p (starts.Bits s) flight
         so s f is rows runs =
@@ -266,22 +274,22 @@ module _ {T : Type 0} where
               runs = subst (λ x. FlightRuns code (Answers (places_reading capacity) t.world.turns t.world.words (starts.Bits s)) x t.world.words) is runs;
             }
 
-        -- it is so, whichever call of a bit set begins
+        -- The cases are which call of a bit set begins.
         go : (s : BitsStart) → first_of kinds.Bits capacity (starts.Bits s) t.world.kept ≡ Some flight
             → first_row (kept_rows capacity s t.world.kept p) ≡ None → BeginsSo (places_reading capacity) code t p (starts.Bits s) flight
-        go (calls.Set place) e rows =
-            so (calls.Set place) (under_way.Set (record { call = first_set; given = place; room = tt })) (same_flight _ flight e) rows
+        go (calls.Set place) named rows =
+            so (calls.Set place) (under_way.Set (record { call = first_set; given = place; room = tt })) (same_flight _ flight named) rows
             (sets code capacity t.world.turns t.world.words fits place (low_place capacity p place t.world.kept rows))
-        go calls.ResetNext e rows =
-            so calls.ResetNext (under_way.ResetNext (record { call = first_reset capacity; given = tt; room = tt })) (same_flight _ flight e) rows
+        go calls.ResetNext named rows =
+            so calls.ResetNext (under_way.ResetNext (record { call = first_reset capacity; given = tt; room = tt })) (same_flight _ flight named) rows
             (resets code capacity t.world.turns t.world.words fits)
-        go calls.ResetAll e rows =
-            so calls.ResetAll (under_way.ResetAll (record { call = all_bits capacity; given = tt; room = fresh })) (same_flight _ flight e) rows
+        go calls.ResetAll named rows =
+            so calls.ResetAll (under_way.ResetAll (record { call = all_bits capacity; given = tt; room = fresh })) (same_flight _ flight named) rows
             (empties_all code capacity t.world.turns t.world.words fits)
-        go (calls.IsSet place) e rows =
-            so (calls.IsSet place) (under_way.IsSet (record { call = look_set; given = place; room = tt })) (same_flight _ flight e) rows
+        go (calls.IsSet place) named rows =
+            so (calls.IsSet place) (under_way.IsSet (record { call = look_set; given = place; room = tt })) (same_flight _ flight named) rows
             (looks code capacity t.world.turns t.world.words fits place (low_look capacity p place t.world.kept rows))
-        go (calls.Count place) e rows = absurd (cc)
+        go (calls.Count place) named rows = absurd (cc)
     places_begin t p start flight reached made free fits named = absurd (cc)
 
     -- a bit set whose calls run whole is a set of places
@@ -311,7 +319,7 @@ module _ {T : Type 0} where
           (subst (λ n. first_row (kept_rows n start t.world.kept p) ≡ None) made.capacity
           (may_begin t.world p (starts.Bits start) (passes t.world (Begin p (starts.Bits start)) free).on).rows)
         where
-          -- a call that its rows let begin has begun so, if it does so when run alone
+          -- A call that its tests let begin begins as `BeginsSo` says, if, run alone, it answers what the object does.
           so : (s : BitsStart) (f : BitsFlight) → flights.Bits f ≡ flight → first_row (kept_rows capacity s t.world.kept p) ≡ None
               → CountsWhole code capacity t.world.turns t.world.words long s f → BeginsSo (counts_reading capacity) code t p (starts.Bits s) flight
           so s f is rows runs =
@@ -320,19 +328,19 @@ module _ {T : Type 0} where
                 runs = subst (λ x. FlightRuns code (Answers (counts_reading capacity) t.world.turns t.world.words (starts.Bits s)) x t.world.words) is runs;
               }
 
-          -- it is so, whichever call of a counting bit set begins
+          -- The cases are which call of a counting bit set begins.
           go : (s : BitsStart) → first_of kinds.Counts capacity (starts.Bits s) t.world.kept ≡ Some flight
               → first_row (kept_rows capacity s t.world.kept p) ≡ None → BeginsSo (counts_reading capacity) code t p (starts.Bits s) flight
-          go (calls.Set place) e rows =
-              so (calls.Set place) (under_way.Count (record { call = add_one; given = place; room = tt })) (same_flight _ flight e) rows
+          go (calls.Set place) named rows =
+              so (calls.Set place) (under_way.Count (record { call = add_one; given = place; room = tt })) (same_flight _ flight named) rows
               (counts code capacity t.world.turns t.world.words long place)
-          go calls.ResetNext e rows = absurd (cc)
-          go calls.ResetAll e rows =
-              so calls.ResetAll (under_way.TakeAll (record { call = all_counts capacity; given = tt; room = fresh })) (same_flight _ flight e) rows
+          go calls.ResetNext named rows = absurd (cc)
+          go calls.ResetAll named rows =
+              so calls.ResetAll (under_way.TakeAll (record { call = all_counts capacity; given = tt; room = fresh })) (same_flight _ flight named) rows
               (takes_all code capacity t.world.turns t.world.words long few)
-          go (calls.IsSet place) e rows = absurd (cc)
-          go (calls.Count place) e rows =
-              so (calls.Count place) (under_way.CountOf (record { call = look_count; given = place; room = tt })) (same_flight _ flight e) rows
+          go (calls.IsSet place) named rows = absurd (cc)
+          go (calls.Count place) named rows =
+              so (calls.Count place) (under_way.CountOf (record { call = look_count; given = place; room = tt })) (same_flight _ flight named) rows
               (look_counts code capacity t.world.turns t.world.words long place)
       counts_begin t p start flight reached made free long named = absurd (cc)
 

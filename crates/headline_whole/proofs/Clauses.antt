@@ -29,26 +29,31 @@ use Rattle.headline_whole.specs.Kinds.{kind_of, hand_of, IsWellFormedFor, IsReco
 module _ {T : Type 0} where
   -- ---- queues
 
+  -- What every run of a queue keeps says that its pushes and pops act as those of one list.
   acts_as_list : (kind : QueueKind) (queue : ℕ) (t : Trace T) → Runs (kind_of kind) queue t → ActAs (as_list kind t.world.capacity) t.events
   acts_as_list queues.IndexQueue queue t runs = runs.list
   acts_as_list queues.Overflow queue t runs = runs.list
   acts_as_list queues.Queue queue t runs = runs.list
 
+  -- In every run of a queue pushes and pops act as those of one list.
   pub acts : (kind : QueueKind) (queue : ℕ) (t : Trace T) → Runs t.world.kind queue t → t.world.kind ≡ kind_of kind
       → ActAs (as_list kind t.world.capacity) t.events
-  acts kind queue t runs is = acts_as_list kind queue t (subst (λ k. Runs k queue t) is runs)
+  acts kind queue t runs of_kind = acts_as_list kind queue t (subst (λ k. Runs k queue t) of_kind runs)
 
   -- ---- holders
 
   -- where no event gives an index, none has a holder
   module _ (hand : Event T → Hand) (never : (e : Event T) → hand e ≡ Neither) where
+    -- Where no event gives an index to anyone, no index has a holder.
     nobody : (i : ℕ) (past : List (Event T)) → holders hand i past ≡ []
     nobody i [] = refl
     nobody i (e ∷ es) = subst (λ (h : Hand). fold (λ held e. held_after i held (hand e)) (held_after i [] h) es ≡ []) (sym (never e)) (nobody i es)
 
+    -- Where no event gives an index to anybody, no two hold one.
     no_hand : (events : List (Event T)) → NoTwoHold hand events
     no_hand events past future is i = subst (λ (held : List ℕ). length held ≤ 1) (sym (nobody i past)) (omega arith)
 
+    -- Where no event gives an index to anybody, none is given once the set is locked.
     no_hand_locked : (events : List (Event T)) → NoneOnceLocked hand events
     no_hand_locked events past future is locked i = nobody i past
 
@@ -64,13 +69,15 @@ module _ {T : Type 0} where
   unlocked : (t : Trace T) → IsKeptBy (promise_of kinds.Loan) t → Always (λ past. is_locked past ≡ false) t.events
   unlocked t kept = always loans (λ past. is_locked past ≡ false) t.events refl go
     where
+      -- An event that is no lock leaves the set unlocked.
       stays : (e : Event T) (before : List (Event T)) → ((b : Bool) → locked_after b e ≡ b) → is_locked before ≡ false
           → is_locked (before ++ e ∷ []) ≡ false
       stays e before same off = fold-append locked_after false before (e ∷ []) ∙ (same (is_locked before) ∙ off)
 
+      -- Each event leaves a channel unlocked, since no call of a channel locks.
       go : (e : Event T) (before : List (Event T)) → Follows e before t.events → is_locked before ≡ false → is_locked (before ++ e ∷ []) ≡ false
-      go (Locked p) before at off = absurd (kept.spans before at.0 (Locked p) at.1)
-      go e before at off = stays e before (λ b. refl) off
+      go (Locked p) before follows off = absurd (kept.spans before follows.0 (Locked p) follows.1)
+      go e before follows off = stays e before (λ b. refl) off
 
   -- in a well-formed run no index has a holder once the set is locked
   pub none_locked : (kind : Kind) (queue : ℕ) (t : Trace T) → Runs kind queue t → IsKeptBy (promise_of kind) t → IsWellFormedFor kind t.events

@@ -46,6 +46,7 @@ module _ {T : Type 0} (code : Coding T) (coded : IsCoding code) (capacity : ℕ)
 
   module _ (p : ℕ) (words : List ℕ) (h : Holds code.value_of code.size capacity 0 words) (dead : List ℕ) (states : List (ℕ × ContainerState T))
       (right : AllRight code coded capacity states) where
+    -- The call of party p has just begun on these words, with what the machine keeps after the begin.
     abbrev BegunAt : ContainerStart T → Type 0
     BegunAt start =
         Begun code coded capacity (seen code coded capacity words (views_in states)) p (starts.Container start) []
@@ -56,10 +57,10 @@ module _ {T : Type 0} (code : Coding T) (coded : IsCoding code) (capacity : ℕ)
     begins_update : (o : Option (ContainerState T)) → state_of p states ≡ o
         → Looking code coded capacity words h (views_in states) p UpdateState (first_look capacity) words
         (if is_some o then states else with_state p (fresh code capacity) states)
-    begins_update None e =
+    begins_update None found =
         begins_fresh code coded capacity words h (views_in states) p UpdateState states
-        (ap (λ o. view_of (map_in code capacity words) (option_map snapshot_of o)) e) right (λ q. refl)
-    begins_update (Some state) e = begins_on code coded capacity words h (views_in states) p states state e right (λ q. refl)
+        (ap (λ o. view_of (map_in code capacity words) (option_map snapshot_of o)) found) right (λ q. refl)
+    begins_update (Some state) found = begins_on code coded capacity words h (views_in states) p states state found right (λ q. refl)
 
     -- a look that is under way at its first stage has begun
     begun_looking : (which : LookOf) (left : List (ℕ × ContainerState T))
@@ -111,14 +112,14 @@ module _ {T : Type 0} (code : Coding T) (coded : IsCoding code) (capacity : ℕ)
           });
         }
 
-  -- each call that its rows let begin does so, whatever is kept
+  -- Each call of a container that its tests let begin begins as `Begun` says.
   begun_on : (p : ℕ) (start : ContainerStart T) (kept : Registry T) (words : List ℕ) → Holds code.value_of code.size capacity 0 words
       → AllRight code coded capacity (states_in kept) → names_owner start ≡ true → first_row (kept_rows start kept p) ≡ None
       → Begun code coded capacity (seen code coded capacity words (views_in (states_in kept))) p
       (starts.Container start) [] (flights.Container (first capacity start)) words
       (kept_after_begin code capacity (starts.Container start) p kept)
-  begun_on p start (registries.Container dead states) words h right names rows = begun_at p words h dead states right start names
-  begun_on p start kept words h right names rows = absurd (cc)
+  begun_on p start (registries.Container dead states) words all_kept right names rows = begun_at p words all_kept dead states right start names
+  begun_on p start kept words all_kept right names rows = absurd (cc)
 
   -- each call that a container does not refuse begins so
   begins : (t : Trace T) (p : ℕ) (start : Start T) (flight : Flight T) → IsReached t → IsMadeSo code kinds.Container capacity t
@@ -127,24 +128,26 @@ module _ {T : Type 0} (code : Coding T) (coded : IsCoding code) (capacity : ℕ)
       → first_of kinds.Container capacity start t.world.kept ≡ Some flight
       → Begun code coded capacity (seen code coded capacity t.world.words (views_in (states_in t.world.kept))) p start [] flight t.world.words
       (kept_after_begin t.world.coding t.world.capacity start p t.world.kept)
-  begins t p (starts.Container start) flight reached made free h named =
+  begins t p (starts.Container start) flight reached made free holds named =
       let first_flight = named_if flights.Container (first capacity start) flight (names_owner start) named in
       subst (λ (x : Flight T × Coding T × ℕ).
       Begun code coded capacity (seen code coded capacity t.world.words (views_in (states_in t.world.kept))) p (starts.Container start) [] x.0 t.world.words
       (kept_after_begin x.1 x.2 (starts.Container start) p t.world.kept))
       (λ i. (first_flight.1 i, sym made.coding i, sym made.capacity i))
-      (begun_on p start t.world.kept t.world.words h.0 h.1 first_flight.0
+      (begun_on p start t.world.kept t.world.words holds.0 holds.1 first_flight.0
       (may_begin t.world p (starts.Container start) (passes t.world (Begin p (starts.Container start)) free).on).rows)
-  begins t p start flight reached made free h named = absurd (cc)
+  begins t p start flight reached made free holds named = absurd (cc)
 
   -- ---- the rules
 
+  -- The words of a container at its opening hold the map without entries.
   opening_map : contents_in code.value_of code.size capacity 0 (opening_words code.size capacity) ≡ contents.opened capacity 0
   opening_map =
       let one_more : suc capacity ≡ 1 + capacity = omega arith in
       opens_so code.value_of code.size capacity 0 (replicate {A = ℕ} (suc capacity) empty) (opening_words code.size capacity)
       (1 + capacity + code.size * capacity) (ap (λ n. replicate {A = ℕ} n empty) one_more) refl
 
+  -- A missing state is not the state `x`, so anything follows.
   no_state : {A : Type 0} (x : ContainerState T) → ◌≡◌ {A = Option (ContainerState T)} None (Some x) → A
   no_state x e = absurd (cc)
 

@@ -28,7 +28,7 @@ use Rattle.plain.specs.States.{Snapshot}
 use Rattle.headline_whole.specs.Dialogues.{Decision, decided, as_request}
 use Rattle.headline_whole.specs.Objects.{Viewed, view_after, whole_map}
 use Rattle.headline_whole.proofs.Agree.{Agree, goes_so, agrees_then, agrees_still, writes_none, container_writes}
-use Rattle.headline_whole.proofs.Courses.{Course, Holding, Came, Steps}
+use Rattle.headline_whole.proofs.Courses.{Course, Holding, IsAfterStep, Steps}
 use Rattle.headline_whole.proofs.Flights.{Turns, Talks, talk_goes, talk_hears, RunsOn, run_goes}
 use Rattle.headline_whole.proofs.Looks.{never_asks, start_of, views_in, AllRight, Looking, goes_on, shows}
 use Rattle.headline_whole.proofs.Looks.{words_are, views_then, said}
@@ -43,6 +43,7 @@ module _ {T : Type 0} where
   states_in (registries.Container dead states) = states
   states_in kept = []
 
+  -- The states of a container's parties stay as they are when an owner dies.
   pub states_stay : (kept : Registry T) (owner : ℕ) → states_in (kept_after_death kept owner) ≡ states_in kept
   states_stay (registries.Owners dead) owner = refl
   states_stay (registries.Container dead states) owner = refl
@@ -62,12 +63,14 @@ module _ {T : Type 0} where
   states_same code words beside p (starts.Container start) (flights.Container flight) old (registries.Container dead states) agree = refl
   states_same code words beside p start flight old kept agree = absurd agree
 
+  -- A call that leaves its party's state leaves the state of every party.
   either_same : (b : Bool) (s : Contents T) (start : Start T) (view : Option (Snapshot T)) → view_after s start view ≡ view
       → (if b then view_after s start view else view) ≡ view
   either_same true s start view same = same
   either_same false s start view same = refl
 
 module _ {T : Type 0} (code : Coding T) (coded : IsCoding code) (capacity : ℕ) where
+  -- The course of a container: the map from index to owner and value, with what the parties' states show.
   abbrev pub map_course : Course T
   map_course = course (whole_map {T = T} capacity)
 
@@ -78,26 +81,34 @@ module _ {T : Type 0} (code : Coding T) (coded : IsCoding code) (capacity : ℕ)
   -- A call that is no look is under way, which goes on from the words alone.
   pub record Talking (first_words : List ℕ) (views : ℕ → Option (Snapshot T)) (p : ℕ) (start : Start T) (told : List (Decision T))
       (flight : Flight T) (words : List ℕ) (kept : Registry T) : Type 0 where
+    -- the call is one of the container, and puts at most `most` questions more before it ends as the map says
     pub agrees : Agree start flight kept
     pub most : ℕ
-    pub talks : Talks code (maps.Ends code capacity first_words views p start) most told flight words
+    pub talks : Talks code (maps.EndsAsMap code capacity first_words views p start) most told flight words
+    -- the states of all parties are right, and show what they showed as the call began
     pub right : AllRight code coded capacity (states_in kept)
     pub same : (q : ℕ) → views_in (states_in kept) q ≡ views q
+    -- the call leaves the state of its party
     pub still : (s : Contents T) (view : Option (Snapshot T)) → view_after s start view ≡ view
 
-  -- a look
+  -- A look is under way: `Looking` says how its words and its party's state stand to the map.
   pub record Viewing (first_words : List ℕ) (holds : Holds code.value_of code.size capacity 0 first_words) (views : ℕ → Option (Snapshot T)) (p : ℕ)
       (start : Start T) (told : List (Decision T)) (flight : Flight T) (words : List ℕ) (kept : Registry T) : Type 0 where
+    -- the look, and what the machine keeps
     pub which : LookOf
     pub call : Look T
     pub dead : List ℕ
     pub states : List (ℕ × ContainerState T)
+    -- the call under way is this look, which was told nothing
     pub start_is : start ≡ starts.Container (start_of which)
     pub told_is : told ≡ []
     pub flight_is : flight ≡ flights.Container (under_way.Look which call)
     pub kept_is : kept ≡ registries.Container dead states
+    -- what holds of the look's words and states
     pub looking : Looking code coded capacity first_words holds views p which call words states
 
+  -- The call under way began where the map and the states showed `s`. It is a look, or it goes on
+  -- from its words alone.
   pub record Begun (s : Viewed T) (p : ℕ) (start : Start T) (told : List (Decision T)) (flight : Flight T) (words : List ℕ) (kept : Registry T)
       : Type 0 where
     pub first_words : List ℕ
@@ -117,6 +128,7 @@ module _ {T : Type 0} (code : Coding T) (coded : IsCoding code) (capacity : ℕ)
       }
 
   module _ (turns p : ℕ) (first_words : List ℕ) (holds : Holds code.value_of code.size capacity 0 first_words) (views : ℕ → Option (Snapshot T)) where
+    -- The map and the states as the call began.
     abbrev object : Viewed T
     object = record { contents = map_in code capacity first_words; views = views }
 
@@ -124,28 +136,32 @@ module _ {T : Type 0} (code : Coding T) (coded : IsCoding code) (capacity : ℕ)
 
     module _ (start : Start T) (told next_told : List (Decision T)) (flight : Flight T) (words next_words : List ℕ) (kept : Registry T)
         (beside : Option (ℕ × ℕ)) (old : ℕ) (k : Talking first_words views p start told flight words kept) where
+      -- What the machine keeps after the step.
       abbrev next_kept : Registry T
       next_kept = (step_of code words beside p start flight old kept).kept
 
+      -- The parties' states are right after the step.
       right_then : AllRight code coded capacity (states_in next_kept)
       right_then = subst (AllRight code coded capacity) (sym (states_same code words beside p start flight old kept k.agrees)) k.right
 
+      -- The parties' states show after the step what they showed before.
       same_then : (q : ℕ) → views_in (states_in next_kept) q ≡ views q
       same_then q = ap (λ states. views_in states q) (states_same code words beside p start flight old kept k.agrees) ∙ k.same q
 
-      -- what such a call comes to talks on, or ends as the map says
+      -- After its step a call that is no look goes on, or ends with the answer of the map.
       came : (n : ℕ) (a : After (Flight T) (Answer T)) → after_of code flight old ≡ a
-          → Turns code (maps.Ends code capacity first_words views p start)
-          (λ told f ws. Talks code (maps.Ends code capacity first_words views p start) n told f ws) next_told a next_words
-          → Came map_course holding object turns p start next_told a next_words next_kept
-      came n (GoOn d) is left =
+          → Turns code (maps.EndsAsMap code capacity first_words views p start)
+          (λ told f ws. Talks code (maps.EndsAsMap code capacity first_words views p start) n told f ws) next_told a next_words
+          → IsAfterStep map_course holding object turns p start next_told a next_words next_kept
+      -- the call goes on: it is still under way, with what it was told
+      came n (GoOn d) leads left =
           record {
             first_words = first_words;
             views = views;
             is = refl;
             holds = holds;
             under = inl (record {
-              agrees = agrees_then code words beside p start flight old kept d k.agrees is;
+              agrees = agrees_then code words beside p start flight old kept d k.agrees leads;
               most = n;
               talks = left;
               right = right_then;
@@ -153,7 +169,8 @@ module _ {T : Type 0} (code : Coding T) (coded : IsCoding code) (capacity : ℕ)
               still = k.still;
             });
           }
-      came n (Done answer) is left = (
+      -- the call ends: it answers what the map says, and leaves the words and states of the map after it
+      came n (Done answer) leads left = (
         left.said,
         (left.holds, right_then),
         λ i. record {
@@ -164,66 +181,70 @@ module _ {T : Type 0} (code : Coding T) (coded : IsCoding code) (capacity : ℕ)
       )
 
       -- a step of a call that goes on from its words alone goes as the map's rules say
-      steps : (n : ℕ) → Turns code (maps.Ends code capacity first_words views p start)
-          (λ told f ws. Talks code (maps.Ends code capacity first_words views p start) n told f ws) next_told (after_of code flight old) next_words
+      steps : (n : ℕ) → Turns code (maps.EndsAsMap code capacity first_words views p start)
+          (λ told f ws. Talks code (maps.EndsAsMap code capacity first_words views p start) n told f ws) next_told (after_of code flight old) next_words
           → Steps map_course holding object turns p start next_told next_words (step_of code words beside p start flight old kept)
       steps n left =
           record {
             none = λ is_call. writes_none is_call code words beside p start flight old kept k.agrees;
             came =
-                subst (λ a. Came map_course holding object turns p start next_told a next_words next_kept)
+                subst (λ a. IsAfterStep map_course holding object turns p start next_told a next_words next_kept)
                 (sym (goes_so code words beside p start flight old kept k.agrees))
                 (came n (after_of code flight old) refl left);
           }
 
-    -- a step that needs no decision does so
+    -- A step without a decision, of a call that goes on from its words alone, goes as the map's rules say.
     talk_on : (start : Start T) (told : List (Decision T)) (flight : Flight T) (words : List ℕ) (kept : Registry T) (beside : Option (ℕ × ℕ))
         → Talking first_words views p start told flight words kept → is_question (want_of code flight) ≡ false
         → Steps map_course holding object turns p start told (words_after words (ask_of (want_of code flight)))
         (step_of code words beside p start flight (old_of words (ask_of (want_of code flight))) kept)
-    talk_on start told flight words kept beside k calm = go k.most k.talks
+    talk_on start told flight words kept beside talking calm = go talking.most talking.talks
       where
-        -- it does, however many questions the call may still put
-        go : (n : ℕ) → Talks code (maps.Ends code capacity first_words views p start) n told flight words
+        -- The cases are how many questions the call may still put.
+        go : (n : ℕ) → Talks code (maps.EndsAsMap code capacity first_words views p start) n told flight words
             → Steps map_course holding object turns p start told (words_after words (ask_of (want_of code flight)))
             (step_of code words beside p start flight (old_of words (ask_of (want_of code flight))) kept)
-        go zero t = absurd t
-        go (suc n) t =
+        go zero talks = absurd talks
+        go (suc n) talks =
             steps start told told flight words (words_after words (ask_of (want_of code flight))) kept beside
-            (old_of words (ask_of (want_of code flight))) k (suc n)
-            (talk_goes code (maps.Ends code capacity first_words views p start)
-            (λ told f ws. Talks code (maps.Ends code capacity first_words views p start) n told f ws) told flight words t calm)
+            (old_of words (ask_of (want_of code flight))) talking (suc n)
+            (talk_goes code (maps.EndsAsMap code capacity first_words views p start)
+            (λ told f ws. Talks code (maps.EndsAsMap code capacity first_words views p start) n told f ws) told flight words talks calm)
 
-    -- a step that is told yes or no does so
+    -- A step with a decision, of a call that goes on from its words alone, goes as the map's rules say.
     talk_told : (start : Start T) (told : List (Decision T)) (flight : Flight T) (words : List ℕ) (kept : Registry T) (beside : Option (ℕ × ℕ))
         (said : Bool) → Talking first_words views p start told flight words kept → is_question (want_of code flight) ≡ true
         → Steps map_course holding object turns p start (told ++ decided code (Some flight) said) words
         (step_of code words beside p start flight (number_of said) kept)
-    talk_told start told flight words kept beside said k is = go k.most k.talks
+    talk_told start told flight words kept beside said talking asks = go talking.most talking.talks
       where
-        -- it does, however many questions the call may still put
-        go : (n : ℕ) → Talks code (maps.Ends code capacity first_words views p start) n told flight words
+        -- The cases are how many questions the call may still put.
+        go : (n : ℕ) → Talks code (maps.EndsAsMap code capacity first_words views p start) n told flight words
             → Steps map_course holding object turns p start (told ++ decided code (Some flight) said) words
             (step_of code words beside p start flight (number_of said) kept)
-        go zero t = absurd t
-        go (suc n) t =
-            steps start told (told ++ decided code (Some flight) said) flight words words kept beside (number_of said) k n
-            (talk_hears code (maps.Ends code capacity first_words views p start)
-            (λ told f ws. Talks code (maps.Ends code capacity first_words views p start) n told f ws) told flight words t is said)
+        go zero talks = absurd talks
+        go (suc n) talks =
+            steps start told (told ++ decided code (Some flight) said) flight words words kept beside (number_of said) talking n
+            (talk_hears code (maps.EndsAsMap code capacity first_words views p start)
+            (λ told f ws. Talks code (maps.EndsAsMap code capacity first_words views p start) n told f ws) told flight words talks asks said)
 
     -- ---- a step of a look
 
     module _ (which : LookOf) (call : Look T) (dead : List ℕ) (states : List (ℕ × ContainerState T)) (words : List ℕ) (beside : Option (ℕ × ℕ))
         (k : Looking code coded capacity first_words holds views p which call words states) where
+      -- The words after the look's step.
       abbrev last : List ℕ
       last = words_after words (ask_of (look_want code.size call))
 
+      -- The value that the look's step is handed.
       abbrev old : ℕ
       old = old_of words (ask_of (look_want code.size call))
 
+      -- The step of the look, with what it reads and leaves.
       abbrev step : looks.LookStep code coded capacity first_words holds views p
       step = record { which = which; call = call; words = words; last = last; states = states; k = k; old = old }
 
+      -- The parties' states after the look's step.
       abbrev new_states : After (Look T) Bool → List (ℕ × ContainerState T)
       new_states a =
           set_state p (settled_if a (shows code coded capacity first_words holds views p step)) states
@@ -231,10 +252,11 @@ module _ {T : Type 0} (code : Coding T) (coded : IsCoding code) (capacity : ℕ)
       -- what a look comes to is under way still, or ends as the map says
       look_comes : (a : After (Look T) Bool)
           → RunsOn (λ (c : Look T) given. look_want code.size c) (look_after code.size) (look_kept code.value_of code.size) k.old.seen
-          (looks.Ends code coded capacity first_words holds views p k.old) a (look_kept code.value_of code.size call k.state.shown old) last
-          → Came map_course holding object turns p (starts.Container (start_of which)) []
+          (looks.LookEnds code coded capacity first_words holds views p k.old) a (look_kept code.value_of code.size call k.state.shown old) last
+          → IsAfterStep map_course holding object turns p (starts.Container (start_of which)) []
           (as_call flights.Container (λ (answer : Answer T). answer) (look_came which (shows code coded capacity first_words holds views p step) a))
           last (registries.Container dead (new_states a))
+      -- the look goes on: it is still under way, with what its state shows after the step
       look_comes (GoOn d) left =
           record {
             first_words = first_words;
@@ -253,6 +275,7 @@ module _ {T : Type 0} (code : Coding T) (coded : IsCoding code) (capacity : ℕ)
               looking = goes_on code coded capacity first_words holds views p step d left;
             });
           }
+      -- the look ends: it answers what the map says, the words are as they were, and each state shows what the map says
       look_comes (Done changed) left =
           let same = words_are code coded capacity first_words holds views p step changed left in (
             said code coded capacity first_words holds views p step changed left,
@@ -266,11 +289,13 @@ module _ {T : Type 0} (code : Coding T) (coded : IsCoding code) (capacity : ℕ)
             },
           )
         where
+          -- A look changes no entry of the map.
           contents_stay : (w : LookOf) → map_in code capacity first_words
               ≡ (map_course.after object (as_request p (starts.Container (start_of w)) [])).contents
           contents_stay GetState = refl
           contents_stay UpdateState = refl
 
+      -- The look has changed nothing of what its party's state has seen.
       seen_same : k.state.seen ≡ k.old.seen
       seen_same = ap (λ (z : ContainerState T). z.seen) k.state_is
 
@@ -283,19 +308,19 @@ module _ {T : Type 0} (code : Coding T) (coded : IsCoding code) (capacity : ℕ)
             none = λ is_call. container_writes is_call code p (under_way.Look which call) old states;
             came =
                 subst (λ (o : Option (ContainerState T)).
-                Came map_course holding object turns p (starts.Container (start_of which)) []
+                IsAfterStep map_course holding object turns p (starts.Container (start_of which)) []
                 (as_call flights.Container (λ (answer : Answer T). answer) (look_goes code which call o old)) last
                 (registries.Container dead (writes_state code p call old o states)))
                 (sym k.found)
                 (subst (λ numbers.
-                Came map_course holding object turns p (starts.Container (start_of which)) []
+                IsAfterStep map_course holding object turns p (starts.Container (start_of which)) []
                 (as_call flights.Container (λ (answer : Answer T). answer) (look_came which (shows code coded capacity first_words holds views p step)
                 (look_after code.size call numbers old)))
                 last (registries.Container dead (new_states (look_after code.size call numbers old))))
                 (sym seen_same)
                 (look_comes (look_after code.size call k.old.seen old)
                 (run_goes (λ (c : Look T) given. look_want code.size c) (look_after code.size) (look_kept code.value_of code.size) k.old.seen
-                (looks.Ends code coded capacity first_words holds views p k.old) call k.state.shown words k.run
+                (looks.LookEnds code coded capacity first_words holds views p k.old) call k.state.shown words k.run
                 (never_asks code.size call.capacity call.stage))));
           }
 
@@ -304,22 +329,23 @@ module _ {T : Type 0} (code : Coding T) (coded : IsCoding code) (capacity : ℕ)
         → Viewing first_words holds views p start told flight words kept
         → Steps map_course holding object turns p start told (words_after words (ask_of (want_of code flight)))
         (step_of code words beside p start flight (old_of words (ask_of (want_of code flight))) kept)
-    view_on start told flight words kept beside k =
+    view_on start told flight words kept beside viewing =
         subst (λ (x : Start T × List (Decision T) × Flight T × Registry T).
         Steps map_course holding object turns p x.0 x.1 (words_after words (ask_of (want_of code x.2)))
         (step_of code words beside p x.0 x.2 (old_of words (ask_of (want_of code x.2))) x.3))
-        (λ i. (sym k.start_is i, sym k.told_is i, sym k.flight_is i, sym k.kept_is i))
-        (look_on k.which k.call k.dead k.states words beside k.looking)
+        (λ i. (sym viewing.start_is i, sym viewing.told_is i, sym viewing.flight_is i, sym viewing.kept_is i))
+        (look_on viewing.which viewing.call viewing.dead viewing.states words beside viewing.looking)
 
+    -- A look never waits for a decision.
     view_asks_none : (start : Start T) (told : List (Decision T)) (flight : Flight T) (words : List ℕ) (kept : Registry T)
         → Viewing first_words holds views p start told flight words kept → is_question (want_of code flight) ≡ false
-    view_asks_none start told flight words kept k =
-        subst (λ f. is_question (want_of code f) ≡ false) (sym k.flight_is) (never_asks code.size k.call.capacity k.call.stage)
+    view_asks_none start told flight words kept viewing =
+        subst (λ f. is_question (want_of code f) ≡ false) (sym viewing.flight_is) (never_asks code.size viewing.call.capacity viewing.call.stage)
 
   -- ---- a turn of a call
 
   none_asked : {A : Type 0} (b : Bool) → b ≡ true → b ≡ false → A
-  none_asked b t f = absurd (cc)
+  none_asked b same_true same_false = absurd (cc)
 
   -- a step that needs no decision goes as the map's rules say, of each call under way
   pub goes : (s : Viewed T) (turns p : ℕ) (start : Start T) (told : List (Decision T)) (flight : Flight T) (words : List ℕ)
@@ -348,7 +374,7 @@ module _ {T : Type 0} (code : Coding T) (coded : IsCoding code) (capacity : ℕ)
       subst (λ z. Steps map_course holding z turns p start (told ++ decided code (Some flight) said) words
       (step_of code words beside p start flight (number_of said) kept)) (sym begun.is) (go begun.under)
     where
-      -- it does so whether the call is a look or another
+      -- The cases are whether the call is a look.
       go : Talking begun.first_words begun.views p start told flight words kept
           ⊎ Viewing begun.first_words begun.holds begun.views p start told flight words kept
           → Steps map_course holding (seen begun.first_words begun.views) turns p start (told ++ decided code (Some flight) said) words
@@ -357,13 +383,13 @@ module _ {T : Type 0} (code : Coding T) (coded : IsCoding code) (capacity : ℕ)
       go (inr k) =
           none_asked (is_question (want_of code flight)) is (view_asks_none turns p begun.first_words begun.holds begun.views start told flight words kept k)
 
-  -- each call under way stays so as an owner dies
+  -- The call under way is still as `Begun` says after an owner has died.
   pub stays : (s : Viewed T) (p : ℕ) (start : Start T) (told : List (Decision T)) (flight : Flight T) (words : List ℕ) (kept : Registry T) (owner : ℕ)
       → Begun s p start told flight words kept → Begun s p start told flight words (kept_after_death kept owner)
   stays s p start told flight words kept owner begun =
       record { first_words = begun.first_words; views = begun.views; is = begun.is; holds = begun.holds; under = go begun.under }
     where
-      -- it does so whether it is a look or another
+      -- The cases are whether the call is a look.
       go : Talking begun.first_words begun.views p start told flight words kept
           ⊎ Viewing begun.first_words begun.holds begun.views p start told flight words kept
           → Talking begun.first_words begun.views p start told flight words (kept_after_death kept owner)

@@ -15,6 +15,7 @@ use Rattle.headline_whole.specs.Dialogues.{Decision, Story, told_after, finished
 use Rattle.headline_whole.specs.Dialogues as stories
 
 module _ {T : Type 0} where
+  -- The calls that a list of events finishes are, as events, its ends of calls.
   same_ends : (told : List (Decision T)) (es : List (Event T)) → map as_end (flat_map (finished_in told) es) ≡ filter is_end es
   same_ends told [] = refl
   same_ends told (Finished p start answer ∷ es) = ap (λ (xs : List (Event T)). Finished p start answer ∷ xs) (same_ends told es)
@@ -28,6 +29,7 @@ module _ {T : Type 0} where
       ∙ ((λ i. so i ++ same_ends (told_after t.world turn story.told) (events_of t.world turn) i)
       ∙ sym (filter-append is_end t.events (events_of t.world turn)))
 
+  -- The calls told so far are all that ended, after a turn that is taken or refused.
   an_attempt : (t : Trace T) (turn : Turn T) (story : Story T) (o : Option Refusal) → AreFinished story.calls t.events
       → AreFinished (stories.unless_refused story (story_after t.world turn story) o).calls
       (turns.unless_refused t (after_turn t turn) o).events
@@ -42,6 +44,7 @@ module _ {T : Type 0} where
       a_run turns (attempt t turn) (stories.unless_refused story (story_after t.world turn story) (refusal_of t.world turn))
       (an_attempt t turn story (refusal_of t.world turn) so)
 
+  -- The calls that `calls_of` lists for a run are all that ended in its events.
   pub all_finished : (t : Trace T) (r : IsReached t) → AreFinished (calls_of t r) t.events
   all_finished t r =
       subst (λ (u : Trace T). AreFinished (calls_of t r) u.events) (sym r.is)

@@ -26,21 +26,25 @@ use Rattle.headline_whole.specs.Dialogues.{Decision, decided}
 
 -- ---- one operation, as a machine does it
 
+-- An exchange writes to its word: the new value if it succeeds, else the old one again.
 exchanged : (words : List ℕ) (at to : ℕ) (b : Bool)
     → (if b then slice_set words at to else words) ≡ slice_set words at (if b then to else slice_index words at)
 exchanged words at to true = refl
 exchanged words at to false = sym (set-get_or words at 0)
 
+-- An operation writes the value to its word that `written` gives, whether it changes it or not.
 same_word : (words : List ℕ) (at : ℕ) (op : Op) → written_by words at op ≡ slice_set words at (written op (slice_index words at))
 same_word words at Load = sym (set-get_or words at 0)
 same_word words at (Exchange from to) = exchanged words at to (slice_index words at == from)
 same_word words at op = refl
 
+-- What a call wants changes the words alike in `plain`, where it runs alone, and in a machine.
 pub same_words : (words : List ℕ) (w : Want (Unit {0})) → words_then words w ≡ words_after words (ask_of w)
 same_words words (wants.Ask ask) = same_word words ask.word ask.op
 same_words words (wants.Question question) = refl
 same_words words wants.Nothing = refl
 
+-- A call is handed the same value in `plain`, where it runs alone, and in a machine.
 pub same_old : (words : List ℕ) (w : Want (Unit {0})) → answer_in words w ≡ old_of words (ask_of w)
 same_old words (wants.Ask ask) = refl
 same_old words (wants.Question question) = refl
@@ -67,15 +71,16 @@ module _ {C G M E : Type 0} (want : C → G → Want (Unit {0})) (after : C → 
   same_stop : (n k : ℕ) (s z : Stop C E) (r q : M) (last end : List ℕ) (call : C) (room : M) (words : List ℕ)
       → StopsIn want after kept given n s r last call room words → StopsIn want after kept given k z q end call room words
       → (s ≡ z) × (r ≡ q) × (last ≡ end)
-  same_stop zero k s z r q last end call room words t u = absurd t
-  same_stop (suc n) zero s z r q last end call room words t u = absurd u
-  same_stop (suc n) (suc k) s z r q last end call room words t u =
+  same_stop zero k s z r q last end call room words first_stops second_stops = absurd first_stops
+  same_stop (suc n) zero s z r q last end call room words first_stops second_stops = absurd second_stops
+  same_stop (suc n) (suc k) s z r q last end call room words first_stops second_stops =
       same_from n k s z r q last end (stepped (want call given) call (after call given (answer_in words (want call given))))
       (room_then (want call given) room (kept call room (answer_in words (want call given)))) (words_then words (want call given))
       (λ d v w. same_stop n k s z r q last end d (room_then (want call given) room (kept call room (answer_in words (want call given))))
       (words_then words (want call given)) v w)
-      t u
+      first_stops second_stops
 
+  -- A call that can stop, alone, stops in one way only.
   pub alike : (call : C) (room : M) (words : List ℕ) (h : CanStop want after kept given call room words)
       → StopsAlike want after kept given call room words h.stop h.last_room h.last_words
   alike call room words h n s r last t = same_stop h.steps n h.stop s h.last_room r h.last_words last call room words h.stops t
@@ -84,6 +89,7 @@ module _ {C G M E : Type 0} (want : C → G → Want (Unit {0})) (after : C → 
 
 module _ {C G M E : Type 0} (want : C → G → Want (Unit {0})) (after : C → G → ℕ → After C E) (kept : C → M → ℕ → M) (given : G)
     (P : E → M → List ℕ → Type 0) where
+  -- A call of `steps` that goes on runs to an end of which P holds, or it has ended and P holds.
   abbrev pub RunsOn : After C E → M → List ℕ → Type 0
   RunsOn (GoOn d) room words = Runs want after kept given P d room words
   RunsOn (Done e) room words = P e room words
@@ -107,7 +113,7 @@ module _ {C G M E : Type 0} (want : C → G → Want (Unit {0})) (after : C → 
   run_moved n end r last call wants.Nothing (Done x) room next words few holds calm stops_from =
       let is = ended_is end x stops_from.0 in subst (λ (z : E × M × List ℕ). P z.0 z.1 z.2) (λ i. (is i, stops_from.1 i, stops_from.2 i)) holds
 
-  -- a call that runs to an end does so behind each step that puts no question
+  -- A call that runs to an end without a question still does so after each step.
   pub run_goes : (call : C) (room : M) (words : List ℕ) → Runs want after kept given P call room words → is_question (want call given) ≡ false
       → RunsOn (after call given (old_of words (ask_of (want call given)))) (kept call room (old_of words (ask_of (want call given))))
       (words_after words (ask_of (want call given)))
@@ -117,15 +123,16 @@ module _ {C G M E : Type 0} (want : C → G → Want (Unit {0})) (after : C → 
       go : (n : ℕ) → n ≤ 2 ^ 64 - 1 → StopsIn want after kept given n (Ended runs.end) runs.last_room runs.last_words call room words
           → RunsOn (after call given (old_of words (ask_of (want call given)))) (kept call room (old_of words (ask_of (want call given))))
           (words_after words (ask_of (want call given)))
-      go zero few t = absurd t
-      go (suc n) few t =
+      go zero few stops_here = absurd stops_here
+      go (suc n) few stops_here =
           subst (λ old. RunsOn (after call given old) (kept call room old) (words_after words (ask_of (want call given))))
           (same_old words (want call given))
           (subst (RunsOn (after call given (answer_in words (want call given))) (kept call room (answer_in words (want call given))))
           (same_words words (want call given))
           (run_moved n runs.end runs.last_room runs.last_words call (want call given) (after call given (answer_in words (want call given))) room
-          (kept call room (answer_in words (want call given))) words (omega arith) runs.holds calm t))
+          (kept call room (answer_in words (want call given))) words (omega arith) runs.holds calm stops_here))
 
+-- If `Some a` is `Some b`, then the calls a and b are one.
 pub same_flight : {T : Type 0} (a b : Flight T) → ◌≡◌ {A = Option (Flight T)} (Some a) (Some b) → a ≡ b
 same_flight a b e = cc
 
@@ -150,6 +157,8 @@ module _ {T : Type 0} (code : Coding T) where
     AtStop rest told (Asked question flight) words =
         (said : Bool) → Turns rest (told ++ decided code (Some flight) said) (after_of code flight (number_of said)) words
 
+    -- The call at `flight`, alone over `words`, comes to a stop (its end or a question) at which
+    -- `AtStop` holds.
     abbrev pub Halting : (List (Decision T) → Flight T → List ℕ → Type 0) → List (Decision T) → Flight T → List ℕ → Type 0
     Halting rest told flight words =
         Halts (λ (f : Flight T) (given : Unit {0}). want_of code f) (λ f given old. after_of code f old) (λ f (room : Unit {0}) old. room) tt
@@ -161,6 +170,8 @@ module _ {T : Type 0} (code : Coding T) where
     Talks zero told flight words = ⊥
     Talks (suc n) told flight words = Halting (Talks n) told flight words
 
+    -- After a step that leads to `next`, the call comes to this stop over the words `last` within
+    -- n steps more.
     abbrev HaltsFrom : ℕ → Stop (Flight T) (Answer T) → Unit {0} → List ℕ → After (Flight T) (Stop (Flight T) (Answer T)) → Unit {0} → List ℕ → Type 0
     HaltsFrom n stop room last next now words =
         StopsFrom (λ (f : Flight T) (given : Unit {0}). want_of code f) (λ f given old. after_of code f old) (λ f (room : Unit {0}) old. room) tt
@@ -168,7 +179,8 @@ module _ {T : Type 0} (code : Coding T) where
         n stop room last) next now words stop room last
 
     module _ (rest : List (Decision T) → Flight T → List ℕ → Type 0) (told : List (Decision T)) where
-      -- behind a step that puts no question, a call halts where it did, or has ended so
+      -- After a step that puts no question a call comes to the stop that it came to before the
+      -- step, or has ended there.
       moved : (n : ℕ) (stop : Stop (Flight T) (Answer T)) (room : Unit {0}) (last : List ℕ) (flight : Flight T) (w : Want (Unit {0}))
           (a : After (Flight T) (Answer T)) (words : List ℕ) → n ≤ 2 ^ 64 - 1 → AtStop rest told stop last → is_question w ≡ false
           → HaltsFrom n stop room last (stepped w flight a) (room_then w tt tt) (words_then words w)
@@ -188,10 +200,10 @@ module _ {T : Type 0} (code : Coding T) where
           (a : After (Flight T) (Answer T)) (words : List ℕ) → AtStop rest told stop last → is_question w ≡ true
           → HaltsFrom n stop room last (stepped w flight a) (room_then w tt tt) (words_then words w)
           → (said : Bool) → Turns rest (told ++ decided code (Some flight) said) (after_of code flight (number_of said)) words
-      heard n stop room last flight (wants.Ask ask) a words holds is halts_from = absurd (cc)
-      heard n stop room last flight (wants.Question question) a words holds is halts_from =
+      heard n stop room last flight (wants.Ask ask) a words holds asks halts_from = absurd (cc)
+      heard n stop room last flight (wants.Question question) a words holds asks halts_from =
           subst (λ s. AtStop rest told s words) halts_from.0 (subst (AtStop rest told stop) halts_from.2 holds)
-      heard n stop room last flight wants.Nothing a words holds is halts_from = absurd (cc)
+      heard n stop room last flight wants.Nothing a words holds asks halts_from = absurd (cc)
 
       -- after a step that needs no decision, the call still halts, or has ended with an answer of which P holds
       pub talk_goes : (flight : Flight T) (words : List ℕ) → Halting rest told flight words → is_question (want_of code flight) ≡ false
@@ -204,31 +216,31 @@ module _ {T : Type 0} (code : Coding T) where
               n halting.stop halting.last_room halting.last_words flight tt words
               → Turns (Halting rest) told (after_of code flight (old_of words (ask_of (want_of code flight))))
               (words_after words (ask_of (want_of code flight)))
-          go zero few t = absurd t
-          go (suc n) few t =
+          go zero few stops_here = absurd stops_here
+          go (suc n) few stops_here =
               subst (λ old. Turns (Halting rest) told (after_of code flight old) (words_after words (ask_of (want_of code flight))))
               (same_old words (want_of code flight))
               (subst (λ ws. Turns (Halting rest) told (after_of code flight (answer_in words (want_of code flight))) ws)
               (same_words words (want_of code flight))
               (moved n halting.stop halting.last_room halting.last_words flight (want_of code flight)
               (after_of code flight (answer_in words (want_of code flight))) words
-              (omega arith) halting.holds calm t))
+              (omega arith) halting.holds calm stops_here))
 
       -- whatever is decided, `rest` holds of the call that goes on, or it has ended with an answer of which P holds
       pub talk_hears : (flight : Flight T) (words : List ℕ) → Halting rest told flight words → is_question (want_of code flight) ≡ true → (said : Bool)
           → Turns rest (told ++ decided code (Some flight) said) (after_of code flight (number_of said)) words
-      talk_hears flight words halting is = go halting.steps halting.stops
+      talk_hears flight words halting asks = go halting.steps halting.stops
         where
           -- it does, in however many steps the stop is reached
           go : (n : ℕ)
               → StopsIn (λ (f : Flight T) (given : Unit {0}). want_of code f) (λ f given old. after_of code f old) (λ f (room : Unit {0}) old. room) tt
               n halting.stop halting.last_room halting.last_words flight tt words
               → (said : Bool) → Turns rest (told ++ decided code (Some flight) said) (after_of code flight (number_of said)) words
-          go zero t = absurd t
-          go (suc n) t =
+          go zero stops_here = absurd stops_here
+          go (suc n) stops_here =
               heard n halting.stop halting.last_room halting.last_words flight (want_of code flight)
               (after_of code flight (answer_in words (want_of code flight))) words
-              halting.holds is t
+              halting.holds asks stops_here
 
     -- a call that puts no question asks fewer than one question
     pub talks_once : (Q : Answer T → List ℕ → Type 0) (told : List (Decision T)) (flight : Flight T) (words : List ℕ)
@@ -248,6 +260,7 @@ module _ {T : Type 0} (code : Coding T) where
 
   module _ {C G M E : Type 0} (want : C → G → Want (Unit {0})) (after : C → G → ℕ → After C E) (kept : C → M → ℕ → M) (given : G)
       (Low : C → Type 0) (flight : C → M → Flight T) (answer : E → M → Answer T) where
+    -- The machine's call after a step that led the call of `steps` to `a`.
     abbrev pub came : M → After C E → After (Flight T) (Answer T)
     came room a = as_call (λ c. flight c room) (λ e. answer e room) a
 
@@ -257,16 +270,18 @@ module _ {T : Type 0} (code : Coding T) where
       pub goes : (c : C) (room : M) (old : ℕ) → Low c → after_of code (flight c room) old ≡ came (kept c room old) (after c given old)
       pub stays : (c : C) (old : ℕ) → Low c → LowThen Low (after c given old)
 
-    -- where the call of `steps` stops, the other stops there too
+    -- The stop of the machine's call where the call of `steps` stops: the same end, or the same question.
     abbrev pub lift_stop : Stop C E → M → Stop (Flight T) (Answer T)
     lift_stop (Ended e) room = Ended (answer e room)
     lift_stop (Asked question call) room = Asked question (flight call room)
 
+    -- The machine's call, alone over `words`, comes to this stop over the words `last` within n steps.
     abbrev StopsAlone : ℕ → Stop (Flight T) (Answer T) → List ℕ → Flight T → Unit {0} → List ℕ → Type 0
     StopsAlone n stop last under now words =
         StopsIn (λ (f : Flight T) (given : Unit {0}). want_of code f) (λ f given old. after_of code f old) (λ f (room : Unit {0}) old. room) tt
         n stop tt last under now words
 
+    -- The machine's call comes to this stop over the words `last` after a step that leads to `next`.
     abbrev StopsOn : ℕ → Stop (Flight T) (Answer T) → List ℕ → After (Flight T) (Stop (Flight T) (Answer T)) → Unit {0} → List ℕ → Type 0
     StopsOn n stop last next now words =
         StopsFrom (λ (f : Flight T) (given : Unit {0}). want_of code f) (λ f given old. after_of code f old) (λ f (room : Unit {0}) old. room) tt
@@ -290,30 +305,30 @@ module _ {T : Type 0} (code : Coding T) where
     lifts : IsFlight → (n : ℕ) (s : Stop C E) (r : M) (last : List ℕ) (c : C) (room : M) (words : List ℕ) → Low c
         → StopsIn want after kept given n s r last c room words
         → StopsAlone n (lift_stop s r) last (flight c room) tt words
-    lifts is zero s r last c room words low t = absurd t
-    lifts is (suc n) s r last c room words low t =
+    lifts is_flight zero s r last c room words low stops_here = absurd stops_here
+    lifts is_flight (suc n) s r last c room words low stops_here =
         subst (λ w. StopsOn n (lift_stop s r) last (stepped w (flight c room) (after_of code (flight c room) (answer_in words w))) (room_then w tt tt)
         (words_then words w))
-        (sym (is.wants c room low))
+        (sym (is_flight.wants c room low))
         (subst (λ a. StopsOn n (lift_stop s r) last (stepped (want c given) (flight c room) a) (room_then (want c given) tt tt)
         (words_then words (want c given)))
-        (sym (is.goes c room (answer_in words (want c given)) low))
+        (sym (is_flight.goes c room (answer_in words (want c given)) low))
         (lifted n s r last (want c given) c (after c given (answer_in words (want c given))) room
-        (kept c room (answer_in words (want c given))) words (is.stays c (answer_in words (want c given)) low)
-        (λ d m ws less u. lifts is n s r last d m ws less u) t))
+        (kept c room (answer_in words (want c given))) words (is_flight.stays c (answer_in words (want c given)) low)
+        (λ d m ws less u. lifts is_flight n s r last d m ws less u) stops_here))
 
     -- where the call of `steps` runs alone to an end, the machine's call does too
     pub runs_as : IsFlight → (Q : E → M → List ℕ → Type 0) (P : Answer T → List ℕ → Type 0)
         → ((e : E) (room : M) (last : List ℕ) → Q e room last → P (answer e room) last)
         → (c : C) (room : M) (words : List ℕ) → Low c → Runs want after kept given Q c room words → FlightRuns P (flight c room) words
-    runs_as is Q P so c room words low runs =
+    runs_as is_flight Q P so c room words low runs =
         record {
           steps = runs.steps;
           few = runs.few;
           end = answer runs.end runs.last_room;
           last_room = tt;
           last_words = runs.last_words;
-          ends = lifts is runs.steps (Ended runs.end) runs.last_room runs.last_words c room words low runs.ends;
+          ends = lifts is_flight runs.steps (Ended runs.end) runs.last_room runs.last_words c room words low runs.ends;
           holds = so runs.end runs.last_room runs.last_words runs.holds;
         }
 
@@ -323,19 +338,21 @@ module _ {T : Type 0} (code : Coding T) where
         (c : C) (room : M) (words : List ℕ) → Low c → (h : CanStop want after kept given c room words)
         → AtStop P (Talks P n) told (lift_stop h.stop h.last_room) h.last_words
         → Talks P (suc n) told (flight c room) words
-    talks_as is P n told c room words low h at =
+    talks_as is_flight P n told c room words low h at_stop =
         record {
           steps = h.steps;
           few = h.few;
           stop = lift_stop h.stop h.last_room;
           last_room = tt;
           last_words = h.last_words;
-          stops = lifts is h.steps h.stop h.last_room h.last_words c room words low h.stops;
-          holds = at;
+          stops = lifts is_flight h.steps h.stop h.last_room h.last_words c room words low h.stops;
+          holds = at_stop;
         }
 
 -- what has become of a call of a family, as what has become of the machine's call
 module _ {C G M E A T R : Type 0} (outer : R → Flight T) (wrap : Running C G M → R) (say : A → Answer T) (make : E → G → M → A) (given : G) where
+  -- A step of a call that is wrapped twice, as one of its family and as one of a machine, is that
+  -- of the call inside.
   pub twice : (room : M) (a : After C E)
       → as_call outer (λ (answer : Answer T). answer) (as_call wrap say (went_on make given room a))
       ≡ as_call (λ (c : C). outer (wrap (record { call = c; given = given; room = room }))) (λ (e : E). say (make e given room)) a

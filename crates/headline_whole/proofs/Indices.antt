@@ -57,39 +57,48 @@ use Rattle.headline_whole.proofs.Owners.{not_past}
 
 -- ---- the opening
 
+-- A list of zeros has a 0 at each place, and so past its end.
 pub zeros_at : (n i : ℕ) → get_or (replicate {A = ℕ} n 0) i 0 ≡ 0
 zeros_at zero i = refl
 zeros_at (suc n) zero = refl
 zeros_at (suc n) (suc i) = zeros_at n i
 
+-- The list that counts up from a has a + i at place i.
 counted_at : (a n i : ℕ) (ys : List ℕ) → i < n → get_or (range_with_len a n ++ ys) i 0 ≡ a + i
 counted_at a zero i ys below = absurd (omega arith)
 counted_at a (suc n) zero ys below = omega arith
 counted_at a (suc n) (suc i) ys below = counted_at (a + 1) n i ys (omega arith) ∙ omega arith
 
+-- Behind the numbers that count up the words are 0.
 behind_at : (a n j k : ℕ) → n ≤ j → get_or (range_with_len a n ++ replicate {A = ℕ} k 0) j 0 ≡ 0
 behind_at a zero j k past = zeros_at k j
 behind_at a (suc n) zero k past = absurd (omega arith)
 behind_at a (suc n) (suc j) k past = behind_at (a + 1) n j k (omega arith)
 
+-- A unique index set of capacity c has 1 + c + (c + 63) / 64 words.
 opening_long : (c : ℕ) → length (opening_words c) ≡ 1 + c + (c + 63) / 64
 opening_long = grind (arith, length-append, length-range_with_len, length-replicate)
 
+-- At the opening the word of index i names index i + 1.
 after_index : (c i : ℕ) → i < c → slice_index (opening_words c) (1 + i) ≡ i + 1
 after_index c i below =
     let place : 1 + i ≡ suc i = omega arith in
     ap (slice_index (opening_words c)) place ∙ (counted_at 1 c i (replicate (flag_words c) 0) below ∙ omega arith)
 
+-- Behind the words of the indices all words are 0 at the opening.
 past_indices : (c j : ℕ) → c < j → slice_index (opening_words c) j ≡ 0
 past_indices c zero below = absurd (omega arith)
 past_indices c (suc j) below = behind_at 1 c j (flag_words c) (omega arith)
 
+-- A unique index set opens with a capacity from 1 to 2 ^ 24 - 2.
 pub admitted : (c : ℕ) → capacity_error kinds.Indices c ≡ None → (1 ≤ c) × (c ≤ 2 ^ 24 - 2)
 admitted = grind arith
 
+-- At the opening the head is index 0, each index is followed by the next one, and no flag stands.
 linked : (c : ℕ) → Linked c c (opening_words c)
 linked c = record { long = opening_long c; head = refl; next = after_index c; flags = past_indices c }
 
+-- An index that the party holds has a holder.
 some_held : (o : Option ℕ) (p : ℕ) → holds o p ≡ true → is_some o ≡ true
 some_held None p it_holds = absurd (cc)
 some_held (Some q) p it_holds = refl
@@ -121,10 +130,10 @@ module _ {T : Type 0} where
   -- the rows of a release say that the index is below the capacity, and has a holder
   may_release : (capacity : ℕ) (kept : Registry T) (p index : ℕ) (mode : ReleaseMode)
       → first_row (kept_rows capacity (calls.Release index mode) kept p) ≡ None → MayRelease capacity kept p index
-  may_release capacity (registries.Indices holders) p index mode e =
+  may_release capacity (registries.Indices holders) p index mode rows_passed =
       let held : Bool = not (holds (slice_index_or holders index None) p) in
       let low : (nat_le capacity index ≡ false) × (first_row ((held, NotHeld) ∷ []) ≡ None) =
-      row_passed (nat_le capacity index) BadIndex (first_row ((held, NotHeld) ∷ [])) e in
+      row_passed (nat_le capacity index) BadIndex (first_row ((held, NotHeld) ∷ [])) rows_passed in
       let own : (not (holds (slice_index_or holders index None) p) ≡ false) × (first_row [] ≡ None) =
       row_passed (not (holds (slice_index_or holders index None) p)) NotHeld None low.1 in
       record {
@@ -133,18 +142,18 @@ module _ {T : Type 0} where
         below = not_past capacity index low.0;
         mine = some_held (slice_index_or holders index None) p (is_true (holds (slice_index_or holders index None) p) own.0);
       }
-  may_release capacity kept p index mode e = absurd (cc)
+  may_release capacity kept p index mode rows_passed = absurd (cc)
 
   -- an index whose release is not refused is out
   is_out : (t : Trace T) (p index : ℕ) (mode : ReleaseMode) → IsReached t → t.world.kind ≡ kinds.Indices
       → refusal_of t.world (Begin p (starts.Indices (calls.Release index mode))) ≡ None → Represents t.world.capacity t.world.words
       → IsOut (stack_in t.world.capacity t.world.words) index
-  is_out t p index mode reached is free fits =
+  is_out t p index mode reached of_kind free fits =
       let rows =
       (may_begin t.world p (starts.Indices (calls.Release index mode))
       (passes t.world (Begin p (starts.Indices (calls.Release index mode))) free).on).rows in
       let may = may_release t.world.capacity t.world.kept p index mode rows in
-      let set : IsIndexSet t = subst (λ k. (promise_of {T = T} k).holds t) is (reached_kept laws_of t reached).promised in
+      let set : IsIndexSet t = subst (λ k. (promise_of {T = T} k).holds t) of_kind (reached_kept laws_of t reached).promised in
       let kept : KeepsHolders (registries.Indices may.holders) t.events = subst (λ k. KeepsHolders k t.events) may.is set.holders in
       let held : claimed t.world.capacity t.world.words index ≡ true =
       set.flags index may.below ∙ (ap is_some (sym (kept index)) ∙ may.mine) in
@@ -153,11 +162,12 @@ module _ {T : Type 0} where
   -- ---- each call
 
   module _ (code : Coding T) (capacity turns : ℕ) (words : List ℕ) (fits : Represents capacity words) where
-    abbrev Whole : IndexStart → Type 0
-    Whole start = FlightRuns code (Answers (reading capacity) turns words (starts.Indices start)) (flights.Indices (first capacity start)) words
+    -- The call of the unique index set, run alone from these words, answers and leaves what the stack does.
+    abbrev RunsAsStack : IndexStart → Type 0
+    RunsAsStack start = FlightRuns code (Answers (reading capacity) turns words (starts.Indices start)) (flights.Indices (first capacity start)) words
 
     -- an acquire, run alone, answers and leaves what the stack does
-    acquires : Whole calls.Acquire
+    acquires : RunsAsStack calls.Acquire
     acquires =
         runs_as code (λ (c : Acquire) (given : Unit {0}). acquire_want c) (λ c given old. acquire_after c old) (λ c (room : Unit {0}) old. room) tt
         (λ c. Unit {0}) (λ c room. flights.Indices (under_way.Acquire (record { call = c; given = tt; room = room }))) (λ e room. acquire_answer e)
@@ -171,7 +181,7 @@ module _ {T : Type 0} where
         (first_acquire capacity) tt words tt (take_runs capacity (first_acquire capacity) refl words fits)
 
     -- a release that never locks, run alone, answers and leaves what the stack does
-    releases : (index : ℕ) → IsOut (stack_in capacity words) index → Whole (calls.Release index Default)
+    releases : (index : ℕ) → IsOut (stack_in capacity words) index → RunsAsStack (calls.Release index Default)
     releases index out =
         runs_as code (release_want {M = DefaultMode} false) (λ c given old. release_after false c old) (λ c (room : Unit {0}) old. room) index
         (λ c. Unit {0}) (λ c room. flights.Indices (under_way.ReleaseDefault (record { call = c; given = index; room = room })))
@@ -186,7 +196,7 @@ module _ {T : Type 0} where
         (first_release capacity) tt words tt (give_runs DefaultMode capacity index words fits out (first_release capacity) refl)
 
     -- a release that may lock, run alone, answers and leaves what the stack does
-    locks : (index : ℕ) → IsOut (stack_in capacity words) index → Whole (calls.Release index LockIfLastIndex)
+    locks : (index : ℕ) → IsOut (stack_in capacity words) index → RunsAsStack (calls.Release index LockIfLastIndex)
     locks index out =
         runs_as code (release_want {M = LockMode} true) (λ c given old. release_after true c old) (λ c (room : Unit {0}) old. room) index
         (λ c. Unit {0}) (λ c room. flights.Indices (under_way.ReleaseLock (record { call = c; given = index; room = room })))
@@ -201,7 +211,7 @@ module _ {T : Type 0} where
         (first_release capacity) tt words tt (lock_runs LockMode capacity index words fits out (first_release capacity) refl)
 
     -- a count of the indices that are out, run alone, answers and leaves what the stack does
-    counts : Whole calls.BorrowedIndices
+    counts : RunsAsStack calls.BorrowedIndices
     counts =
         runs_as code (λ (c : BorrowedIndices) (given : Unit {0}). load 0) (λ c given old. borrowed_after c old) (λ c (room : Unit {0}) old. room) tt
         (λ c. Unit {0}) (λ c room. flights.Indices (under_way.BorrowedIndices (record { call = c; given = tt; room = room }))) (λ e room. answers.Number e)
@@ -215,7 +225,7 @@ module _ {T : Type 0} where
         (record {}) tt words tt (count_runs capacity words (record {}) fits)
 
     -- a look whether the set is locked, run alone, answers and leaves what the stack does
-    looks : Whole calls.IsLocked
+    looks : RunsAsStack calls.IsLocked
     looks =
         runs_as code (λ (c : IsLocked) (given : Unit {0}). load 0) (λ c given old. locked_after c old) (λ c (room : Unit {0}) old. room) tt
         (λ c. Unit {0}) (λ c room. flights.Indices (under_way.IsLocked (record { call = c; given = tt; room = room }))) (λ e room. answers.Truth e)
@@ -230,11 +240,13 @@ module _ {T : Type 0} where
 
   -- ---- the law
 
+  -- A call of the unique index set that is let begin is named as one of its family, and the
+  -- machine keeps who holds what.
   has_registry : (capacity p : ℕ) (start : IndexStart) (flight : Flight T) (kept : Registry T) → flights.Indices (first capacity start) ≡ flight
       → first_row (kept_rows capacity start kept p) ≡ None → Agree (starts.Indices start) flight kept
-  has_registry capacity p start flight (registries.Indices holders) is e =
-      subst (λ f. Agree (starts.Indices start) f (registries.Indices holders)) is tt
-  has_registry capacity p start flight kept is e = absurd (cc)
+  has_registry capacity p start flight (registries.Indices holders) flight_is rows_passed =
+      subst (λ f. Agree (starts.Indices start) f (registries.Indices holders)) flight_is tt
+  has_registry capacity p start flight kept flight_is rows_passed = absurd (cc)
 
   module _ (code : Coding T) (capacity : ℕ) where
     -- each call that the set lets begin, run alone, answers and leaves what the stack does
@@ -251,6 +263,7 @@ module _ {T : Type 0} where
               (runs start free);
         }
       where
+        -- An index whose release is let begin is not on the stack of free indices.
         out : (index : ℕ) (mode : ReleaseMode) → refusal_of t.world (Begin p (starts.Indices (calls.Release index mode))) ≡ None
             → IsOut (stack_in capacity t.world.words) index
         out index mode allowed =
@@ -258,7 +271,7 @@ module _ {T : Type 0} where
             (is_out t p index mode reached made.kind allowed (subst (λ n. Represents n t.world.words) (sym made.capacity) fits))
 
         -- it does, whichever call begins
-        runs : (s : IndexStart) → refusal_of t.world (Begin p (starts.Indices s)) ≡ None → Whole code capacity t.world.turns t.world.words fits s
+        runs : (s : IndexStart) → refusal_of t.world (Begin p (starts.Indices s)) ≡ None → RunsAsStack code capacity t.world.turns t.world.words fits s
         runs calls.Acquire allowed = acquires code capacity t.world.turns t.world.words fits
         runs (calls.Release index Default) allowed = releases code capacity t.world.turns t.world.words fits index (out index Default allowed)
         runs (calls.Release index LockIfLastIndex) allowed =

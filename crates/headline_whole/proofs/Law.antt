@@ -30,10 +30,13 @@ module _ {T : Type 0} where
       pub holds : R.Holds (turns + 1) last
       pub object : R.read last ≡ (if R.spec.is_call start then R.spec.object.after (R.read words) start else R.read words)
 
+    -- A begin leads to a call of the kind's family that, run alone from the words, answers and
+    -- leaves what the object does.
     pub record BeginsSo (code : Coding T) (t : Trace T) (p : ℕ) (start : Start T) (flight : Flight T) : Type 0 where
       pub agrees : Agree start flight (kept_after_begin t.world.coding t.world.capacity start p t.world.kept)
       pub runs : FlightRuns code (Answers t.world.turns t.world.words start) flight t.world.words
 
+    -- What is to be shown for a kind whose calls go on from the words alone.
     pub record Law (code : Coding T) (kind : Kind) (capacity : ℕ) : Type 0 where
       pub later : (m n : ℕ) (words : List ℕ) → m ≤ n → R.Holds m words → R.Holds n words
       pub opens : (queue : ℕ) → R.Holds 0 (words_opened kind code.size capacity queue)

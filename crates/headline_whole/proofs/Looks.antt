@@ -45,6 +45,7 @@ never_asks size capacity (stages.LoadsWord index count at) = refl
 never_asks size capacity (stages.ChecksCount index count) = refl
 
 module _ {T : Type 0} where
+  -- The call that a look is.
   abbrev pub start_of : LookOf → ContainerStart T
   start_of GetState = calls.GetState
   start_of UpdateState = calls.UpdateState
@@ -54,9 +55,11 @@ module _ {T : Type 0} where
   seen_by GetState s view = blank (contents.capacity s)
   seen_by UpdateState s view = view_of s view
 
+  -- What the parties' states show, for each party.
   abbrev pub views_in : List (ℕ × ContainerState T) → ℕ → Option (Snapshot T)
   views_in states q = option_map snapshot_of (state_of q states)
 
+  -- After a look its party has a state, which the look has brought up to date with the map.
   pub after_look : (which : LookOf) (s : Contents T) (view : Option (Snapshot T))
       → view_after s (starts.Container (start_of which)) view ≡ Some (updated s (seen_by which s view))
   after_look GetState s view = refl
@@ -64,6 +67,7 @@ module _ {T : Type 0} where
 
   -- ---- how many values are shown
 
+  -- An element counts as one value shown exactly if it shows one.
   one_shown : (b : Bool) (value : T) → ◌≡◌ {A = ℕ} (cond (not b) 1 0) (cond (is_some (if b then None else Some value)) 1 0)
   one_shown true value = refl
   one_shown false value = refl
@@ -77,6 +81,7 @@ module _ {T : Type 0} where
       ap (λ (n : ℕ). fold (λ a (e : Element T). a + cond (not (is_even e.count)) 1 0) (a + n) elements) (one_shown (is_even e.count) e.value)
       ∙ shown_on (a + cond (is_some (value_shown e)) 1 0) elements
 
+  -- The number of values that a state shows is the count of its elements that show one.
   shown_so : (elements : List (Element T)) → shown_number elements ≡ count_by is_some (map value_shown elements)
   shown_so elements = shown_on 0 elements
 
@@ -84,38 +89,48 @@ some_is : {X : Type 0} (a b : X) → ◌≡◌ {A = Option X} (Some a) (Some b) 
 some_is a b e = cc
 
 module _ {T : Type 0} (code : Coding T) (coded : IsCoding code) (capacity : ℕ) where
+  -- A party's state is settled (it has seen what it shows), and has the container's capacity.
   abbrev pub IsRight : ContainerState T → Type 0
   IsRight state = IsSettled state × (state.capacity ≡ capacity)
 
+  -- Each party's state is settled, and has the container's capacity.
   abbrev pub AllRight : List (ℕ × ContainerState T) → Type 0
   AllRight states = (q : ℕ) (state : ContainerState T) → state_of q states ≡ Some state → IsRight state
 
   module _ (first_words : List ℕ) (holds : Holds code.value_of code.size capacity 0 first_words) (views : ℕ → Option (Snapshot T)) (p : ℕ) where
+    -- The map that the words hold as the look begins.
     abbrev s : Contents T
     s = map_in code capacity first_words
 
-    abbrev pub Ends : ContainerState T → Bool → Showing T → List ℕ → Type 0
-    Ends old changed room last =
+    -- The look has ended with this answer, and has left this showing of its party's state and
+    -- these words, as a look alone does.
+    abbrev pub LookEnds : ContainerState T → Bool → Showing T → List ℕ → Type 0
+    LookEnds old changed room last =
         P code.value_of code.size coded.some coded.few capacity first_words holds.0 old.seen old.shown (changed, room) last
 
     -- a look that runs on from `call` and `room` ends as one that began with the state `old`
     abbrev pub Runs_on : ContainerState T → Look T → Showing T → List ℕ → Type 0
     Runs_on old call room words =
         Runs (λ (c : Look T) (given : Numbers). look_want code.size c) (look_after code.size) (look_kept code.value_of code.size) old.seen
-        (Ends old) call room words
+        (LookEnds old) call room words
 
     -- A look of party `p`, which began on `first_words`, where the states of the parties showed `views`, is under way at `call`. Now
     -- the words are `words`, and the states are `states`.
     pub record Looking (which : LookOf) (call : Look T) (words : List ℕ) (states : List (ℕ × ContainerState T)) : Type 0 where
+      -- the party's state now
       pub state : ContainerState T
       pub found : state_of p states ≡ Some state
       pub old : ContainerState T  -- as it began
+      -- the look has changed only what the state shows
       pub state_is : state ≡ record old { shown = state.shown }
+      -- however it ends, the state will show what the map says
       pub comes : (changed : Bool) (new : ContainerState T) → Brought s old changed new
           → IsRight new × (snapshot_of new ≡ updated s (seen_by which s (views p)))
       pub changes : (seen_by which s (views p)).changes ≡ old.seen.change
+      -- the states of the other parties are as they were
       pub others : (q : ℕ) → q ≢ p → views_in states q ≡ views q
       pub right : (q : ℕ) → q ≢ p → (x : ContainerState T) → state_of q states ≡ Some x → IsRight x
+      -- the look runs on to its end from here
       pub run : Runs_on old call state.shown words
 
     -- ---- it begins
@@ -127,7 +142,7 @@ module _ {T : Type 0} (code : Coding T) (coded : IsCoding code) (capacity : ℕ)
     pub begins_fresh : (which : LookOf) (states : List (ℕ × ContainerState T)) → seen_by which s (views p) ≡ blank (contents.capacity s)
         → AllRight states → ((q : ℕ) → views_in states q ≡ views q)
         → Looking which (first_look capacity) first_words (with_state p (fresh code capacity) states)
-    begins_fresh which states is right same =
+    begins_fresh which states seen_blank right same =
         record {
           state = fresh code capacity;
           found = found_put_same p (fresh code capacity) states;
@@ -135,8 +150,8 @@ module _ {T : Type 0} (code : Coding T) (coded : IsCoding code) (capacity : ℕ)
           state_is = refl;
           comes = λ changed new b.
               let so = got_settled code.value_of code.size capacity s long (fresh code capacity) refl refl refl changed new b in
-              ((so.0, b.of.1), so.1 ∙ ap (updated s) (sym is));
-          changes = ap (λ (v : Snapshot T). v.changes) is;
+              ((so.0, b.of.1), so.1 ∙ ap (updated s) (sym seen_blank));
+          changes = ap (λ (v : Snapshot T). v.changes) seen_blank;
           others = λ q ne. ap (option_map snapshot_of) (found_put_other q p (fresh code capacity) states ne) ∙ same q;
           right = λ q ne x e. right q x (sym (found_put_other q p (fresh code capacity) states ne) ∙ e);
           run = look_runs code.value_of code.size coded.some coded.few capacity first_words holds.0 (fresh code capacity).seen
@@ -179,12 +194,15 @@ module _ {T : Type 0} (code : Coding T) (coded : IsCoding code) (capacity : ℕ)
     module _ (step : LookStep) where
       open step use {which, call, last, states, k, old}
 
+      -- What the state shows after the step of the look.
       abbrev room : Showing T
       room = look_kept code.value_of code.size call k.state.shown old
 
+      -- The state of the look's party after the step.
       abbrev pub shows : ContainerState T
       shows = look_shows code call k.state old
 
+      -- The step changes nothing of the state but what it shows.
       shows_so : shows ≡ record k.old { shown = room }
       shows_so = ap (λ (z : ContainerState T). record z { shown = room }) k.state_is
 
@@ -205,53 +223,60 @@ module _ {T : Type 0} (code : Coding T) (coded : IsCoding code) (capacity : ℕ)
 
       -- ---- it ends
 
-      module _ (changed : Bool) (left : Ends k.old changed room last) where
+      module _ (changed : Bool) (left : LookEnds k.old changed room last) where
+        -- The state of the party after the look.
         abbrev pub new : ContainerState T
         new = settled_if (Done changed) shows
 
         -- a look that ends has brought its party's state up to date, whatever it answers
-        brought : (b : Bool) → Ends k.old b room last → Brought s k.old b (settled_if (Done b) shows)
-        brought true e =
-            brought_if code.value_of code.size coded.some coded.few capacity 0 first_words holds.0 k.old true room last e refl (settled shows)
+        brought : (b : Bool) → LookEnds k.old b room last → Brought s k.old b (settled_if (Done b) shows)
+        brought true look_ends =
+            brought_if code.value_of code.size coded.some coded.few capacity 0 first_words holds.0 k.old true room last look_ends refl (settled shows)
             (ap settled shows_so)
-        brought false e =
+        brought false look_ends =
             subst (Brought s k.old false) (sym shows_so)
-            (brought_not code.value_of code.size coded.some coded.few capacity 0 first_words holds.0 k.old false room last e refl)
+            (brought_not code.value_of code.size coded.some coded.few capacity 0 first_words holds.0 k.old false room last look_ends refl)
 
+        -- To settle a state leaves what it shows.
         same_shown : (b : Bool) → (settled_if (Done b) shows).shown ≡ shows.shown
         same_shown true = refl
         same_shown false = refl
 
+        -- The state after the look is right, and shows the map as an update brings it up to date.
         ends : IsRight new × (snapshot_of new ≡ updated s (seen_by which s (views p)))
         ends = k.comes changed new (brought changed left)
 
+        -- The look leaves the words as they were.
         pub words_are : last ≡ first_words
         words_are = words_kept code.value_of code.size coded.some coded.few capacity 0 first_words holds.0 k.old changed room last left
 
         -- the state of its party then shows what the map says
         same_then : (q : ℕ) → q ≡ p → views_in (set_state p new states) q ≡ view_after s (starts.Container (start_of which)) (views q)
-        same_then q e =
-            ap (views_in (set_state p new states)) e
+        same_then q same_party =
+            ap (views_in (set_state p new states)) same_party
             ∙ (ap (option_map snapshot_of) (written_same p new k.state states k.found)
             ∙ (ap Some ends.1
-            ∙ (sym (after_look which s (views p)) ∙ ap (λ n. view_after s (starts.Container (start_of which)) (views n)) (sym e))))
+            ∙ (sym (after_look which s (views p)) ∙ ap (λ n. view_after s (starts.Container (start_of which)) (views n)) (sym same_party))))
 
         -- each party's state is settled then, of the container's capacity
         pub right_then : AllRight (set_state p new states)
         right_then q x e = by_case (eqb_tells q p)
           where
+            -- The cases are whether q is the party of the look.
             by_case : ((q == p) ≡ true) × (q ≡ p) ⊎ ((q == p) ≡ false) × (q ≢ p) → IsRight x
             by_case (inl t) =
                 let at_p : state_of p (set_state p new states) ≡ Some x = ap (λ n. state_of n (set_state p new states)) (sym t.1) ∙ e in
                 subst IsRight (some_is new x (sym (written_same p new k.state states k.found) ∙ at_p)) ends.0
             by_case (inr t) = k.right q t.1 x (sym (written_other q p new states t.1) ∙ e)
 
-        -- each party's state then shows what the map says: that of its party anew, every other as before
+        -- After a look each party's state shows what the map says: that of the look's party is new, and every other
+        -- one is as before.
         pub views_then : (q : ℕ) → views_in (set_state p new states) q
             ≡ (if q == p then view_after s (starts.Container (start_of which)) (views q) else views q)
         views_then q = by_case (eqb_tells q p)
           where
-            -- so it is of the party and of every other
+            -- The state of the look's party shows what the map says, and so does that of every other party, which
+            -- has not changed.
             by_case : ((q == p) ≡ true) × (q ≡ p) ⊎ ((q == p) ≡ false) × (q ≢ p)
                 → views_in (set_state p new states) q ≡ (if q == p then view_after s (starts.Container (start_of which)) (views q) else views q)
             by_case (inl t) =
@@ -265,13 +290,13 @@ module _ {T : Type 0} (code : Coding T) (coded : IsCoding code) (capacity : ℕ)
         said_of : (w : LookOf) → (snapshot_of new ≡ updated s (seen_by w s (views p))) → ((seen_by w s (views p)).changes ≡ k.old.seen.change)
             → as_reply [] (looked w shows changed)
             ≡ (whole_map capacity).reply (record { contents = s; views = views }) (as_request p (starts.Container (start_of w)) [])
-        said_of GetState is at =
+        said_of GetState updated_is changes_are =
             let number : shown_number shows.shown.elements ≡ number_shown (updated s (blank (contents.capacity s))) =
-            ap (λ (r : Showing T). shown_number r.elements) (sym (same_shown changed)) ∙ (shown_so new.shown.elements ∙ ap number_shown is) in
+            ap (λ (r : Showing T). shown_number r.elements) (sym (same_shown changed)) ∙ (shown_so new.shown.elements ∙ ap number_shown updated_is) in
             λ i. record { questions = []; answer = answers.Number (number i) }
-        said_of UpdateState is at =
+        said_of UpdateState updated_is changes_are =
             let truth : changed ≡ not (s.changes == (view_of s (views p)).changes) =
-            (brought changed left).answers ∙ ap (λ n. not (s.changes == n)) (sym at) in
+            (brought changed left).answers ∙ ap (λ n. not (s.changes == n)) (sym changes_are) in
             λ i. record { questions = []; answer = answers.Truth (truth i) }
 
         pub said : as_reply [] (looked which shows changed)

@@ -55,51 +55,62 @@ use Rattle.headline_whole.proofs.Agree.{IsNoLook}
 use Rattle.headline_whole.proofs.Flights.{IsFlight, Turns, AtStop, Talks, talks_once, lift_stop, talks_as, alike, twice}
 use Rattle.headline_whole.proofs.Owners.{below}
 use Rattle.headline_whole.proofs.Decisions.{goes_on, progression, same_decision, same_number, yes_number, yes_of, decision, folds_long, found_so, asked_so}
-use Rattle.headline_whole.proofs.Maps.{map_in, Answers, Ends, Whole, adds_one, removes_one, replaces_one, counts_so, looks}
+use Rattle.headline_whole.proofs.Maps.{map_in, Answers, EndsAsMap, RunsAsMap, adds_one, removes_one, replaces_one, counts_so, looks}
 
 module _ {T : Type 0} (code : Coding T) (capacity : ℕ) where
   module _ (coded : IsCoding code) (views : ℕ → Option (Snapshot T)) (p : ℕ) (words : List ℕ)
       (h : Holds code.value_of code.size capacity 0 words) where
-    abbrev At : ContainerStart T → List (Decision T) → Answer T → List ℕ → Type 0
-    At start told answer last = Ends code capacity words views p (starts.Container start) told answer last
+    -- What holds of a container's call that has ended: its answer and the words that it leaves are
+    -- those of the map.
+    abbrev EndsRight : ContainerStart T → List (Decision T) → Answer T → List ℕ → Type 0
+    EndsRight start told answer last = EndsAsMap code capacity words views p (starts.Container start) told answer last
 
-    abbrev Said : ContainerStart T → Type 0
-    Said start = (n : ℕ) × Talks code (At start) n [] (flights.Container (first capacity start)) words
+    -- The call, alone from these words, says what the map says, with finitely many questions.
+    abbrev SaysAsMap : ContainerStart T → Type 0
+    SaysAsMap start = (n : ℕ) × Talks code (EndsRight start) n [] (flights.Container (first capacity start)) words
 
     -- a call that puts no question says, alone, what the map says
     speaks : (start : ContainerStart T)
         → map_questions (map_in code capacity words) (starts.Container start) [] ≡ []
-        → Whole code capacity coded views p words h start → Said start
+        → RunsAsMap code capacity coded views p words h start → SaysAsMap start
     speaks start none whole = (
       1,
-      talks_once code (At start) (Answers code capacity words (views p) start) [] (flights.Container (first capacity start)) words
+      talks_once code (EndsRight start) (Answers code capacity words (views p) start) [] (flights.Container (first capacity start)) words
           (λ answer last h. record { said = λ i. record { questions = sym none i; answer = h.said i }; holds = h.holds; object = h.object }) whole,
     )
 
     -- ---- a find
 
+    -- The words that a buffer of 128 words holds.
     abbrev room_words : Buffer 128 → List ℕ
     room_words room = room.words
 
+    -- The words of the buffer after a word is kept at `at` are the earlier ones with that one replaced.
     put_in : (x : Buffer 128) (at word : ℕ) → room_words (kept_at x at word) ≡ slice_set (room_words x) at word
     put_in x at word = refl
 
+    -- A value fits into the buffer.
     roomy : code.size ≤ length (room_words fresh_cell)
     roomy = let long = length-replicate {A = ℕ} 128 0 in let few = coded.few in omega arith
 
+    -- These words are ready for a find or a recovery of the owner.
     ready : (owner : ℕ) → owner < empty → Ready code.value_of code.size capacity 0 owner words
     ready owner lives = record { some = coded.some; wide = coded.few; lives = lives; holds = h }
 
     module _ (owner : ℕ) (lives : owner < empty) where
+      -- The decisions after a find has asked about a value (`q`) are those before (`p`) and the
+      -- one on that value.
       abbrev finds : List (Decision T) → T → ContainerHandle → CallbackProgression → List (Decision T) → Type 0
       finds p value handle said q = q ≡ p ++ decision (questions.Value handle.index value) (goes_on said) ∷ []
 
       abbrev sees : List (Decision T) → ℕ → CallbackProgression → List (Decision T) → Type 0
       sees p index said q = Sees finds (map_in code capacity words) owner p index said q
 
+      -- The find as a call of the machine, with its buffer.
       abbrev find_flight : Find T (Buffer 128) → Buffer 128 → Flight T
       find_flight c room = flights.Container (under_way.Find (record { call = c; given = owner; room = room }))
 
+      -- What the find wants of the machine next.
       abbrev wants_find : Find T (Buffer 128) → ℕ → Want (Unit {0})
       wants_find c _ = find_want code.size c
 
@@ -113,6 +124,8 @@ module _ {T : Type 0} (code : Coding T) (capacity : ℕ) where
             stays = λ c old low. any_low (find_after code.size c owner old);
           }
 
+      -- What a find was told after one index more is what it was told before, and the decision
+      -- about that index.
       seen_so : (p : List (Decision T)) (index : ℕ) (said : CallbackProgression) (q : List (Decision T)) → sees p index said q
           → q ≡ p ++ decision (about (map_in code capacity words) index) (goes_on said) ∷ []
       seen_so p index said q t =
@@ -120,7 +133,7 @@ module _ {T : Type 0} (code : Coding T) (capacity : ℕ) where
 
       -- a find that has come to its end says what the map says, if it has left the words
       found : (told : List (Decision T)) (n : ℕ) (last : List ℕ) → HasFound sees (indices_of (map_in code capacity words).owners owner) [] n told
-          → last ≡ words → At (calls.Find owner) told (answers.Number n) last
+          → last ≡ words → EndsRight (calls.Find owner) told (answers.Number n) last
       found told n last has_found same =
           let was = found_so (about (map_in code capacity words)) sees seen_so (indices_of (map_in code capacity words).owners owner) n told has_found in
           record {
@@ -129,6 +142,7 @@ module _ {T : Type 0} (code : Coding T) (capacity : ℕ) where
             object = ap (map_in code capacity) same;
           }
 
+      -- The find, alone, has gone through `done` of its owner's indices, as `Searching` says.
       abbrev Searches : ℕ → Find T (Buffer 128) → Buffer 128 → List (Decision T) → List ℕ → Type 0
       Searches done call room now ws =
           finding.Searching code.value_of room_words kept_at put_in finds [] code.size capacity 0 owner words done call room now ws
@@ -136,14 +150,14 @@ module _ {T : Type 0} (code : Coding T) (capacity : ℕ) where
       module _ (m done : ℕ) (call : Find T (Buffer 128)) (room : Buffer 128) (now : List (Decision T)) (ws : List ℕ)
           (t : Searches done call room now ws)
           (rest : (d : Find T (Buffer 128)) (room : Buffer 128) (later : List (Decision T)) (last : List ℕ) → Searches (done + 1) d room later last
-          → Talks code (At (calls.Find owner)) m later (find_flight d room) last) where
+          → Talks code (EndsRight (calls.Find owner)) m later (find_flight d room) last) where
         -- what a decision leads to talks on, or ends as the map says
         further : (a : After (Find T (Buffer 128)) ℕ) (r : Buffer 128) (later : List (Decision T)) (last : List ℕ)
             → finding.Further code.value_of room_words kept_at put_in finds [] code.size capacity 0 owner words (done + 1) a r later last
-            → Turns code (At (calls.Find owner)) (Talks code (At (calls.Find owner)) m) later
+            → Turns code (EndsRight (calls.Find owner)) (Talks code (EndsRight (calls.Find owner)) m) later
             (as_call (λ c. find_flight c r) (λ e. answers.Number e) a) last
-        further (GoOn d) r later last u = rest d r later last u
-        further (Done n) r later last u = found later n last u.0 u.1
+        further (GoOn d) r later last further_on = rest d r later last further_on
+        further (Done n) r later last further_on = found later n last further_on.0 further_on.1
 
         -- a question of a find is about a value, at the index that it names
         find_asks : (question : Question (Unit {0})) (asks : Find T (Buffer 128)) (r : Buffer 128) (last : List ℕ)
@@ -158,7 +172,7 @@ module _ {T : Type 0} (code : Coding T) (capacity : ℕ) where
         -- at each stop a find has ended as the map says, or talks on, whatever is decided
         find_stops : (s : Stop (Find T (Buffer 128)) ℕ) (r : Buffer 128) (last : List ℕ)
             → StopsAlike wants_find (find_after code.size) (find_kept kept_at) owner call room ws s r last
-            → AtStop code (At (calls.Find owner)) (Talks code (At (calls.Find owner)) m) now
+            → AtStop code (EndsRight (calls.Find owner)) (Talks code (EndsRight (calls.Find owner)) m) now
             (lift_stop code wants_find (find_after code.size) (find_kept kept_at) owner (λ c. Unit {0}) find_flight (λ e room. answers.Number e) s r) last
         find_stops (stops.Ended n) r last alone =
             let end = finding.ended_so code.value_of room_words kept_at put_in finds [] code.size capacity 0 owner words done call room now ws t
@@ -173,28 +187,28 @@ module _ {T : Type 0} (code : Coding T) (capacity : ℕ) where
             (find_kept kept_at asks r (number_of said)) refl in
             let told : now ++ decided code (Some (find_flight asks r)) said ≡ later =
             ap (λ w. now ++ decided_at (Some (read_in code r)) w said) (find_asks question asks r last alone) in
-            subst (λ ds. Turns code (At (calls.Find owner)) (Talks code (At (calls.Find owner)) m) ds
+            subst (λ ds. Turns code (EndsRight (calls.Find owner)) (Talks code (EndsRight (calls.Find owner)) m) ds
             (after_of code (find_flight asks r) (number_of said)) last)
             (sym told)
-            (subst (λ a. Turns code (At (calls.Find owner)) (Talks code (At (calls.Find owner)) m) later a last)
+            (subst (λ a. Turns code (EndsRight (calls.Find owner)) (Talks code (EndsRight (calls.Find owner)) m) later a last)
             (sym (find_is.goes asks r (number_of said) tt))
             (further (find_after code.size asks owner (number_of said)) (find_kept kept_at asks r (number_of said)) later last next))
 
       -- a find that has put `done` questions talks on as the object does, to its end, within `m` more
       find_talks : (m done : ℕ) (call : Find T (Buffer 128)) (room : Buffer 128) (now : List (Decision T)) (ws : List ℕ) → done + m ≡ 2 ^ 64 - 1
-          → Searches done call room now ws → Talks code (At (calls.Find owner)) m now (find_flight call room) ws
+          → Searches done call room now ws → Talks code (EndsRight (calls.Find owner)) m now (find_flight call room) ws
       find_talks zero done call room now ws sum searches =
           let few = finding.few_rounds code.value_of room_words kept_at put_in finds [] code.size capacity 0 owner words done call room now ws searches in
           absurd (omega arith)
       find_talks (suc m) done call room now ws sum searches =
           let can = finding.can_go code.value_of room_words kept_at put_in finds [] code.size capacity 0 owner words done call room now ws searches in
           talks_as code wants_find (find_after code.size) (find_kept kept_at) owner (λ c. Unit {0}) find_flight (λ e room. answers.Number e) find_is
-          (At (calls.Find owner)) m now call room ws tt can
+          (EndsRight (calls.Find owner)) m now call room ws tt can
           (find_stops m done call room now ws searches (λ d r later last u. find_talks m (done + 1) d r later last (omega arith) u)
           can.stop can.last_room can.last_words (alike wants_find (find_after code.size) (find_kept kept_at) owner call room ws can))
 
       -- a find, alone, says what the map says
-      finds_all : Said (calls.Find owner)
+      finds_all : SaysAsMap (calls.Find owner)
       finds_all = (
         2 ^ 64 - 1,
         find_talks (2 ^ 64 - 1) 0 (first_find capacity) fresh_cell [] words (omega arith)
@@ -209,15 +223,19 @@ module _ {T : Type 0} (code : Coding T) (capacity : ℕ) where
       abbrev asked_at : ℕ → ℕ
       asked_at n = slice_index (map (λ (o : Owned). o.index) (to_ask (map_in code capacity words) owner)) n
 
+      -- The decisions after a recovery has asked about a value (`q`) are those before (`p`) and
+      -- the one on that value.
       abbrev asks : List (Decision T) → T → Bool → List (Decision T) → Type 0
       asks p value said q = q ≡ p ++ decision (questions.Value (asked_at (length p)) value) said ∷ []
 
       abbrev says : List (Decision T) → Asked → List (Decision T) → Type 0
       says p a q = Says asks (map_in code capacity words) p a.of.owner a.of.index a.yes q
 
+      -- The dead owner of the recovery, and the mode that says whether it may lock.
       abbrev dead : DeadOwner
       dead = record { owner = owner; mode = mode }
 
+      -- The recovery as a call of the machine, with its buffer.
       abbrev recover_flight : Recover T (Buffer 128) → Buffer 128 → Flight T
       recover_flight c room = flights.Container (under_way.Recover (record { call = c; given = record { owner = owner; mode = mode }; room = room }))
 
@@ -232,11 +250,13 @@ module _ {T : Type 0} (code : Coding T) (capacity : ℕ) where
             stays = λ c old low. any_low (recover_after code.size c dead old);
           }
 
+      -- The question after those in `before` is about the index of the next one.
       in_place : (before : List Asked) (a : Asked) (rest : List Asked)
           → slice_index (map (λ (o : Owned). o.index) (asked_questions (before ++ a ∷ rest))) (length before) ≡ a.of.index
       in_place [] a rest = refl
       in_place (b ∷ before) a rest = in_place before a rest
 
+      -- The question after those that were put is about the index of the next owner's entry.
       placed : (before : List Asked) (o : Owned) (rest : List Owned)
           → slice_index (map (λ (o : Owned). o.index) (asked_questions before ++ o ∷ rest)) (length before) ≡ o.index
       placed [] o rest = refl
@@ -246,9 +266,9 @@ module _ {T : Type 0} (code : Coding T) (capacity : ℕ) where
       said_so : (before : List Asked) (a : Asked) (rest : List Asked) (p q : List (Decision T)) → length p ≡ length before
           → asked_questions (before ++ a ∷ rest) ≡ to_ask (map_in code capacity words) owner → says p a q
           → q ≡ p ++ decision (about (map_in code capacity words) a.of.index) a.yes ∷ []
-      said_so before a rest p q long is t =
+      said_so before a rest p q long questions_are t =
           let place : asked_at (length p) ≡ a.of.index =
-          (λ i. slice_index (map (λ (o : Owned). o.index) (sym is i)) (long i)) ∙ in_place before a rest in
+          (λ i. slice_index (map (λ (o : Owned). o.index) (sym questions_are i)) (long i)) ∙ in_place before a rest in
           t.2
           ∙ (ap (λ (n : ℕ). p ++ decision (questions.Value n t.0) a.yes ∷ []) place
           ∙ ap (λ (o : Option T). p ++ decision (showing o (questions.Value a.of.index tt)) a.yes ∷ []) (sym t.1))
@@ -256,22 +276,23 @@ module _ {T : Type 0} (code : Coding T) (capacity : ℕ) where
       -- a recovery that has come to its end says what the map says
       gone : (told : List (Decision T)) (state : ReleaseState) (last : List ℕ)
           → recovering.Gone code.value_of room_words kept_at put_in asks [] code.size capacity 0 owner mode words state told last
-          → At (calls.Recover owner mode) told (answers.State state) last
-      gone told state last g =
+          → EndsRight (calls.Recover owner mode) told (answers.State state) last
+      gone told state last has_gone =
           let was =
           asked_so (to_ask (map_in code capacity words) owner) (λ o. about (map_in code capacity words) o.index)
-          says said_so g.calls.asked told g.calls.all g.calls.answers in
+          says said_so has_gone.calls.asked told has_gone.calls.all has_gone.calls.answers in
           let left_is : map_in code capacity last ≡ map_freed (map_in code capacity words) owner mode (map yes_of told) =
-          g.calls.next ∙ ap (λ which. one_change (all_freed mode (map_in code capacity words) which)) (sym was.agreed_are) in
+          has_gone.calls.next ∙ ap (λ which. one_change (all_freed mode (map_in code capacity words) which)) (sym was.agreed_are) in
           record {
             said = λ i. record {
               questions = was.questions_are i;
-              answer = answers.State ((g.state_is ∙ ap (λ (s : Contents T). state_of s.owners) left_is) i);
+              answer = answers.State ((has_gone.state_is ∙ ap (λ (s : Contents T). state_of s.owners) left_is) i);
             };
-            holds = g.fit;
+            holds = has_gone.fit;
             object = left_is;
           }
 
+      -- The recovery, alone, has gone through `done` of its owner's indices, as `Searching` says.
       abbrev Recovers : ℕ → Recover T (Buffer 128) → Buffer 128 → List (Decision T) → List ℕ → Type 0
       Recovers done call room now ws =
           recovering.Searching code.value_of room_words kept_at put_in asks [] code.size capacity 0 owner mode words done call room now ws
@@ -279,7 +300,7 @@ module _ {T : Type 0} (code : Coding T) (capacity : ℕ) where
       module _ (m done : ℕ) (call : Recover T (Buffer 128)) (room : Buffer 128) (now : List (Decision T)) (ws : List ℕ)
           (t : Recovers done call room now ws)
           (rest : (d : Recover T (Buffer 128)) (room : Buffer 128) (later : List (Decision T)) (last : List ℕ) → Recovers (done + 1) d room later last
-          → Talks code (At (calls.Recover owner mode)) m later (recover_flight d room) last) where
+          → Talks code (EndsRight (calls.Recover owner mode)) m later (recover_flight d room) last) where
         -- a question of the recovery is about the index that comes next
         recover_asks : (question : Question (Unit {0})) (put : Recover T (Buffer 128)) (r : Buffer 128) (last : List ℕ)
             → StopsAlike (recover_want code.size) (recover_after code.size) (recover_kept kept_at) dead call room ws (stops.Asked question put) r last
@@ -299,7 +320,7 @@ module _ {T : Type 0} (code : Coding T) (capacity : ℕ) where
         -- at each stop a recovery has ended as the map says, or talks on, whatever is decided
         recover_stops : (s : Stop (Recover T (Buffer 128)) ReleaseState) (r : Buffer 128) (last : List ℕ)
             → StopsAlike (recover_want code.size) (recover_after code.size) (recover_kept kept_at) dead call room ws s r last
-            → AtStop code (At (calls.Recover owner mode)) (Talks code (At (calls.Recover owner mode)) m) now
+            → AtStop code (EndsRight (calls.Recover owner mode)) (Talks code (EndsRight (calls.Recover owner mode)) m) now
             (lift_stop code (recover_want code.size) (recover_after code.size) (recover_kept kept_at) dead (λ c. Unit {0}) recover_flight
             (λ e room. answers.State e) s r) last
         recover_stops (stops.Ended state) r last alone =
@@ -310,10 +331,10 @@ module _ {T : Type 0} (code : Coding T) (capacity : ℕ) where
             let later : List (Decision T) = now ++ decision (questions.Value (asked_at (length now)) (read_in code r)) said ∷ [] in
             let told : now ++ decided code (Some (recover_flight put r)) said ≡ later =
             ap (λ w. now ++ decided_at (Some (read_in code r)) w said) (recover_asks question put r last alone) in
-            subst (λ ds. Turns code (At (calls.Recover owner mode)) (Talks code (At (calls.Recover owner mode)) m) ds
+            subst (λ ds. Turns code (EndsRight (calls.Recover owner mode)) (Talks code (EndsRight (calls.Recover owner mode)) m) ds
             (after_of code (recover_flight put r) (number_of said)) last)
             (sym told)
-            (subst (λ a. Turns code (At (calls.Recover owner mode)) (Talks code (At (calls.Recover owner mode)) m) later a last)
+            (subst (λ a. Turns code (EndsRight (calls.Recover owner mode)) (Talks code (EndsRight (calls.Recover owner mode)) m) later a last)
             (sym (recover_is.goes put r (number_of said) tt))
             (onward (recover_after code.size put dead (number_of said)) said later
             (recovering.further_so code.value_of room_words kept_at put_in asks [] code.size capacity 0 owner mode words done call room now ws t
@@ -324,14 +345,14 @@ module _ {T : Type 0} (code : Coding T) (capacity : ℕ) where
             onward : (a : After (Recover T (Buffer 128)) ReleaseState) (said : Bool) (later : List (Decision T))
                 → recovering.Further code.value_of room_words kept_at put_in asks [] code.size capacity 0 owner mode words done call room now ws t
                 question put r last alone (read_in code r) refl a (recover_kept kept_at put r (number_of said)) later
-                → Turns code (At (calls.Recover owner mode)) (Talks code (At (calls.Recover owner mode)) m) later
+                → Turns code (EndsRight (calls.Recover owner mode)) (Talks code (EndsRight (calls.Recover owner mode)) m) later
                 (as_call (λ c. recover_flight c (recover_kept kept_at put r (number_of said))) (λ e. answers.State e) a) last
-            onward (GoOn d) said later u = rest d (recover_kept kept_at put r (number_of said)) later last u
-            onward (Done state) said later u = absurd u
+            onward (GoOn d) said later goes_onward = rest d (recover_kept kept_at put r (number_of said)) later last goes_onward
+            onward (Done state) said later goes_onward = absurd goes_onward
 
       -- a recovery that has put `done` questions talks on as the object does, to its end, within `m` more
       recover_talks : (m done : ℕ) (call : Recover T (Buffer 128)) (room : Buffer 128) (now : List (Decision T)) (ws : List ℕ)
-          → done + m ≡ 2 ^ 64 - 1 → Recovers done call room now ws → Talks code (At (calls.Recover owner mode)) m now (recover_flight call room) ws
+          → done + m ≡ 2 ^ 64 - 1 → Recovers done call room now ws → Talks code (EndsRight (calls.Recover owner mode)) m now (recover_flight call room) ws
       recover_talks zero done call room now ws sum recovers =
           let few =
           recovering.few_rounds code.value_of room_words kept_at put_in asks [] code.size capacity 0 owner mode
@@ -340,13 +361,13 @@ module _ {T : Type 0} (code : Coding T) (capacity : ℕ) where
       recover_talks (suc m) done call room now ws sum recovers =
           let can = recovering.can_go code.value_of room_words kept_at put_in asks [] code.size capacity 0 owner mode words done call room now ws recovers in
           talks_as code (recover_want code.size) (recover_after code.size) (recover_kept kept_at) dead (λ c. Unit {0}) recover_flight
-          (λ e room. answers.State e) recover_is (At (calls.Recover owner mode)) m now call room ws tt can
+          (λ e room. answers.State e) recover_is (EndsRight (calls.Recover owner mode)) m now call room ws tt can
           (recover_stops m done call room now ws recovers (λ d r later last u. recover_talks m (done + 1) d r later last (omega arith) u)
           can.stop can.last_room can.last_words
           (alike (recover_want code.size) (recover_after code.size) (recover_kept kept_at) dead call room ws can))
 
       -- a recovery, alone, says what the map says
-      recovers_all : Said (calls.Recover owner mode)
+      recovers_all : SaysAsMap (calls.Recover owner mode)
       recovers_all = (
         2 ^ 64 - 1,
         recover_talks (2 ^ 64 - 1) 0 (first_recover capacity) fresh_cell [] words (omega arith)
@@ -355,7 +376,7 @@ module _ {T : Type 0} (code : Coding T) (capacity : ℕ) where
       )
 
     -- each call that is no look, and names an owner as it may, says alone what the map says
-    pub every : (start : ContainerStart T) → IsNoLook (first capacity start) → names_owner start ≡ true → Said start
+    pub every : (start : ContainerStart T) → IsNoLook (first capacity start) → names_owner start ≡ true → SaysAsMap start
     every (calls.Add value owner) such names =
         speaks (calls.Add value owner) refl (adds_one code capacity coded views p words h value owner (below owner empty names))
     every (calls.Remove index owner mode) such names =

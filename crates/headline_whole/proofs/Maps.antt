@@ -42,10 +42,12 @@ use Rattle.headline_whole.specs.Objects.{handle_to, add_answer, map_after, map_a
 use Rattle.headline_whole.proofs.Flights.{FlightRuns, runs_as, twice}
 use Rattle.headline_whole.proofs.Decisions.{yes_of}
 
+-- A container opens with a capacity from 1 to 2 ^ 32 - 1.
 pub admitted : (c : ℕ) → capacity_error kinds.Container c ≡ None → (1 ≤ c) × (c < 2 ^ 32)
 admitted = grind arith
 
 module _ {T : Type 0} (code : Coding T) (capacity : ℕ) where
+  -- The map from index to owner and value that these words of a container hold.
   abbrev pub map_in : List ℕ → Contents T
   map_in words = contents_in code.value_of code.size capacity 0 words
 
@@ -58,7 +60,7 @@ module _ {T : Type 0} (code : Coding T) (capacity : ℕ) where
 
   -- the call `start` of party `p` began on `words`, where the states of the parties show `views`, was told `told`, and has given
   -- `answer` and left `last`
-  pub record Ends (words : List ℕ) (views : ℕ → Option (Snapshot T)) (p : ℕ) (start : Start T) (told : List (Decision T)) (answer : Answer T)
+  pub record EndsAsMap (words : List ℕ) (views : ℕ → Option (Snapshot T)) (p : ℕ) (start : Start T) (told : List (Decision T)) (answer : Answer T)
       (last : List ℕ) : Type 0 where
     pub said : as_reply told answer
         ≡ (whole_map capacity).reply (record { contents = map_in words; views = views }) (as_request p start told)
@@ -69,13 +71,15 @@ module _ {T : Type 0} (code : Coding T) (capacity : ℕ) where
 
   module _ (coded : IsCoding code) (views : ℕ → Option (Snapshot T)) (p : ℕ) (words : List ℕ)
       (h : Holds code.value_of code.size capacity 0 words) where
-    abbrev pub Whole : ContainerStart T → Type 0
-    Whole start = FlightRuns code (Answers words (views p) start) (flights.Container (first capacity start)) words
+    -- The call of the container, run alone from these words, answers and leaves what the map does.
+    abbrev pub RunsAsMap : ContainerStart T → Type 0
+    RunsAsMap start = FlightRuns code (Answers words (views p) start) (flights.Container (first capacity start)) words
 
     module _ (value : T) (owner : ℕ) (lives : owner < empty) where
       abbrev given : Adding T
       given = record { value = value; owner = owner }
 
+      -- An add of the machine answers what an add of the sequential form answers.
       say_added : (e : Added)
           → added {T = T} e ≡ add_answer (adds.handle_of code.words_of code.value_of code.size coded.sized coded.given_back coded.some coded.few capacity 0
           (record { value = value; owner = owner }) e)
@@ -83,7 +87,7 @@ module _ {T : Type 0} (code : Coding T) (capacity : ℕ) where
       say_added (Err failure) = refl
 
       -- an add, run alone, answers and leaves what the map does
-      pub adds_one : Whole (calls.Add value owner)
+      pub adds_one : RunsAsMap (calls.Add value owner)
       adds_one =
           runs_as code (add_want code.words_of code.size) (λ c given old. add_after code.size c old) (λ c (room : Unit {0}) old. room)
           (record { value = value; owner = owner })
@@ -109,7 +113,7 @@ module _ {T : Type 0} (code : Coding T) (capacity : ℕ) where
           (record { value = value; owner = owner }) owner refl lives (first_add capacity) refl words h.0)
 
     -- a remove, run alone, answers and leaves what the map does
-    pub removes_one : (index owner : ℕ) (mode : ReleaseMode) → owner < empty → Whole (calls.Remove index owner mode)
+    pub removes_one : (index owner : ℕ) (mode : ReleaseMode) → owner < empty → RunsAsMap (calls.Remove index owner mode)
     removes_one index owner mode lives =
         runs_as code remove_want remove_after (λ c (room : Unit {0}) old. room)
         (record { index = place_of capacity index; owner = owner; mode = mode })
@@ -136,7 +140,7 @@ module _ {T : Type 0} (code : Coding T) (capacity : ℕ) where
         (first_remove capacity (place_of capacity index)) refl words h.0)
 
     -- a replace, run alone, answers and leaves what the map does
-    pub replaces_one : (index : ℕ) (value : T) (owner : ℕ) → owner < empty → Whole (calls.Replace index value owner)
+    pub replaces_one : (index : ℕ) (value : T) (owner : ℕ) → owner < empty → RunsAsMap (calls.Replace index value owner)
     replaces_one index value owner lives =
         runs_as code (replace_want code.words_of code.size) (replace_after code.size) (λ c (room : Unit {0}) old. room)
         (record { index = place_of capacity index; owner = owner; value = value })
@@ -188,7 +192,7 @@ module _ {T : Type 0} (code : Coding T) (capacity : ℕ) where
         (first_borrowed capacity) tt words tt (count_at code.value_of code.size capacity 0 (first_borrowed capacity) refl words h.0)
 
     -- a look whether the container is locked, run alone, answers and leaves what the map does
-    pub looks : Whole calls.IsLocked
+    pub looks : RunsAsMap calls.IsLocked
     looks =
         runs_as code (λ (c : IsLocked) (given : Unit {0}). load 0) (λ c given old. locked_after c old) (λ c (room : Unit {0}) old. room) tt
         (λ c. Unit {0}) (λ c room. flights.Container (under_way.IsLocked (record { call = c; given = tt; room = room }))) (λ e room. answers.Truth e)

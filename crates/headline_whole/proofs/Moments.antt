@@ -1,4 +1,5 @@
--- Where calls run whole, those that act at one moment answer as their object does there. So do stores and loads.
+-- Where calls run whole, those that act at one moment answer as their object does at the end of the call. So stores
+-- and loads answer as one value.
 use Rattle.std.proofs.Common.{◌≡◌, ℕ, true, false, List, [], ◌∷◌, ◌++◌, map, fold, refl, sym, ap, subst, ◌∙◌, append_assoc, append-nil}
 use Rattle.std.proofs.Common.{if◌then◌else◌}
 use Rattle.std.proofs.lemmas.List.Concat.{flat_map-append}
@@ -32,27 +33,31 @@ module _ {T State : Type 0} where
       answer_then o (o.after s m.0) past after start answer rest
 
 pub no_call : {A : Type 0} → false ≡ true → A
-no_call e = absurd (cc)
+no_call same_false = absurd (cc)
 
 pub acts_are_effects : {T : Type 0} → ReadsEffects (acts {T = T})
 acts_are_effects = record { begun = λ p start. refl; finished = λ p start answer. refl; died = λ owner. refl }
 
 -- `spec` says what the calls answer, and `object` is theirs that act.
 module _ {T State : Type 0} (spec : Specification T State) (object : Object T State) where
+  -- The state of the object after the moments in these events.
   abbrev pub now : List (Event T) → State
   now es = standing object (moments es)
 
+  -- Events without an act leave the object in the state that it is in.
   pub still_now : (es more : List (Event T)) → moments more ≡ [] → now (es ++ more) ≡ now es
   still_now es more none =
       ap (λ (ms : List (Start T × Answer T)). standing object ms)
       (flat_map-append acts es more ∙ (ap (λ (ms : List (Start T × Answer T)). moments es ++ ms) none ∙ append-nil (moments es)))
 
+  -- The death of an owner changes neither the object nor the answers.
   pub mourned : (es : List (Event T)) (owner : ℕ) → HasAnswered spec (now es) es → HasAnswered spec (now (es ++ Died owner ∷ [])) (es ++ Died owner ∷ [])
   mourned es owner answered =
       subst (λ (s : State). HasAnswered spec s (es ++ Died owner ∷ [])) (sym (still_now es (Died owner ∷ []) refl))
       (still_answered spec (now es) es (Died owner ∷ []) (λ is_call. refl) answered)
 
   module _ (p : ℕ) (start : Start T) (answer : Answer T) (begun since : List (Event T)) where
+    -- A whole call without a moment leaves the object as it was.
     pub quiet_now : moments (of_parties since) ≡ [] → now (begun ++ whole_call p start since answer) ≡ now begun
     quiet_now none = still_now begun (whole_call p start since answer) (reads_call acts acts_are_effects p start since answer ∙ none)
 
@@ -69,10 +74,10 @@ module _ {T State : Type 0} (spec : Specification T State) (object : Object T St
     pub acted : (events after : List (Event T)) → IsLegal object (moments events)
         → events ≡ (begun ++ Begun p start ∷ since) ++ Finished p start answer ∷ after → moments (of_parties since) ≡ (start, answer) ∷ []
         → (answer ≡ object.answer (now begun) start) × (now (begun ++ whole_call p start since answer) ≡ object.after (now begun) start)
-    acted events after legal at one = (
+    acted events after legal split one = (
       answer_then object object.opening (moments begun) (moments after) start answer
           (subst (IsLegal object)
-          (ap (λ (es : List (Event T)). moments es) at
+          (ap (λ (es : List (Event T)). moments es) split
           ∙ (flat_map-append acts (begun ++ Begun p start ∷ since) (Finished p start answer ∷ after)
           ∙ (ap (λ (ms : List (Start T × Answer T)). ms ++ moments after)
           (flat_map-append acts begun (Begun p start ∷ since)
@@ -87,8 +92,8 @@ module _ {T State : Type 0} (spec : Specification T State) (object : Object T St
   -- the answers of a run, from those at the end of its calls
   pub answers_then : (events begun since : List (Event T)) → events ≡ begun ++ since → NoneEnds since → HasAnswered spec (now begun) begun
       → AnswersAs spec events
-  answers_then events begun since is none answered =
-      subst (AnswersAs spec) (sym is) (still_answered spec (now begun) begun since none answered).legal
+  answers_then events begun since split none answered =
+      subst (AnswersAs spec) (sym split) (still_answered spec (now begun) begun since none answered).legal
 
 -- ---- the value
 
@@ -96,26 +101,28 @@ module _ {T : Type 0} (t : Trace T) (kept : IsKeptBy atomic.promise t) (runs : R
   abbrev spec : Specification T T
   spec = as_value t.world.coding
 
-  abbrev Rest : List (Event T) → Type 0
-  Rest es = HasAnswered spec (now spec spec.object es) es
+  -- Between two whole calls the answers are those of the value that stands.
+  abbrev AnsweredSoFar : List (Event T) → Type 0
+  AnsweredSoFar es = HasAnswered spec (now spec spec.object es) es
 
   -- after each whole call the answers are those of the value
   ends : (p : ℕ) (start : Start T) (answer : Answer T) (begun since after : List (Event T))
       → t.events ≡ (begun ++ Begun p start ∷ since) ++ Finished p start answer ∷ after → NoneEnds since
-      → atomic.wrote t.world.capacity start answer (of_parties since) → Rest begun → Rest (begun ++ whole_call p start since answer)
-  ends p (starts.Atomic (values.Store value)) answer begun since after at none wrote rest =
-      let done = acted spec spec.object p (starts.Atomic (values.Store value)) answer begun since t.events after kept.promised.moments at wrote in
+      → atomic.wrote t.world.capacity start answer (of_parties since) → AnsweredSoFar begun → AnsweredSoFar (begun ++ whole_call p start since answer)
+  ends p (starts.Atomic (values.Store value)) answer begun since after split none wrote rest =
+      let done = acted spec spec.object p (starts.Atomic (values.Store value)) answer begun since t.events after kept.promised.moments split wrote in
       once_ended spec spec.object p (starts.Atomic (values.Store value)) answer begun since none (λ is. done.0) done.1 rest
-  ends p (starts.Atomic values.Load) answer begun since after at none wrote rest =
-      let done = acted spec spec.object p (starts.Atomic values.Load) answer begun since t.events after kept.promised.moments at wrote in
+  ends p (starts.Atomic values.Load) answer begun since after split none wrote rest =
+      let done = acted spec spec.object p (starts.Atomic values.Load) answer begun since t.events after kept.promised.moments split wrote in
       once_ended spec spec.object p (starts.Atomic values.Load) answer begun since none (λ is. done.0) done.1 rest
-  ends p (starts.Atomic start) answer begun since after at none wrote rest =
+  ends p (starts.Atomic start) answer begun since after split none wrote rest =
       once_ended spec spec.object p (starts.Atomic start) answer begun since none no_call
       (quiet_now spec spec.object p (starts.Atomic start) answer begun since wrote) rest
-  ends p start answer begun since after at none wrote rest = absurd wrote
+  ends p start answer begun since after split none wrote rest = absurd wrote
 
+  -- Where stores and loads run whole, they answer as one value does.
   pub value_answers : AnswersAs (as_value t.world.coding) t.events
   value_answers =
-      let end = rests atomic.promise t.world.capacity (λ e span shut may. may) t.events runs kept.spans Rest
+      let end = rests atomic.promise t.world.capacity (λ e span shut may. may) t.events runs kept.spans AnsweredSoFar
       (mourned spec spec.object) ends (record { legal = refl; stands = refl }) in
       answers_then spec spec.object t.events end.0 end.1 end.2 end.3 end.4

@@ -70,32 +70,38 @@ use Rattle.headline_whole.proofs.Agree.{Agree}
 use Rattle.headline_whole.proofs.Courses.{Course, IsMadeSo, Rules}
 use Rattle.headline_whole.proofs.Flights.{FlightRuns, IsFlight, Turns, AtStop, Talks, talks_once, lift_stop, runs_as, talks_as, alike, twice}
 use Rattle.headline_whole.proofs.Replies.{course}
-use Rattle.headline_whole.proofs.SoloCalls.{Speech, Ends, Speaks, talking, talk_rules}
+use Rattle.headline_whole.proofs.SoloCalls.{Speech, EndsAsObject, Speaks, talking, talk_rules}
 use Rattle.headline_whole.proofs.Decisions.{goes_on, progression, same_decision, same_number, yes_number, yes_of, decision, found_so, asked_so}
 
+-- A robust index set opens with a capacity from 1 to 2 ^ 32 - 1.
 pub admitted : (c : ℕ) → capacity_error kinds.Robust c ≡ None → (1 ≤ c) × (c < 2 ^ 32)
 admitted = grind arith
 
 pub below : (a b : ℕ) → nat_lt a b ≡ true → a < b
-below a b t = grind (arith, nat_tests)
+below a b test = grind (arith, nat_tests)
 
 pub not_past : (a b : ℕ) → nat_le a b ≡ false → b < a
-not_past a b t = grind (arith, nat_tests)
+not_past a b test = grind (arith, nat_tests)
 
+-- Cells that are all empty have no owners.
 no_owner : (n : ℕ) → map owner_in (replicate n empty) ≡ replicate n None
 no_owner zero = refl
 no_owner (suc n) = λ i. None ∷ no_owner n i
 
--- where a call begins only if `b` is true, and one has begun, `b` is true and the flight is that call
+-- Where a call begins only if `b` is true, and some call has begun, `b` is true and that call
+-- is the one that begins.
 pub named_if : {F C : Type 0} (outer : C → F) (call : C) (flight : F) (b : Bool)
     → option_map outer (if b then Some call else None) ≡ Some flight → (b ≡ true) × (outer call ≡ flight)
-named_if outer call flight true e = (refl, cc)
-named_if outer call flight false e = absurd (cc)
+named_if outer call flight true named_is = (refl, cc)
+named_if outer call flight false named_is = absurd (cc)
 
 module _ {T : Type 0} where
+  -- The course of a robust set: the map from index to owner.
   abbrev pub robust_course : ℕ → Course T
   robust_course capacity = course (whole_owners {T = T} capacity)
 
+  -- How the words of a robust set hold its object, the map from index to owner, whatever the
+  -- number of turns.
   abbrev pub robust_speech : (capacity : ℕ) → Speech (robust_course capacity)
   robust_speech capacity = record { Holds = λ turns words. Represents capacity words; read = owners_in }
 
@@ -108,25 +114,30 @@ module _ {T : Type 0} where
   -- ---- each call
 
   module _ (code : Coding T) (capacity turns p : ℕ) (words : List ℕ) (fits : Represents capacity words) where
-    abbrev Whole : RobustStart → Type 0
-    Whole start = FlightRuns code (Answers capacity words start) (flights.Robust (first capacity start)) words
+    -- The call of the robust set, run alone from these words, answers and leaves what the map does.
+    abbrev RunsAsMap : RobustStart → Type 0
+    RunsAsMap start = FlightRuns code (Answers capacity words start) (flights.Robust (first capacity start)) words
 
-    abbrev At : RobustStart → List (Decision T) → Answer T → List ℕ → Type 0
-    At start told answer last = Ends (robust_course capacity) (robust_speech capacity) code (owners_in words) turns p (starts.Robust start) told answer last
+    -- What holds of a robust set's call that has ended: its answer and the words that it leaves
+    -- are those of the map.
+    abbrev EndsRight : RobustStart → List (Decision T) → Answer T → List ℕ → Type 0
+    EndsRight start told answer last =
+        EndsAsObject (robust_course capacity) (robust_speech capacity) code (owners_in words) turns p (starts.Robust start) told answer last
 
-    abbrev Said : RobustStart → Type 0
-    Said start = (n : ℕ) × Talks code (At start) n [] (flights.Robust (first capacity start)) words
+    -- The call, alone from these words, says what the map says, with finitely many questions.
+    abbrev SaysAsMap : RobustStart → Type 0
+    SaysAsMap start = (n : ℕ) × Talks code (EndsRight start) n [] (flights.Robust (first capacity start)) words
 
     -- a call that puts no question says, alone, what the map says
-    speaks : (start : RobustStart) → owners_questions {T = T} (owners_in words) (starts.Robust start) [] ≡ [] → Whole start → Said start
+    speaks : (start : RobustStart) → owners_questions {T = T} (owners_in words) (starts.Robust start) [] ≡ [] → RunsAsMap start → SaysAsMap start
     speaks start none whole = (
       1,
-      talks_once code (At start) (Answers capacity words start) [] (flights.Robust (first capacity start)) words
+      talks_once code (EndsRight start) (Answers capacity words start) [] (flights.Robust (first capacity start)) words
           (λ answer last h. ((λ i. record { questions = sym none i; answer = h.said i }), h.holds, h.object)) whole,
     )
 
     -- an acquire, run alone, answers and leaves what the map does
-    acquires : (owner : ℕ) → owner < empty → Whole (calls.Acquire owner)
+    acquires : (owner : ℕ) → owner < empty → RunsAsMap (calls.Acquire owner)
     acquires owner lives =
         runs_as code acquire_want (λ c given old. acquire_after c old) (λ c (room : Unit {0}) old. room) owner
         (λ c. Unit {0}) (λ c room. flights.Robust (under_way.Acquire (record { call = c; given = owner; room = room }))) (λ e room. acquire_answer e)
@@ -141,7 +152,7 @@ module _ {T : Type 0} where
         (first_acquire capacity) tt words tt (take_at capacity owner owner refl lives (first_acquire capacity) refl words fits)
 
     -- a release, run alone, answers and leaves what the map does
-    releases : (index owner : ℕ) (mode : ReleaseMode) → owner < empty → index < capacity → Whole (calls.Release index owner mode)
+    releases : (index owner : ℕ) (mode : ReleaseMode) → owner < empty → index < capacity → RunsAsMap (calls.Release index owner mode)
     releases index owner mode lives low =
         runs_as code release_want release_after (λ c (room : Unit {0}) old. room) (record { index = index; owner = owner; mode = mode })
         (λ c. Unit {0})
@@ -161,7 +172,7 @@ module _ {T : Type 0} where
         (first_release capacity) tt words tt (give_at capacity index owner mode owner refl lives (first_release capacity) refl words fits low)
 
     -- a count of the indices in use, run alone, answers and leaves what the map does
-    counts : Whole calls.BorrowedIndices
+    counts : RunsAsMap calls.BorrowedIndices
     counts =
         runs_as code (λ (c : BorrowedIndices) (given : Unit {0}). borrowed_want c) (λ c given old. borrowed_after c old) (λ c (room : Unit {0}) old. room) tt
         (λ c. Unit {0}) (λ c room. flights.Robust (under_way.BorrowedIndices (record { call = c; given = tt; room = room }))) (λ e room. answers.Number e)
@@ -176,7 +187,7 @@ module _ {T : Type 0} where
         (first_borrowed capacity) tt words tt (borrowed_at capacity (first_borrowed capacity) refl words fits)
 
     -- a look whether the set is locked, run alone, answers and leaves what the map does
-    looks : Whole calls.IsLocked
+    looks : RunsAsMap calls.IsLocked
     looks =
         runs_as code (λ (c : IsLocked) (given : Unit {0}). load 0) (λ c given old. locked_after c old) (λ c (room : Unit {0}) old. room) tt
         (λ c. Unit {0}) (λ c room. flights.Robust (under_way.IsLocked (record { call = c; given = tt; room = room }))) (λ e room. answers.Truth e)
@@ -193,9 +204,12 @@ module _ {T : Type 0} where
     -- ---- a find
 
     module _ (owner : ℕ) (lives : owner < empty) where
+      -- The decisions after a find has asked about an index (`q`) are those before (`p`) and the
+      -- one on that index.
       abbrev finds : List (Decision T) → ℕ → CallbackProgression → List (Decision T) → Type 0
       finds p index said q = q ≡ p ++ decision (questions.Index index) (goes_on said) ∷ []
 
+      -- The find as a call of the machine.
       abbrev find_flight : Find → Unit {0} → Flight T
       find_flight c room = flights.Robust (under_way.Find (record { call = c; given = owner; room = room }))
 
@@ -211,7 +225,7 @@ module _ {T : Type 0} where
 
       -- a find that has come to its end says what the map says, if it has left the words
       found : (told : List (Decision T)) (n : ℕ) (last : List ℕ) → HasFound finds (objects.indices_of (owners_in words) owner) [] n told
-          → last ≡ words → At (calls.Find owner) told (answers.Number n) last
+          → last ≡ words → EndsRight (calls.Find owner) told (answers.Number n) last
       found told n last has_found same =
           let was = found_so questions.Index finds (λ p index said q e. e) (objects.indices_of (owners_in words) owner) n told has_found in (
             (λ i. record { questions = was.asked i; answer = answers.Number (was.number i) }),
@@ -221,12 +235,13 @@ module _ {T : Type 0} where
 
       module _ (m done : ℕ) (call : Find) (now : List (Decision T)) (ws : List ℕ) (t : Searching finds [] capacity owner words done call now ws)
           (rest : (d : Find) (later : List (Decision T)) (last : List ℕ) → Searching finds [] capacity owner words (done + 1) d later last
-          → Talks code (At (calls.Find owner)) m later (find_flight d tt) last) where
+          → Talks code (EndsRight (calls.Find owner)) m later (find_flight d tt) last) where
+        -- After an answer to its question a find goes on, or it has ended with the number that the map gives.
         further : (a : After Find ℕ) (later : List (Decision T)) (last : List ℕ) → Further finds [] capacity owner words (done + 1) a later last
-            → Turns code (At (calls.Find owner)) (Talks code (At (calls.Find owner)) m) later
+            → Turns code (EndsRight (calls.Find owner)) (Talks code (EndsRight (calls.Find owner)) m) later
             (as_call (λ c. find_flight c tt) (λ e. answers.Number e) a) last
-        further (GoOn d) later last h = rest d later last h
-        further (Done n) later last h = found later n last h.0 h.1
+        further (GoOn d) later last further_on = rest d later last further_on
+        further (Done n) later last further_on = found later n last further_on.0 further_on.1
 
         -- a question of a find is about the index that it names
         find_asks : (start : List ℕ) (question : Question (Unit {0})) (asks : Find) (r : Unit {0}) (last : List ℕ)
@@ -247,7 +262,7 @@ module _ {T : Type 0} where
         -- at each stop a find has ended as the map says, or talks on, whatever is decided
         find_stops : (s : Stop Find ℕ) (r : Unit {0}) (last : List ℕ)
             → StopsAlike (λ (c : Find) (given : ℕ). find_want c) find_after (λ c (room : Unit {0}) old. room) owner call tt ws s r last
-            → AtStop code (At (calls.Find owner)) (Talks code (At (calls.Find owner)) m) now
+            → AtStop code (EndsRight (calls.Find owner)) (Talks code (EndsRight (calls.Find owner)) m) now
             (lift_stop code (λ (c : Find) (given : ℕ). find_want c) find_after (λ c (room : Unit {0}) old. room) owner (λ c. Unit {0})
             find_flight (λ e room. answers.Number e) s r) last
         find_stops (stops.Ended n) r last alone =
@@ -259,27 +274,27 @@ module _ {T : Type 0} where
             (number_of said) (same_number said) (find_after asks owner (number_of said)) refl in
             let told : now ++ decided code (Some (find_flight asks r)) said ≡ later =
             ap (λ w. now ++ decided_at {T = T} None w said) (find_asks words question asks r last t alone) in
-            subst (λ ds. Turns code (At (calls.Find owner)) (Talks code (At (calls.Find owner)) m) ds
+            subst (λ ds. Turns code (EndsRight (calls.Find owner)) (Talks code (EndsRight (calls.Find owner)) m) ds
             (after_of code (find_flight asks r) (number_of said)) last)
             (sym told)
-            (subst (λ a. Turns code (At (calls.Find owner)) (Talks code (At (calls.Find owner)) m) later a last)
+            (subst (λ a. Turns code (EndsRight (calls.Find owner)) (Talks code (EndsRight (calls.Find owner)) m) later a last)
             (sym (find_is.goes asks r (number_of said) tt)) (further (find_after asks owner (number_of said)) later last next))
 
       -- a find that has put `done` questions talks on as the object does, to its end, within `m` more
       find_talks : (m done : ℕ) (call : Find) (now : List (Decision T)) (ws : List ℕ) → done + m ≡ 2 ^ 64 - 1
-          → Searching finds [] capacity owner words done call now ws → Talks code (At (calls.Find owner)) m now (find_flight call tt) ws
+          → Searching finds [] capacity owner words done call now ws → Talks code (EndsRight (calls.Find owner)) m now (find_flight call tt) ws
       find_talks zero done call now ws sum searching =
           let few = find_rounds finds [] capacity owner words done call now ws searching in absurd (omega arith)
       find_talks (suc m) done call now ws sum searching =
           let can = can_go finds [] capacity owner words done call now ws searching in
           talks_as code (λ (c : Find) (given : ℕ). find_want c) find_after (λ c (room : Unit {0}) old. room) owner (λ c. Unit {0})
-          find_flight (λ e room. answers.Number e) find_is (At (calls.Find owner)) m now call tt ws tt can
+          find_flight (λ e room. answers.Number e) find_is (EndsRight (calls.Find owner)) m now call tt ws tt can
           (find_stops m done call now ws searching (λ d later last u. find_talks m (done + 1) d later last (omega arith) u)
           can.stop can.last_room can.last_words
           (alike (λ (c : Find) (given : ℕ). find_want c) find_after (λ c (room : Unit {0}) old. room) owner call tt ws can))
 
       -- a find, alone, says what the map says
-      finds_all : Said (calls.Find owner)
+      finds_all : SaysAsMap (calls.Find owner)
       finds_all = (
         2 ^ 64 - 1,
         find_talks (2 ^ 64 - 1) 0 (first_find capacity) [] words (omega arith)
@@ -289,12 +304,15 @@ module _ {T : Type 0} where
     -- ---- a recovery
 
     module _ (mode : ReleaseMode) where
+      -- The decisions after a recovery has asked about an index (`q`) are those before (`p`) and
+      -- the one on that index.
       abbrev asks : List (Decision T) → ℕ → ℕ → Bool → List (Decision T) → Type 0
       asks p owner index said q = q ≡ p ++ decision (questions.Owned owner index) said ∷ []
 
       abbrev tells : Unit {0} → ℕ → ℕ → Unit {0} → Type 0
       tells p owner index q = Unit {0}
 
+      -- The recovery as a call of the machine.
       abbrev recover_flight : Recover → Unit {0} → Flight T
       recover_flight c room = flights.Robust (under_way.Recover (record { call = c; given = mode; room = room }))
 
@@ -310,7 +328,7 @@ module _ {T : Type 0} where
 
       -- a recovery that has come to its end says what the map says
       gone : (told : List (Decision T)) (state : ReleaseState) (last : List ℕ) → Gone asks tells mode [] tt capacity words state told tt last
-          → At (calls.Recover mode) told (answers.State state) last
+          → EndsRight (calls.Recover mode) told (answers.State state) last
       gone told state last h =
           let was = asked_so (objects.to_recover (owners_in words)) (λ o. questions.Owned o.owner o.index)
           (λ p a q. asks p a.of.owner a.of.index a.yes q) (λ before a rest p q long is e. e) h.calls.asked told h.calls.all h.calls.answers in
@@ -324,11 +342,11 @@ module _ {T : Type 0} where
       module _ (m done : ℕ) (call : Recover) (now : List (Decision T)) (ws : List ℕ)
           (t : Recovering asks tells mode [] tt capacity words done call now tt ws)
           (rest : (d : Recover) (later : List (Decision T)) (last : List ℕ) → Recovering asks tells mode [] tt capacity words (done + 1) d later tt last
-          → Talks code (At (calls.Recover mode)) m later (recover_flight d tt) last) where
+          → Talks code (EndsRight (calls.Recover mode)) m later (recover_flight d tt) last) where
         -- at each stop a recovery has ended as the map says, or talks on, whatever is decided
         recover_stops : (s : Stop Recover ReleaseState) (r : Unit {0}) (last : List ℕ)
             → StopsAlike (λ (c : Recover) (given : ReleaseMode). recover_want c) recover_after (λ c (room : Unit {0}) old. room) mode call tt ws s r last
-            → AtStop code (At (calls.Recover mode)) (Talks code (At (calls.Recover mode)) m) now
+            → AtStop code (EndsRight (calls.Recover mode)) (Talks code (EndsRight (calls.Recover mode)) m) now
             (lift_stop code (λ (c : Recover) (given : ReleaseMode). recover_want c) recover_after (λ c (room : Unit {0}) old. room) mode (λ c. Unit {0})
             recover_flight (λ e room. answers.State e) s r) last
         recover_stops (stops.Ended state) r last alone =
@@ -340,12 +358,12 @@ module _ {T : Type 0} where
             said later tt refl (λ is. tt) (λ is. refl) (if said then 1 else 0) refl (recover_after put mode (if said then 1 else 0)) refl in
             let told : now ++ decided code (Some (recover_flight put r)) said ≡ later =
             ap (λ c. now ++ decided_at {T = T} None (recover_want c) said) at.stands in
-            subst (λ ds. Turns code (At (calls.Recover mode)) (Talks code (At (calls.Recover mode)) m) ds
+            subst (λ ds. Turns code (EndsRight (calls.Recover mode)) (Talks code (EndsRight (calls.Recover mode)) m) ds
             (after_of code (recover_flight put r) (number_of said)) last)
             (sym told)
-            (subst (λ a. Turns code (At (calls.Recover mode)) (Talks code (At (calls.Recover mode)) m) later a last)
+            (subst (λ a. Turns code (EndsRight (calls.Recover mode)) (Talks code (EndsRight (calls.Recover mode)) m) later a last)
             (sym (recover_is.goes put r (number_of said) tt))
-            (subst (λ old. Turns code (At (calls.Recover mode)) (Talks code (At (calls.Recover mode)) m) later
+            (subst (λ old. Turns code (EndsRight (calls.Recover mode)) (Talks code (EndsRight (calls.Recover mode)) m) later
             (as_call (λ c. recover_flight c tt) (λ e. answers.State e) (recover_after put mode old)) last)
             (sym (yes_number said))
             (onward question put last at said later (recover_after put mode (if said then 1 else 0)) next)))
@@ -354,26 +372,26 @@ module _ {T : Type 0} where
             onward : (question : Question (Unit {0})) (put : Recover) (last : List ℕ)
                 (at : AsksAt capacity t.g t.cells t.left question put last) (said : Bool) (later : List (Decision T)) (a : After Recover ReleaseState)
                 → Onward asks tells mode [] tt capacity words done call now tt ws t question put last at at.owner at.index at.asks later tt a
-                → Turns code (At (calls.Recover mode)) (Talks code (At (calls.Recover mode)) m) later
+                → Turns code (EndsRight (calls.Recover mode)) (Talks code (EndsRight (calls.Recover mode)) m) later
                 (as_call (λ c. recover_flight c tt) (λ e. answers.State e) a) last
-            onward question put last at said later (GoOn d) h = rest d later last h
-            onward question put last at said later (Done state) h = absurd h
+            onward question put last at said later (GoOn d) goes_onward = rest d later last goes_onward
+            onward question put last at said later (Done state) goes_onward = absurd goes_onward
 
       -- a recovery that has put `done` questions talks on as the object does, to its end, within `m` more
       recover_talks : (m done : ℕ) (call : Recover) (now : List (Decision T)) (ws : List ℕ) → done + m ≡ 2 ^ 64 - 1
-          → Recovering asks tells mode [] tt capacity words done call now tt ws → Talks code (At (calls.Recover mode)) m now (recover_flight call tt) ws
+          → Recovering asks tells mode [] tt capacity words done call now tt ws → Talks code (EndsRight (calls.Recover mode)) m now (recover_flight call tt) ws
       recover_talks zero done call now ws sum recovering =
           let few = recover_rounds asks tells mode [] tt capacity words fits done call now tt ws recovering in absurd (omega arith)
       recover_talks (suc m) done call now ws sum recovering =
           let can = recover_can asks tells mode [] tt capacity words done call now tt ws recovering in
           talks_as code (λ (c : Recover) (given : ReleaseMode). recover_want c) recover_after (λ c (room : Unit {0}) old. room) mode (λ c. Unit {0})
-          recover_flight (λ e room. answers.State e) recover_is (At (calls.Recover mode)) m now call tt ws tt can
+          recover_flight (λ e room. answers.State e) recover_is (EndsRight (calls.Recover mode)) m now call tt ws tt can
           (recover_stops m done call now ws recovering (λ d later last u. recover_talks m (done + 1) d later last (omega arith) u)
           can.stop can.last_room can.last_words
           (alike (λ (c : Recover) (given : ReleaseMode). recover_want c) recover_after (λ c (room : Unit {0}) old. room) mode call tt ws can))
 
       -- a recovery, alone, says what the map says
-      recovers_all : Said (calls.Recover mode)
+      recovers_all : SaysAsMap (calls.Recover mode)
       recovers_all = (
         2 ^ 64 - 1,
         recover_talks (2 ^ 64 - 1) 0 (first_recover capacity) [] words (omega arith)
@@ -382,16 +400,19 @@ module _ {T : Type 0} where
 
   -- ---- the law
 
+  -- A call of the robust set that is let begin is named as one of its family, and the machine
+  -- keeps who has died.
   has_registry : (capacity p : ℕ) (start : RobustStart) (flight : Flight T) (kept : Registry T) → flights.Robust (first capacity start) ≡ flight
       → first_row (kept_rows capacity start kept p) ≡ None → Agree (starts.Robust start) flight kept
-  has_registry capacity p start flight (registries.Owners dead) is e =
-      subst (λ f. Agree (starts.Robust start) f (registries.Owners dead)) is tt
-  has_registry capacity p start flight kept is e = absurd (cc)
+  has_registry capacity p start flight (registries.Owners dead) flight_is rows_passed =
+      subst (λ f. Agree (starts.Robust start) f (registries.Owners dead)) flight_is tt
+  has_registry capacity p start flight kept flight_is rows_passed = absurd (cc)
 
+  -- A release that is let begin names an index below the capacity.
   low_index : (capacity p index owner : ℕ) (mode : ReleaseMode) (kept : Registry T)
       → first_row (kept_rows capacity (calls.Release index owner mode) kept p) ≡ None → index < capacity
-  low_index capacity p index owner mode (registries.Owners dead) e = let row = row_passed _ _ _ e in not_past capacity index row.0
-  low_index capacity p index owner mode kept e = absurd (cc)
+  low_index capacity p index owner mode (registries.Owners dead) rows_passed = let row = row_passed _ _ _ rows_passed in not_past capacity index row.0
+  low_index capacity p index owner mode kept rows_passed = absurd (cc)
 
   module _ (code : Coding T) (capacity : ℕ) where
     -- each call that the set lets begin says, alone, what the map says
@@ -404,13 +425,13 @@ module _ {T : Type 0} where
         let first_flight = named_if flights.Robust (first capacity start) flight (names_owner start) named in
         let rows = subst (λ n. first_row (kept_rows n start t.world.kept p) ≡ None) made.capacity
         (may_begin t.world p (starts.Robust start) (passes t.world (Begin p (starts.Robust start)) free).on).rows in
-        let talk = subst (λ f. (n : ℕ) × Talks code (Ends (robust_course capacity) (robust_speech capacity) code (owners_in t.world.words)
+        let talk = subst (λ f. (n : ℕ) × Talks code (EndsAsObject (robust_course capacity) (robust_speech capacity) code (owners_in t.world.words)
         t.world.turns p (starts.Robust start)) n [] f t.world.words) first_flight.1 (runs start first_flight.0 rows) in
         (has_registry capacity p start flight t.world.kept first_flight.1 rows, talk.0, talk.1)
       where
         -- it does, whichever call begins
         runs : (s : RobustStart) → names_owner s ≡ true → first_row (kept_rows capacity s t.world.kept p) ≡ None
-            → Said code capacity t.world.turns p t.world.words fits s
+            → SaysAsMap code capacity t.world.turns p t.world.words fits s
         runs (calls.Acquire owner) names rows =
             speaks code capacity t.world.turns p t.world.words fits (calls.Acquire owner) refl
             (acquires code capacity t.world.turns p t.world.words fits owner (below owner empty names))

@@ -9,6 +9,7 @@ module _ {T State : Type 0} (D : Dialogue T State) where
   abbrev requests : List (Request T × Reply T) → List (Request T)
   requests calls = map (λ x. x.0) calls
 
+  -- The replies of these calls, in order.
   abbrev replies : List (Request T × Reply T) → List (Reply T)
   replies calls = map (λ x. x.1) calls
 
@@ -17,6 +18,8 @@ module _ {T State : Type 0} (D : Dialogue T State) where
     pub legal : RepliesAs D calls
     pub stands : stands_after D calls ≡ object
 
+  -- The replies to two lists of calls are those to the first, then those to the second from the
+  -- state after the first.
   replies_more : (s : State) (calls more : List (Request T))
       → replies_from D s (calls ++ more) ≡ replies_from D s calls ++ replies_from D (fold D.after s calls) more
   replies_more s [] more = refl

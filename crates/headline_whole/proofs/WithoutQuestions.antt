@@ -15,7 +15,7 @@ use Rattle.headline_whole.specs.Whole.{answered, AnswersAs}
 use Rattle.headline_whole.proofs.Courses.{NoneEnds, Course, Rules}
 use Rattle.headline_whole.proofs.Flights.{talks_once}
 use Rattle.headline_whole.proofs.Law.{Reading, Answers, Law}
-use Rattle.headline_whole.proofs.SoloCalls.{Speech, Ends, talking, talk_rules}
+use Rattle.headline_whole.proofs.SoloCalls.{Speech, EndsAsObject, talking, talk_rules}
 
 module _ {T State : Type 0} (spec : Specification T State) where
   -- the answers in `events` are those of the object, which is `object` after them
@@ -57,20 +57,20 @@ module _ {T State : Type 0} (spec : Specification T State) where
       -- the cases are whether the call is one of the object's
       go : (b : Bool) → spec.is_call start ≡ b
           → HasAnswered (if b then spec.object.after object start else object) (events ++ (wrote ++ Finished p start answer ∷ []))
-      go true is =
+      go true test =
           let same : answered spec.is_call (events ++ (wrote ++ Finished p start answer ∷ [])) ≡ answered spec.is_call events ++ (start, answer) ∷ [] =
-          grown ∙ ap (λ (b : Bool). answered spec.is_call events ++ ((if b then (start, answer) ∷ [] else []) ++ [])) is in
+          grown ∙ ap (λ (b : Bool). answered spec.is_call events ++ ((if b then (start, answer) ∷ [] else []) ++ [])) test in
           record {
             legal = subst (λ (xs : List (Start T × Answer T)). IsLegal spec.object xs) (sym same)
                 (legal_more spec.object (answered spec.is_call events) ((start, answer) ∷ []) object has_answered.legal has_answered.stands
-                (ap (λ (a : Answer T). a ∷ []) (sym (said is))));
+                (ap (λ (a : Answer T). a ∷ []) (sym (said test))));
             stands = ap (λ (xs : List (Start T × Answer T)). standing spec.object xs) same
                 ∙ standing_more spec.object (answered spec.is_call events) ((start, answer) ∷ []) object
                 (spec.object.after object start) has_answered.stands refl;
           }
-      go false is =
+      go false test =
           let same : answered spec.is_call (events ++ (wrote ++ Finished p start answer ∷ [])) ≡ answered spec.is_call events =
-          grown ∙ (ap (λ (b : Bool). answered spec.is_call events ++ ((if b then (start, answer) ∷ [] else []) ++ [])) is
+          grown ∙ (ap (λ (b : Bool). answered spec.is_call events ++ ((if b then (start, answer) ∷ [] else []) ++ [])) test
           ∙ append-nil (answered spec.is_call events)) in
           record {
             legal = subst (λ (xs : List (Start T × Answer T)). IsLegal spec.object xs) (sym same) has_answered.legal;
@@ -105,7 +105,7 @@ module _ {T : Type 0} (R : Reading T) where
             let so = L.begins t p start flight r made free h named in (
               so.agrees,
               1,
-              talks_once code (Ends course speech code (R.read t.world.words) t.world.turns p start) (Answers R t.world.turns t.world.words start)
+              talks_once code (EndsAsObject course speech code (R.read t.world.words) t.world.turns p start) (Answers R t.world.turns t.world.words start)
                   [] flight t.world.words
                   (λ answer last said. (said.said, said.holds, said.object)) so.runs,
             );

@@ -115,8 +115,7 @@ handed_back = refl
 as_an_overflowing_list : AnswersAs (whole_list queues.Overflow 1) (ran one_word kinds.Overflow 1 2 past_full).events
 as_an_overflowing_list = subst (λ (xs : List (Start ℕ × Answer ℕ)). IsLegal (whole_list queues.Overflow 1).object xs) (sym handed_back) refl
 
--- ---- a value is loaded, stored and loaded
-
+-- Party 0 gets the producer's role, party 1 loads, party 0 stores 7, and party 1 loads again.
 abbrev loaded_and_stored : List (Turn ℕ)
 loaded_and_stored =
     begins 0 (Atomic values.AcquireProducer) 1
@@ -157,8 +156,7 @@ found_in_turn = refl
 as_places : AnswersAs (whole_places 3) (ran one_word kinds.Bits 3 2 set_and_reset).events
 as_places = subst (λ (xs : List (Start ℕ × Answer ℕ)). IsLegal (whole_places 3).object xs) (sym found_in_turn) refl
 
--- ---- a place is counted twice, and once more after a reset
-
+-- Both parties set bit 1, party 0 resets all, and party 1 sets bit 1 again.
 abbrev counted_and_reset : List (Turn ℕ)
 counted_and_reset =
     begins 0 (Bits (bits.Set 1)) 4
@@ -184,8 +182,7 @@ handed_out_again = refl
 as_a_stack : AnswersAs (whole_stack 2) (ran one_word kinds.Indices 2 2 back_and_forth).events
 as_a_stack = subst (λ (xs : List (Start ℕ × Answer ℕ)). IsLegal (whole_stack 2).object xs) (sym handed_out_again) refl
 
--- the last index that is out is given back, and locks the set
-
+-- Party 0 gives its index back in the mode that locks, and party 1 then gets none and finds the set locked.
 abbrev given_back_and_locked : List (Turn ℕ)
 given_back_and_locked =
     begins 0 (Indices Acquire) 4
@@ -349,16 +346,19 @@ peeked_the_newest : AnswersAs {T = ℕ} (whole_list queues.IndexQueue 2)
     → ⊥
 peeked_the_newest legal = let one : ◌≡◌ {A = ℕ} 7 8 = cc in absurd (cc)
 
+-- A list of capacity 1 does not take two pushes.
 overfull : AnswersAs {T = ℕ} (whole_list queues.IndexQueue 1)
     (Finished 0 (Queues (PushIndex 7)) (Truth true) ∷ Finished 0 (Queues (PushIndex 8)) (Truth true) ∷ [])
     → ⊥
 overfull legal = cc
 
+-- A list of capacity 1 that overflows hands a value back at the second push.
 none_handed_back : AnswersAs {T = ℕ} (whole_list queues.Overflow 1)
     (Finished 0 (Queues (PushIndex 7)) PoppedNone ∷ Finished 0 (Queues (PushIndex 8)) PoppedNone ∷ [])
     → ⊥
 none_handed_back legal = cc
 
+-- A load after a store does not answer the value that stood before it.
 loaded_before : AnswersAs (as_value one_word)
     (Finished 0 (Atomic (values.Store 7)) (Truth true) ∷ Finished 1 (Atomic values.Load) (Loaded 0) ∷ [])
     → ⊥
@@ -375,11 +375,13 @@ found_from_the_front : AnswersAs {T = ℕ} (whole_places 3)
     → ⊥
 found_from_the_front legal = let one : ◌≡◌ {A = ℕ} 2 0 = cc in absurd (cc)
 
+-- A second set of a place does not answer that it counted 0.
 counted_not : AnswersAs {T = ℕ} (whole_counts 2)
     (Finished 0 (Bits (bits.Set 1)) (Number 0) ∷ Finished 0 (Bits (bits.Set 1)) (Number 0) ∷ [])
     → ⊥
 counted_not legal = let one : ◌≡◌ {A = ℕ} 1 0 = cc in absurd (cc)
 
+-- A release of the one index that is held, in the mode that locks, does not leave the set unlocked.
 locked_not : AnswersAs {T = ℕ} (whole_stack 2)
     (Finished 0 (Indices Acquire) (Index 0) ∷ Finished 0 (Indices (Release 0 LockIfLastIndex)) (State Unlocked) ∷ [])
     → ⊥
@@ -451,10 +453,10 @@ still_seven is =
 
 -- a list of calls from which one is left out is not that of the run
 left_out : AreFinished {T = ℕ} [] (Begun 0 (Queues Len) ∷ Finished 0 (Queues Len) (Number 0) ∷ []) → ⊥
-left_out is = cc
+left_out are_finished = cc
 
 other_party : AreFinished (a_call 1 (Queues Len) [] [] (Number 0) ∷ []) (Finished 0 (Queues Len) (Number 0) ∷ []) → ⊥
-other_party is = let one : ◌≡◌ {A = ℕ} 1 0 = cc in absurd (cc)
+other_party are_finished = let one : ◌≡◌ {A = ℕ} 1 0 = cc in absurd (cc)
 
 -- ---- calls that run whole, and calls that do not
 

@@ -25,7 +25,8 @@ use Rattle.model.specs.World.{World, Trace, opened, flight_in}
 
 -- ---- a sequential object whose calls put questions
 
--- a call: whose, which, and what its caller decides at its questions, in order
+-- A call of a dialogue: its party, its name with the arguments, and what its caller decides at
+-- its questions, in order.
 pub record Request (T : Type 0) : Type 0 where
   pub party : ℕ
   pub start : Start T
@@ -84,13 +85,14 @@ module _ {T : Type 0} where
   value_shown code (flights.Container (Recover run)) = Some (read_in code run.room)
   value_shown code flight = None
 
-  -- what a call that waits so is told: its question, with the value that it shows, and the decision; else nothing
+  -- What a call that waits at this stage is told by a decision: its question, with the value that it shows, and yes
+  -- or no. A call that waits for none is told nothing.
   abbrev pub decided_at : Option T → Want (Unit {0}) → Bool → List (Decision T)
   decided_at value (wants.Question question) said =
       record { question = showing value question; yes = said } ∷ []
   decided_at value want said = []
 
-  -- a call under way is told yes or no
+  -- What a call under way is told by a decision. Without a call it is nothing.
   abbrev pub decided : Coding T → Option (Flight T) → Bool → List (Decision T)
   decided code None said = []
   decided code (Some flight) said = decided_at (value_shown code flight) (want_of code flight) said
@@ -125,7 +127,7 @@ module _ {T : Type 0} where
             ++ flat_map (finished_in (told_after w turn story.told)) (events_of w turn);
       }
 
-  -- a refused turn leaves the story as it was
+  -- The story after a turn that leads to `new`, or the old one if the turn was refused.
   abbrev pub unless_refused : (old new : Story T) → Option Refusal → Story T
   unless_refused old new None = new
   unless_refused old new (Some refusal) = old

@@ -19,14 +19,15 @@ use Rattle.headline_whole.specs.Dialogues.{RepliesAs, calls_of}
 use Rattle.headline_whole.specs.Objects.{whole_list, whole_places, whole_counts, whole_stack, whole_owners, whole_map}
 use Rattle.headline_whole.specs.Whole.{AnswersAs}
 
--- the kind of machine that runs such a queue
+-- The kind of a machine that runs a queue of this kind.
 abbrev pub kind_of : QueueKind → Kind
 kind_of queues.IndexQueue = kinds.IndexQueue
 kind_of queues.Overflow = kinds.Overflow
 kind_of queues.Queue = kinds.Queue
 
 module _ {T : Type 0} where
-  -- an event gives an index to a party, in a set or a channel, or to an owner, or takes it from its holder
+  -- What an event of this kind of machine does to an index: it gives the index to a party (in the unique index set
+  -- or a channel) or to an owner, or takes it from its holder.
   abbrev pub hand_of : Kind → Event T → Hand
   hand_of kinds.Indices e = claims e
   hand_of kinds.Robust e = grants e
@@ -34,7 +35,8 @@ module _ {T : Type 0} where
   hand_of kinds.Loan e = loans e
   hand_of kind e = Neither
 
-  -- where indices have owners, each that is given back is held by that owner
+  -- If indices have owners: a release or a remove that freed an index was begun where its owner might give it back.
+  -- Of other kinds nothing is asked.
   abbrev pub IsWellFormedFor : Kind → List (Event T) → Type 0
   IsWellFormedFor kinds.Robust events = IsWellFormed events
   IsWellFormedFor kinds.Container events = IsWellFormed events
@@ -46,7 +48,8 @@ module _ {T : Type 0} where
   IsRecovery kinds.Container (starts.Container (containers.Recover owner mode)) = Unit {0}
   IsRecovery kind start = ⊥
 
-  -- the finished calls gave, one after another, the answers of one object
+  -- The finished calls gave, one after another, the answers of the object of this kind. Of a loan channel
+  -- nothing is said.
   abbrev pub AnswersWhole : Kind → (t : Trace T) → IsReached t → Type 0
   AnswersWhole kinds.IndexQueue t r = AnswersAs (whole_list queues.IndexQueue t.world.capacity) t.events
   AnswersWhole kinds.Overflow t r = AnswersAs (whole_list queues.Overflow t.world.capacity) t.events

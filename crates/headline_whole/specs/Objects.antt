@@ -41,7 +41,8 @@ use Rattle.plain.specs.States.{Snapshot}
 use Rattle.plain.specs.Visited as visits
 use Rattle.headline_whole.specs.Dialogues.{Dialogue, showing}
 
--- a handle of a container: all indices past the capacity are one, which has no owner
+-- The handle to an index of a container for an owner. All indices past the capacity have one handle, whose
+-- index nobody fills.
 abbrev pub handle_to : (capacity index owner : ℕ) → ContainerHandle
 handle_to capacity index owner =
     record { index = place_of capacity index; owner = owner; container = 0 }
@@ -83,7 +84,8 @@ module _ {T : Type 0} where
   is_list_call (Queues IsFull) = true
   is_list_call start = false
 
-  -- what a call answers on a list: a peek and the calls on lengths as here, a push and a pop as `list_of` says
+  -- What a call of a queue answers if it runs whole on this list: a peek and the calls on the length as stated
+  -- here, a push and a pop as `list_of` says.
   abbrev pub whole_list_answer : QueueKind → ℕ → List (Item T) → Start T → Answer T
   whole_list_answer kind capacity items (Queues Peek) = answer_of_item (slice_get items 0)
   whole_list_answer kind capacity items (Queues Len) = Number (length items)
@@ -190,7 +192,7 @@ module _ {T : Type 0} where
 
   -- ---- a map from index to owner: an acquire takes the lowest index that has none
 
-  -- the map from index to owner after a call of a robust set whose questions were decided so
+  -- The map from index to owner after a call of a robust set, given what its caller decided at its questions.
   abbrev pub owners_after : Owners → Start T → List Bool → Owners
   owners_after s (Robust (robust.Acquire owner)) decisions = owners.after_acquire s owner
   owners_after s (Robust (robust.Release index owner mode)) decisions =
@@ -234,7 +236,7 @@ module _ {T : Type 0} where
 
   -- ---- a map from index to owner and value
 
-  -- what a find and a recovery ask about: the value that stands at the index
+  -- The question of a find or a recovery about an index: it shows the value that stands at it.
   abbrev pub about : Contents T → ℕ → Question T
   about s index = showing (slice_index_or s.values index None) (questions.Value index tt)
 
@@ -243,7 +245,7 @@ module _ {T : Type 0} where
   map_freed s owner mode decisions =
       visits.one_change (visits.all_freed mode s (agreed (visits.to_ask s owner) decisions))
 
-  -- the contents of a container after a call whose questions were decided so
+  -- The contents of a container after a call, given what its caller decided at its questions.
   abbrev pub map_after : ℕ → Contents T → Start T → List Bool → Contents T
   map_after capacity s (Container (containers.Add value owner)) decisions =
       contents.after_add s owner value

@@ -37,7 +37,8 @@ module _ {T : Type 0} where
   kept_view (registries.Container dead states) p = option_map snapshot_of (state_of p states)
   kept_view kept p = None
 
-  -- after its finished calls the object says what is shown by the kept state of each party that has no look under way
+  -- The state that the machine keeps for a party with no look under way shows what the object says of that party
+  -- after the finished calls.
   abbrev pub ShowsViews : (t : Trace T) → IsReached t → Type 0
   ShowsViews t r =
       (p : ℕ) → is_look (flight_in t.world p) ≡ false

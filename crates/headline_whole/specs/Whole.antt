@@ -28,6 +28,7 @@ module _ {T : Type 0} where
   abbrev pub answered : (Start T → Bool) → List (Event T) → List (Start T × Answer T)
   answered is_call events = flat_map (answer_in is_call) events
 
-  -- call after call, the finished calls of the object gave its answers, from its opening on
+  -- The finished calls of the object, one after another from its opening on, gave the answers
+  -- that the object gives.
   abbrev pub AnswersAs : {State : Type 0} → Specification T State → List (Event T) → Type 0
   AnswersAs spec events = IsLegal spec.object (answered spec.is_call events)

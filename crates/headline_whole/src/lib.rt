@@ -44,10 +44,10 @@ use steps::words::Words;
 /// For every admitted capacity and list of turns, whoever stops where:
 /// - Each finished push, pop, load and store acts at one moment inside it, on one list, which is bounded or overflows, or on
 ///   one value.
-/// - No index has two holders, and none has one once the set is locked. Where indices have owners, this is so of well-formed
-///   runs: no owner's index is given back that he does not hold.
-/// - What a call copies from a container is the element that stands there, whole, in runs in which replaces are well-formed,
-///   too (`IsWellFormedRun`).
+/// - No index has two holders, and none has one once the set is locked. Where indices have owners, this holds of well-formed
+///   runs: no index is given back for an owner that does not hold it.
+/// - What a call copies from a container is the value that stands at the index, whole, in runs in which replaces are
+///   well-formed, too (`IsWellFormedRun`).
 /// - Bits and counts are conserved. Since a reset of all began, each bit that stood then was cleared, and something was taken
 ///   out of each place that counted then.
 /// - A recovery that answers Unlocked has left its owner no index that it was to free: one about which it heard yes, or, in a
@@ -58,12 +58,13 @@ use steps::words::Words;
 /// `IsReached` says that a list of turns leads there from the opening at an admitted capacity; by `runs` each list does. A
 /// refused turn changes nothing.
 ///
-/// A find and a recovery put questions. In a whole run the object says too which these are, and what a call does once its
-/// caller has decided so: there a call comes with its decisions, as the turns of the run made them. By `calls` the calls that
-/// `calls_of` lists are all that ended in a run, in order, each with its party and its answer. A container's object also has
-/// what the state of each party shows: by `states` what the machine keeps as that state shows the same, while the party has no
-/// look under way. By `places` the flags and counts of a machine are those of its object, while no call is under way: after a
-/// `reset_all` none is set. That its closure hears all that stood, ascending, the crate `plain` says.
+/// A find and a recovery put questions. In a whole run, in which each call begins when no other is under way, the object also
+/// says which questions a call puts, and what the call does after the decisions that the turns of the run have made. By
+/// `calls` the calls that `calls_of` lists are all that ended in a run, in order, each with its party and its answer. A
+/// container's object also has what the state of each party shows: by `states` the state that the machine keeps for a party
+/// shows the same, while the party has no look under way. By `places` the flags and counts of a machine are those of its
+/// object, while no call is under way: after a `reset_all` none is set. That the closure of a `reset_all` hears all that stood,
+/// in ascending order, is proved in the crate `plain`.
 pub fn main_theorem<T>()
     ensures runs { (code : Coding T) (kind : Kind) (capacity queue parties : ℕ) (turns : List (Turn T))
         → IsCoding code → capacity_error kind capacity ≡ None → queue_error kind queue ≡ None

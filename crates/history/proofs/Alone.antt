@@ -1,4 +1,5 @@
--- A machine that one party has to itself, of any kind: what it is after the calls of that party, from its opening on.
+-- A machine of any kind with one pass, which makes calls as party 0: which words, turns and events it has
+-- after those calls, from its opening on (`Here`).
 use Rattle.history.proofs.Names.{◌≡◌, ◌≢◌, ℕ, zero, suc, ◌+◌, ◌<◌, Option, Some, None, List, [], ◌∷◌, ◌++◌}
 use Rattle.history.proofs.Names.{slice_index, slice_set, refl, sym, ap, subst, ◌∙◌, append-nil, arith, sum_by}
 use Rattle.history.proofs.Names.{written, Ask, After, GoOn, Answer, Event, Begun, Start, Flight, Kind, Turn, Begin, Next}
@@ -28,15 +29,17 @@ use Rattle.history.proofs.Steps.{settle_with}
 use Rattle.history.proofs.Turns.{KeptLaws, MachineLaws, kept_laws, Between, Turning, Beginning, Going, begun, begun_at, begun_others, begins_free}
 use Rattle.history.proofs.Turns.{more_steps, asked, goes_free, gone, gone_others, goes_to, fresh_now, told, own_told}
 
--- each party is its own seat
+-- each party has a seat of its own
 abbrev pub same_seat : ℕ → ℕ
 same_seat p = p
 
--- a machine of a kind: what its steps write, how many words it has, and what the kind owes
+-- machines of one kind and capacity: what their steps write, how many words they have, and
+-- the laws of the kind
 pub record OneMachine (T : Type 0) : Type 0 where
   pub code : Coding T
   pub kind : Kind
   pub capacity : ℕ
+  -- how many words the machine has, what a step of its calls writes, and the laws of the kind
   pub size : ℕ
   pub effects : World T → ℕ → Flight T → ℕ → List (Event T)
   pub laws : MachineLaws code kind capacity size effects
@@ -44,26 +47,33 @@ pub record OneMachine (T : Type 0) : Type 0 where
 module _ {T : Type 0} (machine : OneMachine T) where
   open machine use {code, kind, capacity, size, effects, laws}
 
+  -- the laws of the kind, as the more general ones
   there_laws : KeptLaws code kind capacity size effects
   there_laws = kept_laws code kind capacity size effects laws
 
+  -- the table with these words and one seat
   abbrev alone : List ℕ → State (Unit {0}) (View T)
   alone words = record { words = words; homes = []; views = first_view capacity ∷ [] }
 
-  -- these turns have led to the machine, which has these words, one more among them, and these events, and the party this call under way
+  -- These turns lead from the opening to a machine that has these words (but the table's last one) and these
+  -- events, and party 0 has this call under way there.
   pub record Here (words : List ℕ) (ts : List (Turn T)) (es : List (Event T)) (going : Option (Start T × Flight T)) : Type 0 where
+    -- the machine, which stands at the table's words
     pub u : Trace T
     pub between : Between code kind capacity same_seat (alone words) 0 0 es u
+    -- the table has one run, of just these turns and events
     pub one : OneRun code kind capacity (first_view capacity ∷ []) u
     pub turns : one.turns ≡ ts
     pub events : u.events ≡ es
+    -- where party 0 stands: its call, no changes of words by others, and the steps of the run are the turns
+    -- that go on with a call
     pub there : call_in u.world 0 ≡ going
     pub others : others_in u.world 0 ≡ 0
     pub steps : steps_of_run code kind capacity one.turns ≡ nexts ts
 
-  -- the machine of these turns, as a turning one
+  -- party 0 of this machine, as one that is to take a turn
   abbrev turning : {words : List ℕ} {ts : List (Turn T)} {es : List (Event T)} {going : Option (Start T × Flight T)} → Here words ts es going → Turning T
-  turning {words} {ts} {es} h =
+  turning {words} {ts} {es} here =
       record {
         code = code;
         kind = kind;
@@ -76,17 +86,19 @@ module _ {T : Type 0} (machine : OneMachine T) where
         id = 0;
         p = 0;
         gained = es;
-        u = h.u;
-        b = h.between;
+        u = here.u;
+        b = here.between;
       }
 
-  -- a machine that has just been opened is here, with no turn and no event
+  -- a machine that has just been opened has no turn, no event and no call under way
   pub opens_here : IsCoding code → capacity_error kind capacity ≡ None → Here ((opening_of kind).words code.size capacity ++ 0 ∷ []) [] [] None
   opens_here coded admitted =
       let trace_now : Trace T = worlds.opening code kind capacity 0 in
       let known = known_alone (first_view capacity) refl refl in
       record {
+        -- the machine is the opening, and the one run is that of no turns
         u = trace_now;
+        -- no party has done anything, and nobody has a call under way
         between =
             record {
               run = record {
@@ -120,23 +132,27 @@ module _ {T : Type 0} (machine : OneMachine T) where
         steps = refl;
       }
     where
+      -- the first pass knows no turn
       knew : (j : ℕ) (v : View T) → get_elem? (first_view capacity ∷ []) j ≡ some v → Knew [] v
-      knew zero v e = subst (λ z. Knew [] z) (some-injective (first_view capacity) v e) (record { mine = first_none []; theirs = first_none [] })
-      knew (suc j) v e = absurd (some-ne-none v (sym e))
+      knew zero v has_view = subst (λ z. Knew [] z) (some-injective (first_view capacity) v has_view) (record { mine = first_none []; theirs = first_none [] })
+      knew (suc j) v has_view = absurd (some-ne-none v (sym has_view))
 
+      -- the run of the opening, with no turn
       first_run : OneRun code kind capacity (first_view capacity ∷ []) (worlds.opening code kind capacity 0)
       first_run = one_opens code kind capacity (first_view capacity ∷ []) knew
 
+      -- the table has no second seat
       other : (j : ℕ) (v : View T) → j ≢ 0 → get_elem? (first_view capacity ∷ []) j ≡ some v → ⊥
-      other zero v ne at = ne refl
-      other (suc j) v ne at = some-ne-none v (sym at)
+      other zero v ne has_view = ne refl
+      other (suc j) v ne has_view = some-ne-none v (sym has_view)
 
+      -- the first pass has made nothing, as its parties have written nothing
       made_own : (v : View T) → get_elem? (first_view capacity ∷ []) 0 ≡ some v → (f : Event T → ℕ) → sum_by f v.made + 0 ≡ 0
       made_own = grind (arith, some-injective)
 
   -- ---- a call begins
 
-  -- a pass that has made these events
+  -- the view of the only pass, which has made all events
   abbrev pub maker : List (Turn T) → List (Event T) → View T
   maker ts es =
       record {
@@ -156,21 +172,22 @@ module _ {T : Type 0} (machine : OneMachine T) where
         others = 0;
       }
 
+  -- by every measure, what the only pass has made are the events of its parties
   pub sums : (words : List ℕ) (ts : List (Turn T)) (es : List (Event T)) (going : Option (Start T × Flight T))
       → (h : Here words ts es going) → (f : Event T → ℕ)
       → sum_by f (maker ts es).made ≡ sum_by (owned same_seat 0 f) h.u.events
   sums words ts es going h f = omega (arith, h.between.made_own (first_view capacity) refl f)
 
-  -- a call that the model admits here begins, for the only seat
+  -- a call that the model does not refuse begins, as the call of party 0
   pub begins : {C M E : Type 0} (call : Calling T C M E) (c : C) (m : M) (words : List ℕ) (ts : List (Turn T)) (es : List (Event T))
       → (h : Here words ts es None) → Starts code kind call (maker ts es) c m h.u same_seat 0
       → Here words (ts ++ Begin 0 call.start ∷ []) (es ++ Begun 0 call.start ∷ []) (Some (call.start, call.flight c m))
-  begins call c m words ts es h s =
-      let is : s.party ≡ 0 = s.mine in
+  begins call c m words ts es h starts =
+      let is : starts.party ≡ 0 = starts.mine in
       let may : first_row (rows_as kind capacity h.u.world.kept 0 call.start) ≡ None =
-      subst (λ p. first_row (rows_as kind capacity h.u.world.kept p call.start) ≡ None) is s.may in
+      subst (λ p. first_row (rows_as kind capacity h.u.world.kept p call.start) ≡ None) is starts.may in
       let beginning : Beginning T =
-      record { turning = turning h; start = call.start; flight = call.flight c m; idle = h.there; first = s.first; may = may } in
+      record { turning = turning h; start = call.start; flight = call.flight c m; idle = h.there; first = starts.first; may = may } in
       record {
         u = after_turn h.u (Begin 0 call.start);
         between = begun beginning;
@@ -183,33 +200,39 @@ module _ {T : Type 0} (machine : OneMachine T) where
             ∙ (ap (λ n. n + 0) h.steps ∙ sym (nexts_begin ts 0 call.start));
       }
 
-  -- ---- it takes a step
+  -- ---- the call takes a step
 
   module _ (words : List ℕ) (ts : List (Turn T)) (es : List (Event T)) (start : Start T) (flight : Flight T)
       (h : Here words ts es (Some (start, flight))) (a : Ask) (low : a.word < size)
       (asks : want_of code flight ≡ wants.Ask a) (finds : IsFreshCall (slice_index words a.word) flight) where
+    -- the number that the word has
     abbrev found : ℕ
     found = slice_index words a.word
 
+    -- the step, as one of party 0
     abbrev step : Going T
     step = record { turning = turning h; start = start; flight = flight; ask = Some a; low = low; at = h.there; asks = asks; finds = finds }
 
+    -- where the step leads the call
     abbrev comes : After (Flight T) (Answer T)
     comes = after_of code flight found
 
+    -- the machine's call goes there, whatever the machine keeps
     comes_there : goes_of code 0 flight found h.u.world.kept ≡ comes
     comes_there = grind arith
 
+    -- with the end of the call the step wrote just its own events and that end
     ends_so : (own : List (Event T))
         → own ++ ending_of 0 start (answer_in (goes_of code 0 flight found h.u.world.kept)) ≡ own ++ ending_of 0 start (answer_in comes)
     ends_so = grind arith
 
-    -- it wrote this, all of it its own
+    -- `own` is what the step writes, all of it of party 0
     module _ (own : List (Event T)) (is : effects h.u.world 0 flight found ≡ own) (only : AreOf 0 own) where
+      -- what the step writes: its effects, and the end of the call where it ends
       abbrev wrote : List (Event T)
       wrote = own ++ ending_of 0 start (answer_in comes)
 
-      -- after a step of the call the machine has its word changed, one turn more and what the step wrote
+      -- after a step of the call the machine has its word changed, one turn more, and what the step wrote
       took : Here (slice_set words a.word (written a.op found)) (ts ++ Next 0 ∷ []) (es ++ wrote) (call_then start comes)
       took =
           let tells : events_of h.u.world (Next 0) ≡ wrote =
@@ -237,32 +260,32 @@ module _ {T : Type 0} (machine : OneMachine T) where
                 ∙ (ap (λ n. n + 1) h.steps ∙ sym (nexts_next ts 0));
           }
 
-    -- it goes on, and tells nothing
+    -- a step with which the call goes on and writes nothing changes the word, and adds one turn
     pub goes_on : (words' : List ℕ) (next : Flight T) → slice_set words a.word (written a.op found) ≡ words'
         → comes ≡ GoOn next → effects h.u.world 0 flight found ≡ [] → Here words' (ts ++ Next 0 ∷ []) es (Some (start, next))
-    goes_on words' next same is none =
-        let quiet : es ++ wrote [] none tt ≡ es = ap (λ (r : After (Flight T) (Answer T)). es ++ ending_of 0 start (answer_in r)) is ∙ append-nil es in
-        subst (λ o. Here words' (ts ++ Next 0 ∷ []) es o) (ap (call_then start) is)
+    goes_on words' next same leads none =
+        let quiet : es ++ wrote [] none tt ≡ es = ap (λ (r : After (Flight T) (Answer T)). es ++ ending_of 0 start (answer_in r)) leads ∙ append-nil es in
+        subst (λ o. Here words' (ts ++ Next 0 ∷ []) es o) (ap (call_then start) leads)
         (subst (λ zs. Here words' (ts ++ Next 0 ∷ []) zs (call_then start comes)) quiet
         (subst (λ ws. Here ws (ts ++ Next 0 ∷ []) (es ++ wrote [] none tt) (call_then start comes)) same (took [] none tt)))
 
-    -- it ends
+    -- a step with which the call ends writes its own events and its end, and leaves no call under way
     pub ends : (words' : List ℕ) (answer : Answer T) (own : List (Event T))
         → slice_set words a.word (written a.op found) ≡ words' → comes ≡ Done answer
         → effects h.u.world 0 flight found ≡ own → AreOf 0 own
         → Here words' (ts ++ Next 0 ∷ []) (es ++ (own ++ ending_of 0 start (Some answer))) None
-    ends words' answer own same is wrote_own only =
+    ends words' answer own same leads wrote_own only =
         let last : List (Event T) = own ++ ending_of 0 start (Some answer) in
-        let all : wrote own wrote_own only ≡ last = ap (λ (r : After (Flight T) (Answer T)). own ++ ending_of 0 start (answer_in r)) is in
-        subst (λ o. Here words' (ts ++ Next 0 ∷ []) (es ++ last) o) (ap (call_then start) is)
+        let all : wrote own wrote_own only ≡ last = ap (λ (r : After (Flight T) (Answer T)). own ++ ending_of 0 start (answer_in r)) leads in
+        subst (λ o. Here words' (ts ++ Next 0 ∷ []) (es ++ last) o) (ap (call_then start) leads)
         (subst (λ zs. Here words' (ts ++ Next 0 ∷ []) (es ++ zs) (call_then start comes)) all
         (subst (λ ws. Here ws (ts ++ Next 0 ∷ []) (es ++ wrote own wrote_own only) (call_then start comes)) same (took own wrote_own only)))
 
-  -- it has asked for each step that has been taken
+  -- the only pass has asked for just the steps of its turns
   all_of : (ts : List (Turn T)) (es : List (Event T)) → HasAsked (maker ts es) (nexts ts)
   all_of ts es = record { share = (omega arith, omega arith); most = omega arith; all = λ whole. omega arith }
 
-  -- the view of the only pass gains all the turns and events so far
+  -- the view of the only pass gains all turns and events from the opening on
   gains_so : (words : List ℕ) (ts : List (Turn T)) (es : List (Event T)) → (h : Here words ts es None)
       → Gains (first_view {T = T} capacity ∷ []) (first_view {T = T} capacity) (nexts ts) 0 (steps_of_run code kind capacity h.one.turns)
   gains_so words ts es h =
@@ -275,16 +298,16 @@ module _ {T : Type 0} (machine : OneMachine T) where
         own = omega arith;
       }
 
-  -- what the pass knows then is the run of these turns
+  -- the only pass knows the run of these turns
   pub knows_so : (words : List ℕ) (ts : List (Turn T)) (es : List (Event T)) → Here words ts es None → Knows code kind capacity (maker ts es)
   knows_so words ts es here =
       knows_all code kind capacity (first_view capacity ∷ []) here.u (maker ts es) here.one here.between.run
       (sym here.turns) (sym here.events) (sym here.others)
       (subst (λ n. HasAsked (maker ts es) n) (sym here.steps) (all_of ts es))
 
-  -- ---- a table opens so
+  -- ---- a table opens with this machine
 
-  -- a table whose words and view are those of the machine here holds a machine
+  -- a table whose words are those of the machine, and whose one view is that of its only pass, holds the rule
   pub opens_so : (words : List ℕ) (ts : List (Turn T)) (es : List (Event T)) → Here words ts es None
       → IsMachine code kind capacity (opening words [] (maker ts es))
   opens_so words ts es here =
@@ -298,8 +321,8 @@ module _ {T : Type 0} (machine : OneMachine T) where
       (λ call is. (let no : ◌≡◌ {A = Option (Start T × Flight T)} None (Some call) = sym here.there ∙ is in absurd (cc)))
       here.between here.one (gains_so words ts es here))
     where
-      -- the view of the only pass with these turns and events, this call under way, this state and
-      -- so many changes by others
+      -- the view of the only pass, with a call under way, a state and a number of changes by others that its
+      -- fields take over
       so : List (Turn T) → List (Event T) → Option (Start T × Flight T) → Option (ContainerState T) → ℕ → View T
       so xs zs o z n =
           record {

@@ -1,4 +1,5 @@
--- How the calls on the roles and the lengths of a queue begin, of any kind of queue.
+-- The calls on the roles and the lengths of a queue begin in the same way on each kind of queue: bounded,
+-- overflowing, of indices or of values.
 use Rattle.history.proofs.Names.{inl, ◌≡◌, ℕ, ◌<◌, ◌≤◌, false, Option, Some, None, List, [], refl, subst, arith}
 use Rattle.history.proofs.Names.{Producer, Consumer, first_len, Event, Queues, Flight, Registry}
 use Rattle.history.proofs.Names.{QueueKind, Roles, LengthOf, Coding, first_of, opening_of, machine_kind}
@@ -11,33 +12,37 @@ use Rattle.history.specs.Stages.{At}
 use Rattle.history.proofs.Drives.{Driven, IsCallBy}
 use Rattle.history.proofs.Queues.{plain_starts, role_starts}
 
--- a call of a structure is one of a structure with more words
+-- a call on a structure is one on a structure with more words
 pub wider : {T C M E : Type 0} (code : Coding T) (effects : ℕ → Flight T → ℕ → List (Event T)) (some more : ℕ → ℕ)
     (driven : Driven T C M E) → ((n : ℕ) → some n ≤ more n) → IsCallBy code effects some driven → IsCallBy code effects more driven
 wider = grind arith
 
 module _ {T : Type 0} where
+  -- the model begins an acquire of a role at its only stage, on each kind of queue
   acquire_is : (kd : QueueKind) (r : Role) (c : ℕ) (m : Unit {0}) (kept : Registry T)
       → ◌≡◌ {A = Option (Flight T)} (first_of (machine_kind kd) c (Queues (acquire_start r)) kept)
       (Some ((takes_role r).flight (record { word = role_word r }) m))
   acquire_is = grind arith
 
+  -- the model begins a release of a role at its only stage, on each kind of queue
   release_is : (kd : QueueKind) (r : Role) (c : ℕ) (m : Unit {0}) (kept : Registry T)
       → ◌≡◌ {A = Option (Flight T)} (first_of (machine_kind kd) c (Queues (release_start r)) kept)
       (Some ((gives_role r).flight (record { word = role_word r }) m))
   release_is = grind arith
 
+  -- the model begins a look at a role at its only stage, on each kind of queue
   look_is : (kd : QueueKind) (r : Role) (c : ℕ) (m : Unit {0}) (kept : Registry T)
       → ◌≡◌ {A = Option (Flight T)} (first_of (machine_kind kd) c (Queues (look_start r)) kept)
       (Some ((looks_role r).flight (record { word = role_word r }) m))
   look_is = grind arith
 
+  -- the model begins a call on lengths as one that counts what waits, on each kind of queue
   len_is : (kd : QueueKind) (which : LengthOf) (c : ℕ) (m : Unit {0}) (kept : Registry T)
       → ◌≡◌ {A = Option (Flight T)} (first_of (machine_kind kd) c (Queues (length_start which)) kept)
       (Some ((counts_waiting which c).flight (first_len c) m))
   len_is = grind arith
 
--- ---- who lacks no role for it
+-- ---- the calls on roles and lengths begin: no party lacks a role for them
 
 acquire_lacks : (T : Type 0) (r : Role) (roles : Roles) (p : ℕ) → lacks_role {T = T} roles p (acquire_start r) ≡ false
 acquire_lacks T Producer roles p = refl
@@ -103,7 +108,7 @@ module _ {T : Type 0} (code : Coding T) (kd : QueueKind) (x : View T) (m : Unit 
         wrote = λ p. refl;
       })
 
-  -- the first step of a length
+  -- a call on lengths begins on a pass with no call under way
   pub len_first_on : (which : LengthOf) (size : ℕ) → x.capacity ≡ size → At code (machine_kind kd) (counts_waiting which size) x x (first_len size) m
   len_first_on which size same =
       subst (λ n. At code (machine_kind kd) (counts_waiting which n) x x (first_len n) m) same

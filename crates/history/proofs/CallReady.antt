@@ -18,38 +18,46 @@ use Rattle.history.proofs.Turns.{Machines, Between, Beginning, at_first, begun, 
 use Rattle.history.proofs.Asked.{asked_at}
 use Rattle.history.proofs.CallsIn.{no_rest, same_rest, none_after, Prior}
 
+-- lists put together in one order of brackets are the same in another
 moved_in : {A : Type 0} → (xs os ds rest : List A) → (xs ++ (os ++ (ds ++ []))) ++ rest ≡ xs ++ (os ++ (ds ++ rest))
 moved_in xs os ds rest =
     append_assoc xs (os ++ (ds ++ [])) rest
     ∙ ap (λ zs. xs ++ zs) (append_assoc os (ds ++ []) rest ∙ ap (λ zs. os ++ zs) (ap (λ zs. zs ++ rest) (append-nil ds)))
 
+-- adding 0 changes no number
 none_more : {a b : ℕ} → a ≡ b + 0 → b ≡ a
-none_more e = omega arith
+none_more a_is = omega arith
 
 module _ {T C M E : Type 0} (code : Coding T) (kind : Kind) (call : Calling T C M E) where
+  -- the capacity stays
   pub same_capacity : (base v : View T) (c : C) (m : M) → At code kind call base v c m → v.capacity ≡ base.capacity
   same_capacity = grind arith
 
+  -- the turns that were known as the drive began are the first of those that are known now
   pub came_first : (base v : View T) (c : C) (m : M) → At code kind call base v c m → AreFirst base.turns v.turns
   came_first base v c m (inl first) = subst (λ (z : View T). AreFirst base.turns z.turns) (sym first.is) (first_all base.turns)
   came_first base v c m (inr under) = under.ran.first
 
+  -- the share stays
   pub same_share : (base v : View T) (c : C) (m : M) → At code kind call base v c m → v.share ≡ base.share
   same_share = grind arith
 
+  -- the pass has a share
   pub some_share : (base v : View T) (c : C) (m : M) → At code kind call base v c m → 0 < v.share.part
   some_share = grind arith
 
+  -- what holds of the call between two steps holds
   pub still_stands : (base v : View T) (c : C) (m : M) → At code kind call base v c m → call.stands base.capacity c
   still_stands = grind arith
 
-  -- what was asked for since the drive began is no more than its call has taken
+  -- since the drive began at most the steps of its call were asked for
   pub asked_so : (base v : View T) (c : C) (m : M) → At code kind call base v c m
       → v.asked + taken_by base.going base.taken ≤ base.asked + taken_by v.going v.taken
   asked_so base v c m (inl first) =
       subst (λ (z : View T). z.asked + taken_by base.going base.taken ≤ base.asked + taken_by z.going z.taken) (sym first.is)
       (as_much (base.asked + taken_by base.going base.taken))
     where
+      -- a number is at most itself
       as_much : (n : ℕ) → n ≤ n
       as_much n = omega arith
   asked_so base v c m (inr under) =
@@ -59,47 +67,57 @@ module _ {T C M E : Type 0} (code : Coding T) (kind : Kind) (call : Calling T C 
 module _ {T C M E : Type 0} (machines : Machines T) (call : Calling T C M E) where
   open machines use {code, kind, effects, size_of, laws}
 
-  -- this is where the call stands in the view
-  abbrev Stage : View T → View T → C → M → Type 0
-  Stage base v c m = At code kind call base v c m
+  -- the call is about to begin, or under way, in the view v
+  abbrev CallStands : View T → View T → C → M → Type 0
+  CallStands base v c m = At code kind call base v c m
 
   -- ---- the machine, before the step
 
-  -- what it wrote, as far as the seat had seen it, and what another wrote for it since
+  -- what the call wrote as far as the seat has seen it (`wrote`), what another wrote for it since (`late`),
+  -- and what had happened as the drive began
   pub record Told_by (p : ℕ) (c : C) (m : M) (base : View T) (events made : List (Event T)) : Type 0 where
     pub wrote : List (Event T)
+    -- the call may have written that up to this stage, and the rest may come late for it
     pub tells : call.wrote base.capacity p base.going c m wrote
     pub late : List (Event T)
     pub waits : IsLate kind (Some (call.start, call.flight c m)) late
     pub prior : Prior p call.start (wrote ++ late) base events made
 
-  -- what is kept where it has just begun
+  -- what the machine keeps where the call has just begun
   pub record Began (key p : ℕ) (v : View T) (now : Registry T) : Type 0 where
     pub t : Trace T
     pub run : IsRun code kind key t
     pub kept : now ≡ kept_after_begin code key call.start p t.world.kept
     pub stated : v.party ≡ Some p → state_in t.world.kept p ≡ v.state
 
-  -- the seat goes on as this one of its parties
+  -- The machine before a step of the seat's call, whose begin is made first where the call is about to begin:
+  -- party p has the call there, at this stage.
   pub record Ready (s : State (Unit {0}) (View T)) (v : View T) (key id : ℕ) (c : C) (m : M) : Type 0 where
+    -- the party, the owner of each party, what the seat has still to see, and the machine
     pub p : ℕ
     pub owner : ℕ → ℕ
     pub gained : List (Event T)
     pub u : Trace T
     pub between : Between code kind key owner s id p gained u
+    -- the call stands at this stage, the party may make it, and it has written what it may
+    -- have written up to there
     pub there : call_in u.world p ≡ Some (call.start, call.flight c m)
-    pub by : (base : View T) → Stage base v c m → call.by base.party p
-    pub prior : (base : View T) → Stage base v c m → Told_by p c m base u.events (v.made ++ gained)
+    pub by : (base : View T) → CallStands base v c m → call.by base.party p
+    pub prior : (base : View T) → CallStands base v c m → Told_by p c m base u.events (v.made ++ gained)
+    -- the steps of the call in the machine are those that the view counts, none where it has just begun
     pub counted : steps_in u.world p ≡ taken_by v.going v.taken
     pub began : v.going ≡ None → Began key p v u.world.kept
+    -- where the call was under way already, it was the call of the pass's party, whose
+    -- state the machine keeps
     pub held : v.going ≡ Some (call.start, call.flight c m) → state_in u.world.kept p ≡ v.state
     pub as_party : v.going ≡ Some (call.start, call.flight c m) → v.party ≡ Some p
+    -- a call that is no look of a state finds the state that the view has
     pub state : LeavesState call → v.party ≡ Some p → state_in u.world.kept p ≡ v.state
     -- no step has been taken since
     pub have : HaveAsked s.views (steps_of_run code kind key between.one.turns)
     pub has : HasAsked v (steps_of_run code kind key between.one.turns)
 
-  -- a seat whose call takes its next step
+  -- a seat whose call is about to take its next step
   pub record Seat : Type 0 where
     pub s : State (Unit {0}) (View T)
     pub v : View T  -- what the seat knows
@@ -115,50 +133,59 @@ module _ {T C M E : Type 0} (machines : Machines T) (call : Calling T C M E) whe
   -- m; r: the table is a machine
   module _ (s : State (Unit {0}) (View T)) (v : View T) (key id : ℕ) (c : C) (m : M) (r : IsMachine code kind key s)
       (at : get_elem? s.views id ≡ some v) (known : v.capacity ≡ key) where
+    -- the seat fits the machine of the table
     here : Fits r.owner r.trace id v
     here = r.seats id v at
 
-    -- who has the whole has seen all
+    -- a pass with the whole share has seen all events
     nothing_else : IsAll v.share → v.other ≡ [] → here.seen.rest ≡ []
     nothing_else all alone =
         ⊎_elim (λ (e : v.seen ≡ r.trace.events). no_rest v.seen here.seen.rest (e ∙ here.seen.is))
         (λ (e : v.other ≡ r.trace.events). none_after v.seen here.seen.rest (sym (sym here.seen.is ∙ (sym e ∙ alone))))
         (known_whole s.views r.trace.events id v at all r.known)
 
-    -- who has a share has seen all of its own, but for what another wrote for it
+    -- a pass with a share has seen all events of its parties, but for what is late
     not_seen : (p : ℕ) → events_by p v.seen ++ events_by p here.late ≡ events_by p r.trace.events → events_by p here.seen.rest ≡ events_by p here.late
     not_seen = grind (arith, same_rest, by_more)
 
+    -- if nothing is late, the seat's parties wrote nothing that the seat has not seen
     nothing_own : 0 < v.share.part → v.other ≡ [] → here.late ≡ [] → (p : ℕ) → r.owner p ≡ id → events_by p here.seen.rest ≡ []
     nothing_own = grind (arith, not_seen, nil_right, by_more)
 
+    -- what the seat has asked for is counted right
     pub has_asked : HasAsked v (steps_of_run code kind key r.one.turns)
     has_asked = asked_at s.views (steps_of_run code kind key r.one.turns) id v at r.known.shares r.asked
 
+    -- what is late may come late for the seat's call
     late_here : IsLate kind v.going here.late
     late_here = subst (λ k. IsLate k v.going here.late) r.run.of_kind here.waits
 
+    -- nothing is late for a seat without a call under way
     none_late_here : v.going ≡ None → here.late ≡ []
     none_late_here = grind arith
 
-    first_prior : (p : ℕ) → r.owner p ≡ id → (base : View T) → v.going ≡ None → Stage base v c m
+    -- of a call that is about to begin: with its begin the party has written nothing else
+    first_prior : (p : ℕ) → r.owner p ≡ id → (base : View T) → v.going ≡ None → CallStands base v c m
         → Told_by p c m base (r.trace.events ++ Begun p call.start ∷ []) (v.made ++ Begun p call.start ∷ [])
     first_prior = grind (arith, opened, none_late, append-nil, nothing_else, nothing_own, some_share code kind call, none_late_here)
 
-    -- the party of a call under way has seen all of its own, but what is late
+    -- the party of a call under way has seen all its events, but for what is late
     late_own : (p : ℕ) → r.owner p ≡ id → v.party ≡ Some p → v.going ≡ Some (call.start, call.flight c m)
         → 0 < v.share.part → events_by p here.seen.rest ≡ here.late
     late_own = grind (arith, not_seen, by_party)
 
-    -- of a call under way: its party has written what the call tells and what another wrote for
-    -- it, and nothing else since it began
+    -- of a call under way: since it began, or since the drive began, its party has written what the call
+    -- tells and what is late, and nothing else
     later_prior : (p : ℕ) → r.owner p ≡ id → v.party ≡ Some p → (base : View T)
-        → v.going ≡ Some (call.start, call.flight c m) → Stage base v c m
+        → v.going ≡ Some (call.start, call.flight c m) → CallStands base v c m
         → Told_by p c m base r.trace.events (v.made ++ here.late)
+    -- the call was about to begin: then the view has no call under way, against `going`
     later_prior p mine party base going (inl first) =
         let no : ◌≡◌ {A = Option (Start T × Flight T)} None (Some (call.start, call.flight c m)) =
         sym first.idle ∙ (ap (λ (z : View T). z.going) (sym first.is) ∙ going) in
         absurd (cc)
+    -- the call was under way: the events that the seat has still to see come behind those
+    -- since the drive began
     later_prior p mine party base going (inr k) =
         let both : ◌≡◌ {A = Option ℕ} (Some k.party) (Some p) = sym k.mine ∙ party in
         let same : k.party ≡ p = cc in
@@ -171,12 +198,14 @@ module _ {T C M E : Type 0} (machines : Machines T) (call : Calling T C M E) whe
           prior = record {
             others = k.since.others;
             during = k.since.during ++ here.seen.rest;
+            -- what was seen in `base`, what others did, and what happened since, with the events still to see
             is =
                 here.seen.is
                 ∙ (ap (λ es. es ++ here.seen.rest) k.since.is
                 ∙ moved_in (base.seen ++ k.since.others) (opened k.party call.start base.going) k.since.during here.seen.rest);
             alone = k.since.alone;
             others_own = k.since.others_own;
+            -- of the events still to see, those of the party are the late ones
             during_own =
                 by_more k.party k.since.during here.seen.rest
                 ∙ (ap (λ es. es ++ events_by k.party here.seen.rest) k.since.during_own
@@ -186,18 +215,21 @@ module _ {T C M E : Type 0} (machines : Machines T) (call : Calling T C M E) whe
           };
         })
 
-    -- the pass had this party as the call began
-    first_by : (p : ℕ) → call.by v.party p → (base : View T) → v.going ≡ None → Stage base v c m → call.by base.party p
+    -- the party is one as which the pass may make the call
+    first_by : (p : ℕ) → call.by v.party p → (base : View T) → v.going ≡ None → CallStands base v c m → call.by base.party p
     first_by = grind arith
 
-    later_by : (p : ℕ) → v.party ≡ Some p → (base : View T) → v.going ≡ Some (call.start, call.flight c m) → Stage base v c m → call.by base.party p
+    -- the party of a call under way is one as which the pass may make it
+    later_by : (p : ℕ) → v.party ≡ Some p → (base : View T) → v.going ≡ Some (call.start, call.flight c m) → CallStands base v c m → call.by base.party p
     later_by = grind arith
 
-    -- the machine of the table is ready for the step
-    pub ready : (base : View T) → Stage base v c m → Ready s v key id c m
+    -- the machine of the table is ready for the step, after the call's begin where it has not begun
+    pub ready : (base : View T) → CallStands base v c m → Ready s v key id c m
+    -- the call is about to begin: its begin is made first, on the table's machine
     ready base (inl first) =
         let none : v.going ≡ None = ap (λ (z : View T). z.going) first.is ∙ first.idle in
         let size : base.capacity ≡ key = ap (λ (z : View T). z.capacity) (sym first.is) ∙ known in
+        -- what the seat made, by every measure, is what its parties wrote, since nothing is late for it
         let self : r.owner id ≡ id = here.self (some_share code kind call base v c m (inl first)) in
         let own_made : (f : Event T → ℕ) → sum_by f v.made ≡ sum_by (owned r.owner id f) r.trace.events =
         λ f. (let no : sum_by f here.late ≡ 0 = ap (sum_by f) (none_late_here none) in omega (arith, here.made f)) in
@@ -205,6 +237,8 @@ module _ {T C M E : Type 0} (machines : Machines T) (call : Calling T C M E) whe
         let parties : IfSome base.party (λ p. r.owner p ≡ id) = subst (λ (z : View T). IfSome z.party (λ p. r.owner p ≡ id)) first.is here.party in
         let sums : (f : Event T → ℕ) → sum_by f base.made ≡ sum_by (owned r.owner id f) r.trace.events =
         subst (λ (z : View T). (f : Event T → ℕ) → sum_by f z.made ≡ sum_by (owned r.owner id f) r.trace.events) first.is own_made in
+        -- so a party of the seat may begin the call on this machine, and no call of the seat's
+        -- parties is under way
         let starts : Starts code kind call base c m r.trace r.owner id = first.starts r.trace r.owner id run self parties sums in
         let p = starts.party in
         let idle : (q : ℕ) → r.owner q ≡ id → call_in r.trace.world q ≡ None = idle_seat r.owner r.trace id v none here in
@@ -212,11 +246,13 @@ module _ {T C M E : Type 0} (machines : Machines T) (call : Calling T C M E) whe
         subst (λ n. first_of kind n call.start r.trace.world.kept ≡ Some (call.flight c m)) size starts.first in
         let may : first_row (rows_as kind key r.trace.world.kept p call.start) ≡ None =
         subst (λ n. first_row (rows_as kind n r.trace.world.kept p call.start) ≡ None) size starts.may in
+        -- before the begin the machine stands at the table's words, and the seat has gained nothing
         let before : Between code kind key r.owner s id p [] r.trace =
         at_first code kind key s id p r [] starts.mine self (λ q of_id ne. idle q of_id)
         (λ u there f.
         (let same : sum_by f u.made ≡ sum_by f v.made = ap (λ (z : View T). sum_by f z.made) (some-injective u v (sym there ∙ at)) in
         omega (arith, own_made f))) in
+        -- the begin of the call by this party, which the machine does not refuse
         let beginning : Beginning T =
         record {
           turning = turning_at (laws key) before;
@@ -226,6 +262,7 @@ module _ {T C M E : Type 0} (machines : Machines T) (call : Calling T C M E) whe
           first = is_first;
           may = may;
         } in
+        -- after the begin the call stands at its first stage, with no step taken
         record {
           p = p;
           owner = r.owner;
@@ -242,14 +279,17 @@ module _ {T C M E : Type 0} (machines : Machines T) (call : Calling T C M E) whe
             kept = begun_kept beginning;
             stated = λ is. here.stated p starts.mine is;
           };
+          -- no call was under way before, so nothing has to hold of one that was
           held = λ has. (let no : ◌≡◌ {A = Option (Start T × Flight T)} None (Some (call.start, call.flight c m)) = sym none ∙ has in absurd (cc));
           as_party = λ has. (let no : ◌≡◌ {A = Option (Start T × Flight T)} None (Some (call.start, call.flight c m)) = sym none ∙ has in absurd (cc));
           state = λ leaves is. (laws key).states r.trace (Begin p call.start) r.run (begun beginning).run (begins_free beginning)
               p (begins_no_look r.trace.world p call.start leaves.start)
               ∙ here.stated p starts.mine is;
+          -- the begin is no operation, so what the seats asked for stays
           have = subst (λ n. HaveAsked s.views n) (none_more (begun_took beginning)) r.asked;
           has = subst (λ n. HasAsked v n) (none_more (begun_took beginning)) has_asked;
         }
+    -- the call is under way: the table's machine is ready as it is
     ready base (inr under) =
         let p = under.party in
         let mine : r.owner p ≡ id = subst (λ (o : Option ℕ). IfSome o (λ q. r.owner q ≡ id)) under.mine here.party in
@@ -258,6 +298,7 @@ module _ {T C M E : Type 0} (machines : Machines T) (call : Calling T C M E) whe
           owner = r.owner;
           gained = here.late;
           u = r.trace;
+          -- the seat has still to see what is late for its party's call
           between =
               at_first code kind key s id p r here.late mine (here.self under.some)
               (λ q of_id ne. here.idle q of_id

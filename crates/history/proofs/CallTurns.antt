@@ -27,10 +27,12 @@ use Rattle.history.proofs.CallReady.{same_capacity, came_first, same_share, some
 module _ {T C M E : Type 0} (machines : Machines T) (call : Calling T C M E) where
   open machines use {code, kind, effects, size_of, laws}
 
-  abbrev Stage : View T → View T → C → M → Type 0
-  Stage base v c m = At code kind call base v c m
+  -- the call is about to begin, or under way, in the view v
+  abbrev CallStands : View T → View T → C → M → Type 0
+  CallStands base v c m = At code kind call base v c m
 
-  -- the call is later by what a turn of its party wrote, and by its end
+  -- From the view `base` on, the call has come further by what a turn of its party wrote, and by its end,
+  -- where the turn ends it.
   pub since_turn : (turns : List (Turn T)) (asked aside p id : ℕ) (turn : Turn T) (u : Trace T) (v base : View T) (gained wrote effs last : List (Event T))
       → Prior p call.start wrote base u.events (v.made ++ gained) → events_of u.world turn ≡ effs ++ last
       → events_by p (events_of u.world turn) ≡ events_by p effs ++ last
@@ -54,18 +56,20 @@ module _ {T C M E : Type 0} (machines : Machines T) (call : Calling T C M E) whe
 
   -- ---- what the step tells
 
-  -- the next step of a seat's call, which may ask for a word
+  -- the next step of a seat's call, which asks for a word of the structure, or for none
   pub record Stepping : Type 0 where
     pub seat : Seat machines call
     pub ask : Option Ask
+    -- the word is one of the structure, and the call asks for it
     pub low : IfSome ask (λ a. a.word < size_of seat.key)
     pub asks_it : want_of code (call.flight seat.c seat.m) ≡ want_for ask
+    -- no push finds the last position, and no store the last version
     pub finds : IsFreshCall (at_ask seat.s.words ask) (call.flight seat.c seat.m)
 
   module _ (step : Stepping) where
     open step use {seat.{s, v, key, id, c, m, at, known, y}, ask, low, asks_it, finds}
 
-    -- what the machine is after the turn
+    -- the party's call as one that is to take this step
     abbrev turn_next : Going T
     turn_next =
         record {
@@ -79,39 +83,48 @@ module _ {T C M E : Type 0} (machines : Machines T) (call : Calling T C M E) whe
           finds = finds;
         }
 
+    -- what stands in the word that the call asks for
     abbrev pub found : ℕ
     found = at_ask s.words ask
 
+    -- the flight at which the call stands
     abbrev flight_now : Flight T
     flight_now = call.flight c m
 
-    -- how it goes on, by what is kept
+    -- where the step leads the call, by what the machine keeps
     abbrev pub comes_now : After (Flight T) (Answer T)
     comes_now = goes_of code y.p flight_now found y.u.world.kept
 
+    -- the machine after the step
     abbrev pub then_trace : Trace T
     then_trace = after_turn y.u (Next y.p)
 
+    -- what the seat has gained with the step
     abbrev pub then_gained : List (Event T)
     then_gained = y.gained ++ events_by y.p (events_of y.u.world (Next y.p))
 
+    -- after the step the machine stands at the table's words, and the seat has gained the step's events
     pub next_between : Between code kind key y.owner
         (record { words = words_after s.words ask; homes = s.homes; views = s.views }) id y.p then_gained then_trace
     next_between = gone turn_next
 
+    -- the machine keeps what the step of the call makes of it
     pub kept_now : then_trace.world.kept ≡ (step_in y.u.world y.p (stands y.u.world y.p call.start flight_now y.there).x flight_now found).kept
     kept_now = kept_then turn_next
 
+    -- after the step the party's call stands where the step leads it, or has ended
     going_then : call_in then_trace.world y.p ≡ call_then call.start (comes_now)
     going_then = goes_to turn_next
 
-    run_then : (base : View T) → Stage base v c m → IsRun code kind base.capacity then_trace
+    -- the machine after the step is a run
+    run_then : (base : View T) → CallStands base v c m → IsRun code kind base.capacity then_trace
     run_then = grind (arith, same_capacity, next_between)
 
+    -- the view of the seat after the step
     abbrev pub view_then : View T
     view_then = view_after code kind key id y.p next_between.one.turns (v.asked + 1) (v.aside + none_count ask) v then_gained then_trace
 
-    -- it is one operation, and one step where the call asks for a word
+    -- the step is one operation, and one step of the run where the call asks for a word
     pub gains_then : Gains s.views v (v.asked + 1) (v.aside + none_count ask) (steps_of_run code kind key next_between.one.turns)
     unfolding next_between
     gains_then =
@@ -124,30 +137,33 @@ module _ {T C M E : Type 0} (machines : Machines T) (call : Calling T C M E) whe
           own = one_or_none v.asked v.aside ask;
         }
 
+    -- what the seat has asked for is still counted right
     has_then : HasAsked view_then (steps_of_run code kind key next_between.one.turns)
     has_then = gains_has s.views v view_then (steps_of_run code kind key next_between.one.turns) gains_then refl
 
-    one_then : (base : View T) → Stage base v c m → then_trace ≡ run_of code kind base.capacity next_between.one.turns
+    -- the machine after the step is that of the run which the seat knows then
+    one_then : (base : View T) → CallStands base v c m → then_trace ≡ run_of code kind base.capacity next_between.one.turns
     one_then base stage =
         next_between.one.is
         ∙ ap (λ n. run_of code kind n next_between.one.turns) (sym known ∙ same_capacity code kind call base v c m stage)
 
-    -- the run that the seat knew goes on to this one
-    ran_then : (base : View T) → Stage base v c m → Continues code kind base.capacity base view_then
+    -- the run that was known as the drive began goes on to the run with this step
+    ran_then : (base : View T) → CallStands base v c m → Continues code kind base.capacity base view_then
     ran_then base stage =
         subst (λ n. Continues code kind n base view_then) (sym known ∙ same_capacity code kind call base v c m stage)
         (continues_further code kind key base v view_then (came_first code kind call base v c m stage)
         (continues_all code kind key s.views then_trace id v view_then next_between.one at next_between.run refl refl refl has_then))
 
-    -- what it writes now, and of its own
+    -- the effects of the step
     abbrev effs : List (Event T)
     effs = effects y.u.world y.p flight_now found
 
+    -- the effects of the step that are of the call's own party
     abbrev mine_now : List (Event T)
     mine_now = events_by y.p effs
 
-    -- the turn has met the call's word, whose number it found
-    met : (base : View T) (stage : Stage base v c m)
+    -- the step finds the word's number, on a machine on which the call stands at this stage
+    met : (base : View T) (stage : CallStands base v c m)
         → Met code kind base.capacity call.start flight_now y.p base.going
         ((y.prior base stage).wrote ++ (y.prior base stage).late) found y.u
     met base stage =
@@ -165,7 +181,8 @@ module _ {T C M E : Type 0} (machines : Machines T) (call : Calling T C M E) whe
               ∙ ap (fold own_after (Open call.start [])) before.prior.during_own);
         }
 
-    -- it is later by what the step wrote, and by its end
+    -- from `base` on, the call has come further by what the step wrote, and by its end,
+    -- where the step ends it
     since_then : (base : View T) (wrote last : List (Event T))
         → Prior y.p call.start wrote base y.u.events (v.made ++ y.gained)
         → ending_of y.p call.start (answer_in (comes_now)) ≡ last
@@ -179,45 +196,49 @@ module _ {T C M E : Type 0} (machines : Machines T) (call : Calling T C M E) whe
         in
         since_turn next_between.one.turns (v.asked + 1) (v.aside + none_count ask) y.p id (Next y.p) y.u v base y.gained wrote effs last prior told_now own_now
 
+    -- the step adds one to the call's steps where it asks for a word
     steps_then : steps_in then_trace.world y.p ≡ steps_in y.u.world y.p + step_count ask
     steps_then = gone_steps turn_next
 
-    -- each operation was a step of the call
-    pub asked_then : step_count ask ≡ 1 → (base : View T) → Stage base v c m → StepsOnly base view_then
+    -- each operation since `base` was a step of the call
+    pub asked_then : step_count ask ≡ 1 → (base : View T) → CallStands base v c m → StepsOnly base view_then
     asked_then one base stage =
         let counted : steps_in y.u.world y.p ≡ taken_by v.going v.taken = y.counted in
         let more : steps_in then_trace.world y.p ≡ steps_in y.u.world y.p + step_count ask = steps_then in
         omega (arith, asked_so code kind call base v c m stage)
 
-    -- who has the whole has made all of it
-    all_then : (base : View T) → Stage base v c m → IsAll base.share → (f : Event T → ℕ) → sum_by f view_then.seen ≡ sum_by f view_then.made
+    -- a pass with the whole share has made all that it has seen
+    all_then : (base : View T) → CallStands base v c m → IsAll base.share → (f : Event T → ℕ) → sum_by f view_then.seen ≡ sum_by f view_then.made
     all_then base stage all f =
         made_between code kind key y.owner id y.p then_gained then_trace
         (record { words = words_after s.words ask; homes = s.homes; views = s.views }) next_between v at
         (subst IsAll (sym (same_share code kind call base v c m stage)) all) f
 
+    -- what the pass has made are the events of its parties
     parties_then : IsOfParties view_then
     parties_then = record { owner = y.owner; seat = id; sums = λ f. sum_by-append f v.made then_gained ∙ next_between.made_own v at f }
 
-    -- its party has the state that it had
-    party_now : (base : View T) → Stage base v c m → base.party ≡ Some y.p → v.party ≡ Some y.p
+    -- the party of the pass is the one that it was as the drive began
+    party_now : (base : View T) → CallStands base v c m → base.party ≡ Some y.p → v.party ≡ Some y.p
     party_now = grind arith
 
-    state_now : (base : View T) → Stage base v c m → LeavesState call → base.party ≡ Some y.p → v.state ≡ base.state
+    -- until now the call left the state of its party
+    state_now : (base : View T) → CallStands base v c m → LeavesState call → base.party ≡ Some y.p → v.state ≡ base.state
     state_now = grind arith
 
-    -- nothing refuses the step
+    -- the machine does not refuse the step
     free_then : refusal_as kind y.u.world (Next y.p) ≡ None
     free_then = next_as kind y.u.world y.p (goes_free turn_next)
 
-    state_then : (base : View T) → Stage base v c m → LeavesState call → base.party ≡ Some y.p → view_then.state ≡ base.state
+    -- the step of a call that is no look of a state leaves the party's state
+    state_then : (base : View T) → CallStands base v c m → LeavesState call → base.party ≡ Some y.p → view_then.state ≡ base.state
     state_then base stage leaves was =
         (laws key).states y.u (Next y.p) y.between.run next_between.run
         free_then y.p (next_no_look y.u.world y.p call.start flight_now y.there (leaves.flight c m))
         ∙ (y.state leaves (party_now base stage was) ∙ state_now base stage leaves was)
 
-    -- where it ends the call, it is the last turn of what is seen then
-    last_then : (base : View T) → Stage base v c m → (end : Event T) → ending_of y.p call.start (answer_in (comes_now)) ≡ end ∷ []
+    -- where the step ends the call, it is the last turn of the history, and wrote the response
+    last_then : (base : View T) → CallStands base v c m → (end : Event T) → ending_of y.p call.start (answer_in (comes_now)) ≡ end ∷ []
         → LastStep code kind base.capacity y.p end view_then.seen
     last_then base stage end ends =
         record {
@@ -230,13 +251,13 @@ module _ {T C M E : Type 0} (machines : Machines T) (call : Calling T C M E) whe
           is = refl;
         }
 
-    -- nothing was aside that was not before
-    aside_then : (base : View T) → Stage base v c m → v.aside ≡ base.aside
+    -- no operation is aside that was not before
+    aside_then : (base : View T) → CallStands base v c m → v.aside ≡ base.aside
     aside_then base (inl first) = ap (λ (z : View T). z.aside) first.is
     aside_then base (inr under) = under.aside
 
-    -- the call goes on
-    pub goes_then : (base : View T) (stage : Stage base v c m) (d : C) (m' : M)
+    -- where the step leads to another stage, the call is under way there
+    pub goes_then : (base : View T) (stage : CallStands base v c m) (d : C) (m' : M)
         → comes_now ≡ GoOn (call.flight d m') → call.stands base.capacity d → ((n : ℕ) → call.skips d n ≡ false)
         → ((es late : List (Event T)) → call.wrote base.capacity y.p base.going c m es
         → IsLate kind (Some (call.start, flight_now)) late
@@ -246,10 +267,12 @@ module _ {T C M E : Type 0} (machines : Machines T) (call : Calling T C M E) whe
     goes_then base stage d m' afters standing past tells steps word =
         let before = y.prior base stage in
         record {
+          -- the step changes neither capacity nor share, and the call stands at its next stage
           capacity = same_capacity code kind call base v c m stage;
           share = same_share code kind call base v c m stage;
           some = some_share code kind call base v c m stage;
           standing = standing;
+          -- the call is this party's, and the machine's call stands at that stage
           party = y.p;
           mine = refl;
           same = y.by base stage;
@@ -259,20 +282,23 @@ module _ {T C M E : Type 0} (machines : Machines T) (call : Calling T C M E) whe
           asked = steps;
           aside = omega (arith, aside_then base stage);
           alone = refl;
+          -- the call has written what it had, what came late for it, and the effects of this step
           wrote = (before.wrote ++ before.late) ++ mine_now;
           tells = tells before.wrote before.late before.tells before.waits (met base stage);
           since =
               since_then base (before.wrote ++ before.late) [] before.prior
               (ap (λ (a : After (Flight T) (Answer T)). ending_of y.p call.start (answer_in a)) afters);
+          -- what is seen is the history of the machine after the step
           history = record { trace = then_trace; run = run_then base stage; is = refl };
           ran = ran_then base stage;
           stood = record { trace = then_trace; run = run_then base stage; is = refl; there = going_then ∙ ap (call_then call.start) afters };
+          -- who has the whole share has made all that is seen
           all = all_then base stage;
           parties = parties_then;
         }
 
-    -- the call ends
-    pub ends_then : (base : View T) (stage : Stage base v c m) (end : E) (m' : M) → comes_now ≡ Done (call.answer end m')
+    -- where the step ends the call, it has ended with this end
+    pub ends_then : (base : View T) (stage : CallStands base v c m) (end : E) (m' : M) → comes_now ≡ Done (call.answer end m')
         → ((es late : List (Event T)) → call.wrote base.capacity y.p base.going c m es
         → IsLate kind (Some (call.start, flight_now)) late
         → Met code kind base.capacity call.start flight_now y.p base.going (es ++ late) found y.u
@@ -281,16 +307,20 @@ module _ {T C M E : Type 0} (machines : Machines T) (call : Calling T C M E) whe
     ends_then base stage end m' afters tells took =
         let before = y.prior base stage in
         record {
+          -- the step changes neither capacity nor share, and the call is this party's
           capacity = same_capacity code kind call base v c m stage;
           share = same_share code kind call base v c m stage;
           party = y.p;
           mine = refl;
           same = y.by base stage;
           alone = refl;
+          -- no call is under way any more
           idle = going_then ∙ ap (call_then call.start) afters;
           state = state_then base stage;
+          -- the call has written what it had, what came late for it, and the effects of this step
           wrote = (before.wrote ++ before.late) ++ mine_now;
           tells = tells before.wrote before.late before.tells before.waits (met base stage);
+          -- its response is the last event that is seen
           since =
               since_then base (before.wrote ++ before.late) (Finished y.p call.start (call.answer end m') ∷ [])
               before.prior (ap (λ (a : After (Flight T) (Answer T)). ending_of y.p call.start (answer_in a)) afters);
@@ -298,6 +328,7 @@ module _ {T C M E : Type 0} (machines : Machines T) (call : Calling T C M E) whe
           ran = ran_then base stage;
           last = last_then base stage (Finished y.p call.start (call.answer end m'))
               (ap (λ (a : After (Flight T) (Answer T)). ending_of y.p call.start (answer_in a)) afters);
+          -- in the run that is known then, this call is the party's latest one
           named =
               subst (λ (t : Trace T). started (party_of y.p t.world.latest) ≡ Some call.start) (one_then base stage)
               (gone_named turn_next);

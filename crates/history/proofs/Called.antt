@@ -1,4 +1,5 @@
--- What a caller knows of a whole call.
+-- A call that has ended (`Ends`) is told to the caller as a whole call (`Called`), and a call under way may
+-- be told of from where it stands.
 use Rattle.std.proofs.Common.{arith}
 use Rattle.history.proofs.Names.{◌≡◌, inl, inr, ℕ, ◌+◌, ◌≤◌, Option, Some, None, [], ◌++◌, refl, sym, ap, subst, ◌∙◌}
 use Rattle.history.proofs.Names.{append-nil, Start, Flight, Kind, Coding, IsAll}
@@ -7,19 +8,21 @@ use Rattle.history.specs.History.{IsHistory, Knows, HasStood, Called}
 use Rattle.history.proofs.OneRun.{first_all}
 use Rattle.history.specs.Stages.{Calling, opened, taken_by, At, Ends}
 
+-- a number is at most itself
 as_much : (n : ℕ) → n ≤ n
 as_much n = omega arith
 
 module _ {T C M E : Type 0} (code : Coding T) (kind : Kind) (call : Calling T C M E) where
-  -- where no call was under way before it, it began
+  -- a call that had not begun in `base` and has ended is a whole call, from `base` on
   pub called : (base w : View T) (e : E) (m : M) → base.going ≡ None → (ends : Ends code kind call base e m w)
       → Called ends.party call.start (call.answer e m) ends.wrote base w
   called = grind arith
 
-  -- a call may be told of from where it stands as well
+  -- a call under way may be told of from its own view too: it has written nothing since
   pub at_itself : (base v : View T) (c : C) (m : M) → ((p : ℕ) → call.by (Some p) p)
       → ((n p : ℕ) → call.wrote n p (Some (call.start, call.flight c m)) c m []) → At code kind call base v c m
       → At code kind call v v c m
+  -- the call is about to begin: the view is still `base`
   at_itself base v c m own none (inl first) =
       subst (λ z. At code kind call z z c m) (sym first.is) (inl (record {
         is = refl;
@@ -31,6 +34,7 @@ module _ {T C M E : Type 0} (code : Coding T) (kind : Kind) (call : Calling T C 
         starts = first.starts;
         wrote = first.wrote;
       }))
+  -- the call is under way: counted from the view itself, it has written nothing and taken no step
   at_itself base v c m own none (inr under) =
       let opens : opened under.party call.start v.going ≡ [] = ap (opened under.party call.start) under.going in
       inr (record {

@@ -1,4 +1,5 @@
--- That a remove of the container, and its looks at its set, are calls of the model.
+-- The lengths, the look at the lock and the removes of containers are calls of the model, each step of which
+-- keeps the rule of the table.
 use Rattle.history.proofs.Names.{Bool, ◌≡◌, inl, ℕ, ◌+◌, ◌<◌, ◌≤◌, ◌==◌, nat_lt, true, None, List, [], ◌++◌}
 use Rattle.history.proofs.Names.{append-nil, refl, sym, ap, subst, arith, nat_tests, change_word, count_word}
 use Rattle.history.proofs.Names.{total_words, first_borrowed, borrowed_want, empty, count_after, Released}
@@ -36,29 +37,36 @@ use Rattle.history.proofs.RobustParts.{count_found, count_asks, count_on}
 pub set_words : (capacity size : ℕ) → capacity + 1 ≤ total_words capacity size
 set_words capacity size = omega arith
 
+-- the word of the number of changes is one of the container's
 pub change_low : (capacity size : ℕ) → change_word capacity < total_words capacity size
 change_low capacity size = omega arith
 
+-- the word of an element's number is one of the container's
 pub count_low : (capacity size index : ℕ) → index < capacity → count_word capacity index < total_words capacity size
 count_low capacity size index low = omega arith
 
+-- an index below the capacity has its own place
 pub place_is : (capacity index : ℕ) → index < capacity → place_of capacity index ≡ index
 place_is = grind arith
 
 -- ---- looks at the set
 
 module _ {T : Type 0} (code : Coding T) (which : CountOf) where
+  -- the model's count goes on as the driver's does
   as_counted : (r : After Counting ℕ) → as_call flights.Container (λ (answer : Answer T). answer)
       (as_call (λ run. calls.Count which run) (counted which) (went_on as_it_is tt tt r)) ≡ goes (counts_values {T = T} which) r tt
   as_counted (GoOn d) = refl
   as_counted (Done n) = refl
 
+  -- a count, as the driver makes it
   abbrev pub count_driven : Driven T Counting (Unit {0}) ℕ
   count_driven = record { want = borrowed_want; after = borrowed_after; kept = λ c m n. m; call = counts_values which }
 
+  -- a count is a call of the model
   count_call : IsCallBy code (plain_effects code) (container_words code) count_driven
   count_call = grind (arith, as_counted, count_found, counts_so, count_after, count_on, fewer, set_words, count_asks)
 
+  -- each step of a count keeps the rule of the table
   pub container_count_keeps : KeepsEnds code kinds.Container (container_words code) count_driven
   container_count_keeps = container_keeps code count_driven (λ c m. tt) count_call (λ c n. refl)
 
@@ -66,26 +74,31 @@ module _ {T : Type 0} (code : Coding T) (which : CountOf) where
   count_named counts.Len = refl
   count_named counts.IsEmpty = refl
 
+  -- the first stage of a count is that of the model's call
   count_flies : (w : CountOf) (capacity : ℕ) (m : Unit {0})
       → flights.Container (first_call capacity (count_start {T = T} w)) ≡ (counts_values w).flight (first_borrowed capacity) m
   count_flies counts.Len capacity m = refl
   count_flies counts.IsEmpty capacity m = refl
 
+  -- a count begins on a pass with no call under way
   pub container_count_first : (v : View T) (m : Unit {0}) → v.going ≡ None → v.other ≡ [] → 0 < v.share.part
       → At code kinds.Container (counts_values which) v v (first_borrowed v.capacity) m
   container_count_first = grind (arith, count_named, count_flies, inl, container_first, container_starts)
 
 module _ {T : Type 0} (code : Coding T) where
+  -- a look at the lock, as the driver makes it
   abbrev pub lock_driven : Driven T Looking (Unit {0}) Bool
   lock_driven = record { want = λ c. load 0; after = locked_after; kept = λ c m n. m; call = sees_lock }
 
+  -- a look at the lock is a call of the model
   lock_call : IsCallBy code (plain_effects code) (container_words code) lock_driven
   lock_call = grind arith
 
+  -- each step of a look at the lock keeps the rule of the table
   pub container_lock_keeps : KeepsEnds code kinds.Container (container_words code) lock_driven
   container_lock_keeps = container_keeps code lock_driven (λ c m. tt) lock_call (λ c n. refl)
 
-  -- a look at the lock begins, on a pass that rests
+  -- a look at the lock begins on a pass with no call under way
   pub container_lock_first : (v : View T) (c : Looking) (m : Unit {0}) → v.going ≡ None → v.other ≡ [] → 0 < v.share.part
       → At code kinds.Container sees_lock v v c m
   container_lock_first v c m idle alone any =
@@ -102,52 +115,56 @@ module _ {T : Type 0} (code : Coding T) where
 
 -- ---- remove
 
+-- what a remove hears of an operation is what the word was before it
 remove_found : (capacity : ℕ) (stage : RemoveStage) (given : GiveBack) (a : Ask) (n : ℕ) → remove_asks capacity stage given ≡ wants.Ask a → answered a.op n ≡ n
 remove_found = grind arith
 
--- a removal asks for a word of the container at each stage
+-- at each stage a remove asks for a word of the container
 remove_words : (capacity size : ℕ) (stage : RemoveStage) (given : GiveBack) → given.index < capacity → RemoveIn capacity given.mode stage
     → AsksFor (total_words capacity size) (remove_asks capacity stage given)
-remove_words capacity size removes.Refuses given low h = absurd h
-remove_words capacity size removes.LoadsCount given low h = (_, count_low capacity size given.index low, refl)
-remove_words capacity size (removes.Releases count stage) given low h = grind (arith, fewer, set_words, release_words)
-remove_words capacity size (removes.Hides count state) given low h = (_, count_low capacity size given.index low, refl)
-remove_words capacity size (removes.AddsChange state) given low h = (_, change_low capacity size, refl)
+remove_words capacity size removes.Refuses given low remove_in = absurd remove_in
+remove_words capacity size removes.LoadsCount given low remove_in = (_, count_low capacity size given.index low, refl)
+remove_words capacity size (removes.Releases count stage) given low remove_in = grind (arith, fewer, set_words, release_words)
+remove_words capacity size (removes.Hides count state) given low remove_in = (_, count_low capacity size given.index low, refl)
+remove_words capacity size (removes.AddsChange state) given low remove_in = (_, change_low capacity size, refl)
 
--- where it goes on, and what it has written then
+-- where a remove goes on after a step, and what it has written then
 module _ (T : Type 0) (capacity : ℕ) (c : Removing) (same : c.capacity ≡ capacity) (p : ℕ) (given : GiveBack) (low : given.index < capacity) where
+  -- after a step a remove stands within the container, or has ended, with what it has written
   abbrev RemoveGoes : List (Event T) → After Removing Removed → Type 0
   RemoveGoes es (GoOn d) = (removes_value {T = T} given).stands capacity d × RemovedAt p given d.stage es
   RemoveGoes es (Done e) = HasRemoved p given e es
 
+  -- after a step of its release a remove has written what the release has
   released : (count : ℕ) (stage : ReleaseStage) (es : List (Event T)) (r : After Releasing Released)
       → ReleaseGoes T capacity (inner_release c.capacity stage) same p given low es r → RemoveGoes es (remove_released c count r)
   released = grind arith
 
-  -- what a removal has written after a step, where it goes on or ends
+  -- after each step a remove has written what its stage or its end tells
   removes_so : (stage : RemoveStage) (k : ℕ) (es : List (Event T)) → RemoveIn capacity given.mode stage → RemovedAt p given stage es
       → RemoveGoes (es ++ remove_effects p given stage k) (remove_takes c stage given k)
-  removes_so removes.Refuses k es h at = absurd h
-  removes_so removes.LoadsCount k es h at = ((same, low, tt), ap (λ zs. zs ++ []) at)
-  removes_so (removes.Releases count stage) k es h at =
+  removes_so removes.Refuses k es remove_in removed_at = absurd remove_in
+  removes_so removes.LoadsCount k es remove_in removed_at = ((same, low, tt), ap (λ zs. zs ++ []) removed_at)
+  removes_so (removes.Releases count stage) k es remove_in removed_at =
       released count stage _ (release_takes (inner_release c.capacity stage) stage given k)
       (subst (λ zs. ReleaseGoes T capacity (inner_release c.capacity stage) same p given low
       (zs ++ release_effects p given stage k)
-      (release_takes (inner_release c.capacity stage) stage given k)) (sym at)
-      (gives_so T capacity (inner_release c.capacity stage) same p given low stage k h))
-  removes_so (removes.Hides count state) k es h at = ((same, low, tt), (es, at, (k == count, refl)))
-  removes_so (removes.AddsChange state) k es h at = subst (HasRemovedIt p given state) (sym (append-nil es)) at
+      (release_takes (inner_release c.capacity stage) stage given k)) (sym removed_at)
+      (gives_so T capacity (inner_release c.capacity stage) same p given low stage k remove_in))
+  removes_so (removes.Hides count state) k es remove_in removed_at = ((same, low, tt), (es, removed_at, (k == count, refl)))
+  removes_so (removes.AddsChange state) k es remove_in removed_at = subst (HasRemovedIt p given state) (sym (append-nil es)) removed_at
 
 module _ {T : Type 0} (code : Coding T) (given : GiveBack) where
   abbrev after : Removing → ℕ → After Removing Removed
   after c n = remove_after c given n
 
+  -- the model's remove goes on as the driver's does
   as_removed : (r : After Removing Removed) → as_call flights.Container (λ (answer : Answer T). answer)
       (as_call calls.Remove removed (went_on as_it_is given tt r)) ≡ goes (removes_value {T = T} given) r tt
   as_removed (GoOn d) = refl
   as_removed (Done e) = refl
 
-  -- a step puts no question
+  -- with the effects of its step, what a remove has written; a remove puts no question
   abbrev written : ℕ → Removing → ℕ → List (Event T)
   written p c n = remove_effects p given c.stage n ++ []
 
@@ -159,10 +176,11 @@ module _ {T : Type 0} (code : Coding T) (given : GiveBack) where
       → (removes_value {T = T} given).stands capacity d
   stands_so = grind arith
 
+  -- a remove, as the driver makes it
   abbrev pub remove_driven : Driven T Removing (Unit {0}) Removed
   remove_driven = record { want = λ c. remove_want c given; after = after; kept = λ c m n. m; call = removes_value given }
 
-  -- a removal is a call of the model
+  -- a remove is a call of the model
   pub remove_call : IsCallBy code (plain_effects code) (container_words code) remove_driven
   remove_call =
       record {
@@ -179,15 +197,18 @@ module _ {T : Type 0} (code : Coding T) (given : GiveBack) where
         tells_all = λ capacity p from c end m n es h skip wrote e still new. goes_so capacity p c n es (Done end) h (wrote new) e;
       }
 
+  -- each step of a remove keeps the rule of the table
   pub container_remove_keeps : KeepsEnds code kinds.Container (container_words code) remove_driven
   container_remove_keeps = container_keeps code remove_driven (λ c m. tt) remove_call (λ c n. refl)
 
-  -- a removal begins on a pass that rests
+  -- a remove begins on a pass with no call under way, of an index below the capacity, for an owner
   pub container_remove_first : (v : View T) (m : Unit {0}) → v.going ≡ None → v.other ≡ [] → 0 < v.share.part → given.index < v.capacity → given.owner < empty
       → At code kinds.Container (removes_value given) v v (first_remove v.capacity given.index) m
   container_remove_first v m idle alone any low fits =
+      -- the owner has a number below the mark of an empty cell, and the index is one of the container
       let named : nat_lt given.owner empty ≡ true = grind (arith, nat_tests) in
       let below : nat_lt given.index v.capacity ≡ true = grind (arith, nat_tests) in
+      -- the model's call at its first stage is this one
       let flies : flights.Container (remove_of v.capacity given.index given.owner given.mode)
       ≡ (removes_value {T = T} given).flight (first_remove v.capacity given.index) m =
       ap (λ (i : ℕ). flights.Container (calls.Remove

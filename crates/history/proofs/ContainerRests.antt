@@ -1,4 +1,5 @@
--- Each call of a container on a pass whose last call may rest at a find's question.
+-- Each call of a container may begin on a pass whose last call rests at a `find`'s question: with its first
+-- step the machine is handed the answer that ended the `find`.
 use Rattle.std.proofs.Common.{arith}
 use Rattle.history.proofs.Names.{Bool, true, false, ◌≡◌, ℕ, ◌+◌, ◌<◌, Option, None, List, []}
 use Rattle.history.proofs.Names.{sym, ◌∙◌, Allows, After, GoOn, Want}
@@ -15,6 +16,7 @@ use Rattle.history.proofs.CallsIn.{AsksFor}
 use Rattle.history.proofs.Containers.{container_effects, container_words, container_machines}
 use Rattle.history.proofs.Settling.{KeepsWhere, Hearing, keeps_rested, keeps_rested_where, settles_at}
 
+-- a Bool is not true and false
 pub clash : {A : Type 0} (b : Bool) → b ≡ true → b ≡ false → A
 clash b due still = (let both : true ≡ false = sym due ∙ still in absurd (cc))
 
@@ -22,30 +24,35 @@ module _ {T : Type 0} where
   -- ---- an answer that ends a call writes nothing
 
   module _ (code : Coding T) (w : World T) (p : ℕ) (answer : Answer T) where
+    -- an answer that ends a `find` writes no effect
     quietly : (flight : Flight T) → is_question (want_of code flight) ≡ true → goes_of code p flight (number_of false) w.kept ≡ Done answer
         → container_effects w p flight (number_of false) ≡ []
     quietly = grind arith
 
+  -- an answer that ends any container's call writes no effect
   pub ends_quiet : (code : Coding T) (w : World T) (p : ℕ) (flight : Flight T) (answer : Answer T) → is_question (want_of code flight) ≡ true
       → goes_of code p flight (number_of false) w.kept ≡ Done answer → container_effects w p flight (number_of false) ≡ []
-  ends_quiet code w p flight answer due e = quietly code w p answer flight due e
+  ends_quiet code w p flight answer due leads = quietly code w p answer flight due leads
 
 -- ---- a call of the container comes after one that rests
 
 module _ {T : Type 0} (code : Coding T) where
+  -- each step of a call of a container keeps the rule of the table
   abbrev pub Keeps : {C M E : Type 0} → (View T → View T → C → M → Type 0) → (View T → E → M → View T → Type 0) → (C → Want (Unit {0})) → (C → ℕ → After C E)
       → (C → M → ℕ → M) → Type 0
   Keeps at ends want after kept =
       KeepsRule (λ (z : View T). z.asked) (λ (z : View T). z.capacity) at ends (λ key. container_words code key + 1) (λ key. key)
       (λ key. IsMachine code kinds.Container key) want after kept
 
+  -- nothing is late for a call of a container
   pub never_late : (going : Option (Start T × Flight T)) (late : List (Event T)) → IsLate kinds.Container going late → late ≡ []
   never_late going late is_late = is_late
 
+  -- containers hear answers, and an answer that ends a call writes nothing
   abbrev pub container_hears : Hearing T
   container_hears = record { machines = container_machines code; decides = tt; alone = never_late; quiet = ends_quiet code }
 
-  -- a look with which the call that rests is ended
+  -- a pass whose call rests settles by a load of any word
   pub container_settles : (key slots id word : ℕ) (v : View T) → v.capacity ≡ key → IsResting code v
       → Allows (IsMachine code kinds.Container key) slots id (v, []) word (λ n. n) (λ found me. Settles code kinds.Container v me.0 × (me.1 ≡ []))
   container_settles = settles_at container_hears
@@ -53,7 +60,7 @@ module _ {T : Type 0} (code : Coding T) where
   module _ {C M E : Type 0} (call : Calling T C M E) (want : C → Want (Unit {0})) (same_want : (c : C) (m : M) → want_of code (call.flight c m) ≡ want c) where
     module _ (Begins : ℕ → C → M → Type 0)
         (asks : (capacity : ℕ) (c : C) (m : M) → Begins capacity c m → AsksFor (container_words code capacity) (want c)) where
-      -- who rests has not begun the next
+      -- a pass whose call rests is not at the first stage of another call
       apart_at : (base v : View T) (c : C) (m k : M) → IsResting code v → Begins v.capacity c k → At code kinds.Container call base v c m → ⊥
       apart_at = grind arith
 
@@ -63,18 +70,19 @@ module _ {T : Type 0} (code : Coding T) where
           (keeps : Keeps (AtAsked code kinds.Container after kept call) Over want after kept)
           (first : (v : View T) (c : C) (m : M) → Begins v.capacity c m → v.going ≡ None → v.other ≡ [] → 0 < v.share.part
           → AtAsked code kinds.Container after kept call v v c m) where
-        -- whatever is in its room
+        -- a pass whose call rests is not at the first stage of a call that may have heard an answer
         pub apart_asked : (base v : View T) (c : C) (m k : M) → IsResting code v → Begins v.capacity c k
             → AtAsked code kinds.Container after kept call base v c m → ⊥
         apart_asked = grind arith
 
+        -- a call that puts questions keeps the rule, also if the last call of the pass rests
         pub rested_asks : Keeps (AtRested code kinds.Container Begins (AtAsked code kinds.Container after kept call) Over)
             (EndsRested code kinds.Container Begins (AtAsked code kinds.Container after kept call) Over) want after kept
         rested_asks =
             keeps_rested container_hears want after kept
             (AtAsked code kinds.Container after kept call) Over keeps Begins asks first (λ base v c m. apart_asked base v c m m)
 
-        -- of its steps at a word alone, where these end so
+        -- the steps of a call at a word keep the rule, also if the last call of the pass rests
         pub rested_words : (Ended : View T → E → M → View T → Type 0)
             → KeepsWhere code kinds.Container (container_words code) (λ c. is_question (want c) ≡ false)
             (AtAsked code kinds.Container after kept call) Ended want after kept
@@ -91,7 +99,7 @@ module _ {T : Type 0} (code : Coding T) where
         (after : C → ℕ → After C E) (kept : C → M → ℕ → M) (keeps : Keeps (At code kinds.Container call) (Ends code kinds.Container call) want after kept)
         (first : (v : View T) (c : C) (m : M) → Begins v.capacity c → v.going ≡ None → v.other ≡ []
         → 0 < v.share.part → At code kinds.Container call v v c m) where
-      -- a call keeps to its rule also after a call that rests
+      -- a call that puts no question keeps the rule, also if the last call of the pass rests
       pub rested_keeps : Keeps (AtRested code kinds.Container (λ capacity c m. Begins capacity c) (At code kinds.Container call)
           (Ends code kinds.Container call))
           (EndsRested code kinds.Container (λ capacity c m. Begins capacity c) (At code kinds.Container call) (Ends code kinds.Container call)) want after kept

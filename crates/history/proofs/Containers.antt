@@ -1,5 +1,5 @@
--- What the container owes, from the laws of its open runs, which party may begin a call on it, and that a call which is no
--- look of a state goes on by itself.
+-- Containers as tables that are machines: how many words they have, what their calls write
+-- (`container_effects`), where each step leads, and how a call begins.
 use Rattle.history.proofs.Names.{◌≡◌, ℕ, ◌+◌, ◌-◌, ◌≤◌, true, false, Option, Some, None, IfSome, List, [], ◌++◌, length}
 use Rattle.history.proofs.Names.{sum_by, refl, sym, ap, subst, ◌∙◌, arith, Want, ContainerState, total_words}
 use Rattle.history.proofs.Names.{Event, Start, Container, Flight, Registry, ContainerStart}
@@ -36,58 +36,67 @@ use Rattle.history.proofs.Paid.{Pays, progress_within, pays_run}
 use Rattle.history.proofs.Turns.{StepsOn, KeptLaws, Machines, all_someone}
 
 module _ {T : Type 0} where
-  -- what a step of a container's call writes, where this is kept
+  -- what a step of a container's call writes, by what the machine keeps
   abbrev kept_effects : Coding T → Registry T → ℕ → Flight T → ℕ → List (Event T)
   kept_effects code kept p (flights.Container flight) old = effects code p (state_in kept p) flight old ++ questions p flight old
   kept_effects code kept p flight old = []
 
+  -- what a step of a container's call writes, by what its machine keeps
   abbrev pub container_effects : World T → ℕ → Flight T → ℕ → List (Event T)
   container_effects w = kept_effects w.coding w.kept
 
-  -- what a step writes of a call that is no look of a state
+  -- what a step writes of a call that is no look of a state, whatever the machine keeps
   abbrev pub plain_effects : Coding T → ℕ → Flight T → ℕ → List (Event T)
   plain_effects code p (flights.Container flight) old = effects code p None flight old ++ questions p flight old
   plain_effects code p flight old = []
 
+  -- the effects of a step are events of its party
   pub effects_of_party : (code : Coding T) (kept : Registry T) (p : ℕ) (flight : Flight T) (n : ℕ) → AreOf p (kept_effects code kept p flight n)
   effects_of_party = grind arith
 
   -- ---- a call that is no look of a state
 
+  -- the call is one of a container, and no look of a state
   abbrev pub IsPlain : Flight T → Type 0
   IsPlain (flights.Container (calls.Look which call)) = ⊥
   IsPlain (flights.Container flight) = Unit {0}
   IsPlain flight = ⊥
 
--- the words of the set, how often an element has changed, and for each index a number and its element
+-- how many words a container has: those of its set, the number of changes, and for each index a
+-- number and its element
 abbrev pub container_words : {T : Type 0} → Coding T → ℕ → ℕ
 container_words code capacity = total_words capacity code.size
 
--- each turn back is paid by a change of a word
+-- each time that a call turned back is paid for by a change of a word by another party
 turns_paid : {T : Type 0} (z : Coding T) (c : ℕ) (v : knows.View T) (flight : ContainerFlight T) → knows.Knows z c flight v → v.backs ≤ v.changes - v.since
 turns_paid = grind arith
 
 module _ {T : Type 0} (code : Coding T) (capacity : ℕ) where
+  -- the machine is one of a run of a container of this capacity
   abbrev pub IsOn : Trace T → Type 0
   IsOn t = IsRun code kinds.Container capacity t
 
+  -- the terms of the container's laws between threads: an owner is gone by a recovery
   abbrev by_word : Terms
   by_word = record { by = Word; kept = false }
 
+  -- an open run of a container keeps the invariant of its laws
   container_sound : (t : Trace T) → IsOn t → frame.Sound (family_by by_word t.world.coding t.world.capacity) t
   container_sound t is_on = reached_open_sound t is_on.of_kind is_on.reached
 
+  -- in an open run nobody has died
   all_live : (t : Trace T) → IsOn t → AllLive t.events
   all_live t is_on = reached_open_lives t is_on.of_kind is_on.reached
 
-  -- what the model promises of each open run
+  -- the promise of the model of each open run of a container
   pub is_open_container : (t : Trace T) (r : IsOn t) → IsOpenContainer t r.reached
   is_open_container t r = reached_open_kept t r.of_kind r.reached
 
+  -- a container has as many words as `container_words` says
   pub container_size : (t : Trace T) → IsOn t → length t.world.words ≡ container_words code capacity
   container_size = grind (arith, reached_open_wide)
 
-  -- nobody has died
+  -- in an open run nobody has died
   pub kept_there : (t : Trace T) → IsOn t → (dead : List ℕ) × (states : List (ℕ × ContainerState T))
       × (t.world.kept ≡ registries.Container dead states) × ((owner : ℕ) → has_died owner dead ≡ false)
   kept_there t is_on =
@@ -99,39 +108,42 @@ module _ {T : Type 0} (code : Coding T) (capacity : ℕ) where
             (all_live t is_on) owner,
       )
 
-  -- ---- what a step comes to
+  -- ---- what a step writes and where it leads
 
-  -- no row refuses the step of a call under way
+  -- nothing that is tested of a pending call refuses its step
   no_rows : (t : Trace T) → IsOn t
       → (c z : ℕ) (all : List SetAct) (done : List (Act T)) (start : Start T) (flight : Flight T)
       → FlightAt c z all done start flight
       → first_row (going_rows t.world.coding t.world.kept (Some flight) None) ≡ None
-  no_rows t is_on c z all done (Container start) (flights.Container flight) at =
+  no_rows t is_on c z all done (Container start) (flights.Container flight) flight_at =
       step_is_free by_word t.world.coding t.world.capacity t (container_sound t is_on) (all_live t is_on) flight
-  no_rows t is_on c z all done start flight at = absurd at
+  no_rows t is_on c z all done start flight flight_at = absurd flight_at
 
+  -- what the model's step of a call writes is what `kept_effects` says
   writes_there : (y : Coding T) (words : List ℕ) (beside : Option (ℕ × ℕ)) (c z p old : ℕ) (all : List SetAct) (done : List (Act T)) (kept : Registry T)
       (s : ContainerNow T) (start : Start T) (flight : Flight T) → kept ≡ registries.Container s.dead s.states → FlightAt c z all done start flight
       → (step_of y words beside p start flight old kept).wrote ≡ kept_effects y kept p flight old
   writes_there = grind arith
 
+  -- where the model's step of a call leads is where `goes_of` says
   goes_there : (y : Coding T) (words : List ℕ) (beside : Option (ℕ × ℕ)) (c z p old : ℕ) (all : List SetAct) (done : List (Act T)) (kept : Registry T)
       (s : ContainerNow T) (start : Start T) (flight : Flight T) → kept ≡ registries.Container s.dead s.states → FlightAt c z all done start flight
       → (step_of y words beside p start flight old kept).after ≡ goes_of y p flight old kept
   goes_there = grind arith
 
-  -- each step of a call under way writes and leads where the container's table says
+  -- each step of a call under way writes events of its own party, and leads where the container's laws say
   steps_on : (t : Trace T) → IsOn t → (p : ℕ) (start : Start T) (flight : Flight T) → call_in t.world p ≡ Some (start, flight)
       → StepsOn code kinds.Container capacity (container_words code capacity) container_effects t p flight
-  steps_on t is_on p start flight at =
+  steps_on t is_on p start flight call_is =
       let world_now = t.world in
       let is_sound = container_sound t is_on in
-      let here = stands world_now p start flight at in
+      let here = stands world_now p start flight call_is in
       let there = stands_there (family_by by_word world_now.coding world_now.capacity) t is_sound p here.x here.since flight here.found here.doing in
       let all : List SetAct = set_acts_of p is_sound.state.events in
       let done : List (Act T) = acts_of p is_sound.state.events in
       let mine : FlightAt world_now.capacity world_now.coding.size all done here.x.start flight = there.at in
       record {
+        -- nothing refuses the step, and its effects are those of the party's own call
         may = no_rows t is_on world_now.capacity world_now.coding.size all done here.x.start flight mine;
         writes = λ x n found. (
             let same : here.x ≡ x = (let both : Some here.x ≡ Some x = sym here.found ∙ found in cc) in
@@ -140,8 +152,10 @@ module _ {T : Type 0} (code : Coding T) (capacity : ℕ) where
             (beside_of world_now.words world_now.kept world_now.latest p) world_now.capacity world_now.coding.size p
             n all done world_now.kept is_sound.state
             here.x.start flight is_sound.fit.kept mine));
+        -- each of them is of this party, and of no other
         someone = λ n. all_someone p (container_effects world_now p flight n) (effects_of_party world_now.coding world_now.kept p flight n);
         beside = λ n q ne. by_other p q (container_effects world_now p flight n) ne (effects_of_party world_now.coding world_now.kept p flight n);
+        -- the step leads where `goes_of` says, by what the machine keeps
         goes = λ x n found. (
             let same : here.x ≡ x = (let both : Some here.x ≡ Some x = sym here.found ∙ found in cc) in
             subst (λ (z : Party T). (step_in world_now p z flight n).after ≡ goes_of world_now.coding p flight n world_now.kept) same
@@ -151,23 +165,28 @@ module _ {T : Type 0} (code : Coding T) (capacity : ℕ) where
             here.x.start flight is_sound.fit.kept mine));
       }
 
+  -- a turn that is no look of a party's state leaves that state
   states_stay : (t : Trace T) (r : IsOn t) (turn : Turn T) → open_refusal t.world turn ≡ None → (q : ℕ) → is_look_of t.world q turn ≡ false
       → state_in (after_turn t turn).world.kept q ≡ state_in t.world.kept q
   states_stay t r turn free q none = (reached_open_tells t r.of_kind r.reached turn free).states.moves q none
 
+  -- containers keep the laws of a kind: how many words they have, what steps write, where they lead, and
+  -- which states stay
   pub containers_owe : KeptLaws code kinds.Container capacity (container_words code capacity) container_effects
   containers_owe =
       record { size = container_size; steps_on = steps_on; states = λ t turn run next free q none. states_stay t run turn free q none }
 
+  -- the bounds of a container's calls, as the laws of all kinds need them
   word_bounds : (z : Coding T) (c : ℕ) → frame.Bounds (family_by by_word z c)
   word_bounds z c = record { most = (bounds z c).most; paid = paid }
     where
+      -- a call that turned back was overtaken by changes of words by others, as often as it turned back
       paid : (s : ContainerNow T) (p : ℕ) (events : List (Event T)) (since changes backs : ℕ) (flight : Flight T)
           → (family_by by_word z c).Knows s p events since changes backs flight → backs ≤ changes - since
-      paid s p events since changes backs (flights.Container flight) h = turns_paid z c _ flight h
-      paid s p events since changes backs flight h = absurd h
+      paid s p events since changes backs (flights.Container flight) knows = turns_paid z c _ flight knows
+      paid s p events since changes backs flight knows = absurd knows
 
-  -- how many steps its calls take
+  -- each call takes at most the steps that the model promises of a container
   pub container_pays : Pays code kinds.Container capacity
   container_pays t r =
       (let is_sound = container_sound t r in
@@ -179,9 +198,11 @@ module _ {T : Type 0} (code : Coding T) (capacity : ℕ) where
 
 -- what is tested of a begin, where nobody has died
 module _ {T : Type 0} (capacity p : ℕ) (dead : List ℕ) (states : List (ℕ × ContainerState T)) (lives : (owner : ℕ) → has_died owner dead ≡ false) where
+  -- nothing that is tested of the begin of this call by party p refuses it
   abbrev FreeTo : ContainerStart T → Type 0
   FreeTo start = first_row (rows_as kinds.Container capacity (registries.Container dead states) p (Container start)) ≡ None
 
+  -- a call that names an owner may begin, since that owner has not died
   may_begin : (start : ContainerStart T) → names_owner start ≡ true → FreeTo start
   may_begin = grind arith
 
@@ -189,10 +210,11 @@ module _ {T : Type 0} (capacity p : ℕ) (dead : List ℕ) (states : List (ℕ �
 module _ {T C M E : Type 0} (code : Coding T) (base : View T) (call : Calling T C M E) (start : ContainerStart T) (c : C) (m : M)
     (is_named : call.start ≡ Container start) (by_last : (o : Option ℕ) (p : ℕ) → IfSome o (λ q. q ≡ p) → call.by o p)
     (named : names_owner start ≡ true) (flies : flights.Container (first base.capacity start) ≡ call.flight c m) where
+  -- the model has this call, at its first stage
   pub container_first : (kept : Registry T) → first_of kinds.Container base.capacity call.start kept ≡ Some (call.flight c m)
   container_first kept = rw is_named (rw named (ap Some flies))
 
-  -- the call begins for a party of its pass, which the machine finds idle
+  -- a call begins for a party of the pass, which the machine finds without a call under way
   pub container_starts : (t : Trace T) (owner : ℕ → ℕ) (j : ℕ) → IsOn code base.capacity t → owner j ≡ j → IfSome base.party (λ p. owner p ≡ j)
       → ((f : Event T → ℕ) → sum_by f base.made ≡ sum_by (owned owner j f) t.events)
       → Starts code kinds.Container call base c m t owner j
@@ -201,10 +223,12 @@ module _ {T C M E : Type 0} (code : Coding T) (base : View T) (call : Calling T 
       (λ p. rw is_named (subst (λ k. first_row (rows_as kinds.Container base.capacity k p (Container start)) ≡ None) (sym kept.2)
       (may_begin base.capacity p kept.0 kept.1 kept.3 start named)))
     where
+      -- in an open run the machine keeps nobody as dead
       kept : (dead : List ℕ) × (states : List (ℕ × ContainerState T)) × (t.world.kept ≡ registries.Container dead states)
           × ((owner : ℕ) → has_died owner dead ≡ false)
       kept = kept_there code base.capacity t run
 
+-- the machines of containers
 abbrev pub container_machines : {T : Type 0} → Coding T → Machines T
 container_machines code =
     record { code = code; kind = kinds.Container; effects = container_effects; size_of = container_words code; laws = containers_owe code }
@@ -212,10 +236,11 @@ container_machines code =
 -- ---- the steps of a call that is no look of a state
 
 module _ {T C M E : Type 0} (code : Coding T) (call : Calling T C M E) (plain : (c : C) (m : M) → IsPlain (call.flight c m)) where
+  -- a call that is no look of a state goes on by its stage, and writes for its own party alone
   pub plain_acts : ActsAlone code kinds.Container container_effects (plain_effects code) call
   plain_acts = grind arith
 
--- the steps of a call of the container that is no look of a state keep to the rule
+-- each step of a call on a container keeps the rule, if the call is no look of a state
 pub container_keeps : {T C M E : Type 0} (code : Coding T) (driven : Driven T C M E) → ((c : C) (m : M) → IsPlain (driven.call.flight c m))
     → IsCallBy code (plain_effects code) (container_words code) driven → ((c : C) (n : ℕ) → driven.call.skips c n ≡ false)
     → KeepsEnds code kinds.Container (container_words code) driven
@@ -223,6 +248,6 @@ container_keeps code driven plain is_call =
     keeps_all_there (container_machines code) driven
     (steps_alone code kinds.Container container_effects (plain_effects code) driven (plain_acts code driven.call plain) is_call)
 
--- a call that needs fewer words
+-- a call that asks for one of fewer words asks for one of more
 pub fewer : (some more : ℕ) (want : Want (Unit {0})) → some ≤ more → AsksFor some want → AsksFor more want
 fewer some more want low asks_for = (let below = asks_for.1 in (asks_for.0, omega arith, asks_for.2))

@@ -27,7 +27,7 @@ use Rattle.history.proofs.CallTurns.{since_turn}
 use Rattle.history.proofs.CallReady.{Ready, ready, asked_so, Told_by}
 use Rattle.history.proofs.Drives.{ToldOver, keeps_at, next_ended}
 
--- each step of it that is no question is at a word
+-- at each stage that is no question the call asks for a word of the structure
 abbrev pub AsksElse : {T C M E : Type 0} → (ℕ → ℕ) → Driven T C M E → Type 0
 AsksElse {T} {C} size_of driven =
     (capacity : ℕ) (c : C) → driven.call.stands capacity c → is_question (driven.want c) ≡ false → AsksFor (size_of capacity) (driven.want c)
@@ -36,8 +36,9 @@ AsksElse {T} {C} size_of driven =
 module _ {T C M E : Type 0} (code : Coding T) (kind : Kind) (effects : ℕ → Flight T → ℕ → List (Event T)) (size_of : ℕ → ℕ) (driven : Driven T C M E) where
   open driven use {want, after, kept, call}
 
-  -- it takes steps as a call does, the last position never leaves it out, and its flight in the
-  -- model says where it stands
+  -- The call takes steps as a call of the model does, no word that it loads ends it outside the
+  -- history, its stage can be told from its flight in the model, it begins at no question, and no
+  -- question comes right after another.
   pub record IsAskingIn : Type 0 where
     pub steps : StepsOf (AsksElse size_of driven) code effects driven
     pub never : (c : C) (n : ℕ) → call.skips c n ≡ false
@@ -46,6 +47,7 @@ module _ {T C M E : Type 0} (code : Coding T) (kind : Kind) (effects : ℕ → F
     pub same_room : (capacity p : ℕ) (from : Option (Start T × Flight T)) (c : C) (m k : M) (a b : ℕ) (es : List (Event T)) → is_question (want c) ≡ true
         → call.flight c m ≡ call.flight c k → kept c m a ≡ kept c k b → call.wrote capacity p from c m es → call.wrote capacity p from c k es
     pub first : (n : ℕ) (c : C) (m : M) → first_of kind n call.start ((opening_of kind).kept n) ≡ Some (call.flight c m) → is_question (want c) ≡ false
+    -- after an answer the call stands at no question
     pub one : (c d : C) (n : ℕ) → is_question (want c) ≡ true → after c n ≡ GoOn d → is_question (want d) ≡ false
 
 -- own is what a step of the call writes; Finished is how a drive of the call leaves it once it is over
@@ -57,12 +59,13 @@ module _ {T C M E : Type 0} (machines : Machines T) (decides : MayDecide machine
   open driven use {want, after, kept, call}
   open is_call use {steps, same_call}
 
-  abbrev Heard : View T → View T → C → M → Type 0
-  Heard base v c m = HasHeard code kind after kept call base v c m
+  -- the call has heard an answer in the view v that the machine has not been handed yet
+  abbrev HasHeardAnswer : View T → View T → C → M → Type 0
+  HasHeardAnswer base v c m = HasHeard code kind after kept call base v c m
 
-  -- where the call stands in the view, also after an answer
-  abbrev Stage : View T → View T → C → M → Type 0
-  Stage base v c m = At code kind call base v c m
+  -- the call is about to begin, or under way, in the view v, and has heard no answer that the machine has not
+  abbrev CallStands : View T → View T → C → M → Type 0
+  CallStands base v c m = At code kind call base v c m
 
   -- ---- the machine is handed the answer
 
@@ -78,25 +81,30 @@ module _ {T C M E : Type 0} (machines : Machines T) (decides : MayDecide machine
     pub at : get_elem? s.views id ≡ some v
     pub known : v.capacity ≡ key
     pub base₀ : View T  -- with which the drive began
-    pub h : Heard base₀ v c m
+    pub h : HasHeardAnswer base₀ v c m
 
   module _ (hearing : Hearing) where
     open hearing use {s, v, key, id, c, m, r, at, known, base₀, h}
 
+    -- the flight of the question
     abbrev from : Flight T
     from = call.flight h.asking h.room
 
+    -- the answer as a number
     abbrev n : ℕ
     n = number_of h.said
 
+    -- the machine on which the call stands at its question
     y : Ready machines call s v key id h.asking h.room
     y = grind (arith, ready, inr)
 
+    -- with the answer the machine's call goes on to the stage at which the driver's call is
     comes : goes_of code y.p from n y.u.world.kept ≡ GoOn (call.flight c m)
     comes = acts.alike key y.p h.asking h.room n y.u y.between.run
         ∙ steps.same_after base₀.capacity h.asking h.room n h.before.standing
         ∙ (ap (λ a. goes call a (kept h.asking h.room n)) h.goes ∙ ap (λ k. GoOn (call.flight c k)) (sym h.keeps))
 
+    -- the machine does not refuse the answer
     free : refusal_as kind y.u.world (Decide y.p h.said) ≡ None
     free =
         decide_as kind decides y.u.world y.p h.said from (flight_is y.u.world y.p call.start from (stands y.u.world y.p call.start from y.there))
@@ -116,23 +124,27 @@ module _ {T C M E : Type 0} (machines : Machines T) (decides : MayDecide machine
           comes = comes;
         }
 
+    -- what the seat has gained with the answer
     abbrev gained_then : List (Event T)
     gained_then = y.gained ++ events_by y.p (events_of y.u.world (Decide y.p h.said))
 
+    -- the machine after the answer
     abbrev u_then : Trace T
     u_then = after_turn y.u (Decide y.p h.said)
 
+    -- after the answer the machine stands at the table's words
     between_heard : Between code kind key y.owner s id y.p gained_then u_then
     between_heard = decided answering
 
-    -- what the seat would know then
+    -- the view of the seat once the machine has been handed the answer
     abbrev view_heard : View T
     view_heard = view_after code kind key id y.p between_heard.one.turns v.asked v.aside v gained_then u_then
 
+    -- the table with the seat's view after the answer
     abbrev table_heard : State (Unit {0}) (View T)
     table_heard = record { words = s.words; homes = s.homes; views = slice_set s.views id view_heard }
 
-    -- an answer is no operation
+    -- the view gains the turn of the answer, which is no operation
     gains_heard : Gains s.views v v.asked v.aside (steps_of_run code kind key between_heard.one.turns)
     unfolding between_heard
     gains_heard =
@@ -145,52 +157,64 @@ module _ {T C M E : Type 0} (machines : Machines T) (decides : MayDecide machine
           own = omega arith;
         }
 
+    -- what the seat has asked for is still counted right
     has_heard : HasAsked view_heard (steps_of_run code kind key between_heard.one.turns)
     has_heard = gains_has s.views v view_heard (steps_of_run code kind key between_heard.one.turns) gains_heard refl
 
+    -- the table with this view is a machine
     machine_heard : IsMachine code kind key table_heard
     machine_heard = settle code kind key id y.p y.owner v.asked v.aside s.words s v gained_then u_then at h.before.some between_heard gains_heard
 
+    -- after the answer the call stands at its next stage in the machine
     there_heard : call_in u_then.world y.p ≡ Some (call.start, call.flight c m)
     there_heard = decided_at answering
 
-    -- ---- whoever has heard an answer stands so, whatever the view with which its drive began
+    -- ---- a call that has heard an answer stands at its next stage, whatever the view with which its drive began
 
+    -- the effects of the answer
     abbrev effs : List (Event T)
     effs = effects y.u.world y.p from n
 
+    -- the effects that are of the call's own party
     abbrev mine : List (Event T)
     mine = own y.p from n
 
+    -- the answer does not end the call
     told_heard : events_of y.u.world (Decide y.p h.said) ≡ effs ++ []
     told_heard = heard answering
 
-    module _ (base : View T) (k : Heard base v c m) where
-      stage_then : Stage base v h.asking h.room
+    module _ (base : View T) (k : HasHeardAnswer base v c m) where
+      -- before the answer the call was at its question
+      stage_then : CallStands base v h.asking h.room
       stage_then = grind arith
 
+      -- what the call had written before the answer
       told_by : Told_by machines call y.p h.asking h.room base y.u.events (v.made ++ y.gained)
       told_by = y.prior base stage_then
 
+      -- the question's stage is one of the call
       standing_then : call.stands base.capacity h.asking
       standing_then = grind arith
 
+      -- by then the call has written what it had, what came late for it, and what the answer writes
       all_its_own : (told_by.wrote ++ told_by.late) ++ events_by y.p effs ≡ told_by.wrote ++ mine
       all_its_own =
           ap (λ zs. (told_by.wrote ++ zs) ++ events_by y.p effs) (acts.never h.asking h.room told_by.late told_by.waits)
           ∙ (ap (λ zs. zs ++ events_by y.p effs) (append-nil told_by.wrote)
           ∙ ap (λ zs. told_by.wrote ++ zs) (written_alone code kind effects own call acts key y.p h.asking h.room n y.u y.between.run y.there))
 
+      -- with the effects of the answer, the call has written what it may have written up to its next stage
       tells_then : call.wrote base.capacity y.p base.going c m (told_by.wrote ++ mine)
       tells_then = grind arith
 
+      -- since the drive began, the view has gained these events of the call
       since_then : Since y.p call.start ((told_by.wrote ++ told_by.late) ++ events_by y.p effs) [] base view_heard
       since_then =
           since_turn machines call between_heard.one.turns v.asked v.aside y.p id (Decide y.p h.said) y.u v base y.gained
           (told_by.wrote ++ told_by.late) effs [] told_by.prior told_heard
           (ap (events_by y.p) told_heard ∙ by_more y.p effs [])
 
-      -- an answer is no look
+      -- an answer is no look of a state, so the state of the party stays
       state_heard : LeavesState call → base.party ≡ Some y.p → view_heard.state ≡ base.state
       state_heard leaves was =
           let is_p = y.as_party h.before.going in
@@ -199,16 +223,18 @@ module _ {T C M E : Type 0} (machines : Machines T) (decides : MayDecide machine
           (laws key).states y.u (Decide y.p h.said) y.between.run between_heard.run free y.p refl
           ∙ (y.state leaves is_p ∙ k.before.state leaves (was ∙ ap Some (sym same)))
 
-      -- an answer is no step
+      -- an answer takes no step, so the operations asked for are still steps of the call alone
       asked_heard : StepsOnly base view_heard
       asked_heard =
           let counted : steps_in y.u.world y.p ≡ taken_by v.going v.taken = y.counted in
           let more : steps_in u_then.world y.p ≡ steps_in y.u.world y.p + 0 = decided_steps answering in
           omega (arith, asked_so code kind call base v h.asking h.room stage_then)
 
+      -- the machine after the answer is a run
       run_then : IsRun code kind base.capacity u_then
       run_then = grind (arith, between_heard)
 
+      -- the run that was known as the drive began goes on to the run with the answer
       ran_then : Continues code kind base.capacity base view_heard
       ran_then =
           subst (λ n. Continues code kind n base view_heard) (sym known ∙ k.before.capacity)
@@ -219,12 +245,14 @@ module _ {T C M E : Type 0} (machines : Machines T) (decides : MayDecide machine
       lifted : IsUnderWay code kind call base view_heard c m
       lifted =
           record {
+            -- the call stands at the stage to which the answer leads
             capacity = k.before.capacity;
             standing = steps.stays base.capacity h.asking c n standing_then h.goes;
             share = k.before.share;
             some = k.before.some;
             party = y.p;
             mine = refl;
+            -- the machine's call of this party stands at that stage
             same = y.by base stage_then;
             going = there_heard;
             state = state_heard;
@@ -232,9 +260,11 @@ module _ {T C M E : Type 0} (machines : Machines T) (decides : MayDecide machine
             asked = asked_heard;
             aside = k.before.aside;
             alone = refl;
+            -- the call has written what it had, what came late for it, and the effects of the answer
             wrote = (told_by.wrote ++ told_by.late) ++ events_by y.p effs;
             tells = subst (λ zs. call.wrote base.capacity y.p base.going c m zs) (sym all_its_own) tells_then;
             since = since_then;
+            -- what is seen is the history of the machine with the answer
             history = record { trace = u_then; run = run_then; is = refl };
             ran = ran_then;
             stood = record { trace = u_then; run = run_then; is = refl; there = there_heard };
@@ -242,45 +272,51 @@ module _ {T C M E : Type 0} (machines : Machines T) (decides : MayDecide machine
             parties = record { owner = y.owner; seat = id; sums = λ f. sum_by-append f v.made gained_then ∙ between_heard.made_own v at f };
           }
 
-  -- ---- who is at a word, and who has heard an answer
+  -- ---- calls at a word, and calls that have heard an answer
 
-  -- no other drive of it says otherwise
-  never_both : {A : Type 0} (base other v : View T) (c : C) (m : M) → is_question (want c) ≡ false → Stage base v c m → Heard other v c m → A
+  -- a call that has heard an answer in one drive is at no other stage in another drive of the same view
+  never_both : {A : Type 0} (base other v : View T) (c : C) (m : M) → is_question (want c) ≡ false → CallStands base v c m → HasHeardAnswer other v c m → A
   never_both = grind arith
 
+  -- at each stage what holds of the call between two steps holds
   standing : (base v : View T) (c : C) (m : M) → AtAsked code kind after kept call base v c m → call.stands base.capacity c
   standing = grind arith
 
+  -- at each stage the capacity is that with which the drive began
   same_size : (base v : View T) (c : C) (m : M) → AtAsked code kind after kept call base v c m → v.capacity ≡ base.capacity
   same_size = grind arith
 
   -- ---- a question is answered
 
+  -- what a step from this stage has to tell, where the call may have heard an answer
   abbrev ToldAsked : C → M → View T → ℕ → View T → Type 0
   ToldAsked c m = Told (λ (z : View T). z.capacity) (AtAsked code kind after kept call) Finished after kept c m
 
-  -- who stands at a question has heard the answer that it takes
+  -- a call that stands at a question, and is answered so that it goes on, has heard the answer
   pub hears_said : (base v : View T) (c d : C) (m : M) (said : Bool) → is_question (want c) ≡ true → after c (number_of said) ≡ GoOn d
       → AtAsked code kind after kept call base v c m → AtAsked code kind after kept call base v d (kept c m (number_of said))
   hears_said = grind arith
 
   -- ---- each step keeps the rule
 
+  -- what is known after a step by `At` and `Ends` is known by `AtAsked` and `Finished` too
   with_asked : (base : View T) (a : After C E) (k : M) (w : View T) → NextKnown (λ (z : View T). z.capacity) (At code kind call)
       (Ends code kind call) base a k w
       → NextKnown (λ (z : View T). z.capacity) (AtAsked code kind after kept call) Finished base a k w
-  with_asked base (GoOn d) k w h = inl h
-  with_asked base (Done e) k w h = ended base e k w h
+  with_asked base (GoOn d) k w next_known = inl next_known
+  with_asked base (Done e) k w next_known = ended base e k w next_known
 
+  -- the steps of the call, as steps of the more general kind
   steps_there : StepsThere (AsksElse size_of driven) code kind effects driven
   steps_there = steps_alone code kind effects own driven acts steps
 
+  -- what a step from this stage has to tell, where the call has heard none
   abbrev ToldSo : C → M → View T → ℕ → View T → Type 0
   ToldSo c m = ToldOver machines driven steps_there c m
 
-  -- what a step told, where the view has heard an answer
+  -- what a step told of the view with the answer, it told of the view before that answer
   told_asked : (c : C) (m : M) (n : ℕ) (x v w : View T) → x.capacity ≡ v.capacity
-      → ((base : View T) → AtAsked code kind after kept call base v c m → Stage base x c m) → ToldSo c m x n w → ToldAsked c m v n w
+      → ((base : View T) → AtAsked code kind after kept call base v c m → CallStands base x c m) → ToldSo c m x n w → ToldAsked c m v n w
   told_asked c m n x v w same as_stage told_so = (
     told_so.0 ∙ same,
     λ base stage. with_asked base (after c n) (kept c m n) w
@@ -290,41 +326,44 @@ module _ {T C M E : Type 0} (machines : Machines T) (decides : MayDecide machine
 
   module _ (key words slots id : ℕ) (c : C) (m : M) (wide : words ≡ size_of key + 1) (still : is_question (want c) ≡ false)
       (asked : AsksFor (size_of key) (want c)) where
+    -- the word that the call asks for
     abbrev ask : Ask
     ask = asked.0
 
-    -- what the table owes at the word
+    -- what a step at a word has to leave: the rule of the machine, and what is told of the step
     abbrev OwedAt : View T → (C → M → View T → ℕ → View T → Type 0) → Type 0
     OwedAt v told = OwesAsk (λ (z : View T). z.asked) (IsMachine code kind key) words slots id (told c m) ask.word ask.op (v, [])
 
+    -- the word is one of the table's
     below : ask.word < words
     below = omega (arith, asked.1)
 
     -- a call whose next step is at a word owes that step
-    at_word : (base v : View T) → v.capacity ≡ key → Stage base v c m → OwedAt v ToldSo
+    at_word : (base v : View T) → v.capacity ≡ key → CallStands base v c m → OwedAt v ToldSo
     at_word base v known stage =
         let size : key ≡ base.capacity = sym known ∙ same_size base v c m (inl stage) in
         subst (λ w. Owes (λ (z : View T). z.asked) (IsMachine code kind key) words slots id (ToldSo c m) w (v, [])) asked.2
         (keeps_at machines driven steps_there base v c m key words slots id wide known stage
         (subst (λ i. AsksFor (size_of i) (want c)) size asked))
 
-    -- who has heard none
-    at_once : (base₀ v : View T) → v.capacity ≡ key → Stage base₀ v c m → OwedAt v ToldAsked
+    -- a call that has heard no answer owes just the step at its word
+    at_once : (base₀ v : View T) → v.capacity ≡ key → CallStands base₀ v c m → OwedAt v ToldAsked
     at_once base₀ v known at₀ =
         let h = at_word base₀ v known at₀ in
         (h.0, λ s r long at small. (let x = h.1 s r long at small in (x.0, x.1, x.2, x.3, (told_asked c m _ v v x.0 refl as_it_is x.4.0, x.4.1, x.4.2))))
       where
-        as_it_is : (base : View T) → AtAsked code kind after kept call base v c m → Stage base v c m
+        -- the call is at a word, so it has heard no answer
+        as_it_is : (base : View T) → AtAsked code kind after kept call base v c m → CallStands base v c m
         as_it_is base (inl stage) = stage
         as_it_is base (inr k) = never_both base₀ base v c m still at₀ k
 
-    -- who has heard an answer: the machine is handed it first
-    once_heard : (base₀ v : View T) → v.capacity ≡ key → Heard base₀ v c m → OwedAt v ToldAsked
-    once_heard base₀ v known h = (
+    -- a call that has heard an answer: before its step at a word the machine is handed the answer
+    once_heard : (base₀ v : View T) → v.capacity ≡ key → HasHeardAnswer base₀ v c m → OwedAt v ToldAsked
+    once_heard base₀ v known has_heard_answer = (
       below,
       λ s r long at small. (
           let it = hearing s r at in
-          let x = (at_word base₀ (view_heard it) known (inr (lifted it base₀ h))).1 (table_heard it) (machine_heard it) long
+          let x = (at_word base₀ (view_heard it) known (inr (lifted it base₀ has_heard_answer))).1 (table_heard it) (machine_heard it) long
           (set_here s.views id (view_heard it) (within s.views id v at)) small
           in (
             x.0,
@@ -341,9 +380,9 @@ module _ {T C M E : Type 0} (machines : Machines T) (decides : MayDecide machine
           )),
     )
       where
-        -- a call that puts a question hears its answer
+        -- the seat whose call has heard an answer, of which the machine holds
         hearing : (s : State (Unit {0}) (View T)) → IsMachine code kind key s → get_elem? s.views id ≡ some v → Hearing
-        hearing s r at =
+        hearing s is_machine has_view =
             record {
               s = s;
               v = v;
@@ -351,30 +390,35 @@ module _ {T C M E : Type 0} (machines : Machines T) (decides : MayDecide machine
               id = id;
               c = c;
               m = m;
-              r = r;
-              at = at;
+              r = is_machine;
+              at = has_view;
               known = known;
               base₀ = base₀;
-              h = h;
+              h = has_heard_answer;
             }
 
+        -- in each drive in which the call has heard an answer, it is under way in the view with the answer
         as_heard : (s : State (Unit {0}) (View T)) (r : IsMachine code kind key s) (at : get_elem? s.views id ≡ some v) (base : View T)
-            → AtAsked code kind after kept call base v c m → Stage base (view_heard (hearing s r at)) c m
-        as_heard s r at base (inl stage) = never_both base base₀ v c m still stage h
+            → AtAsked code kind after kept call base v c m → CallStands base (view_heard (hearing s r at)) c m
+        as_heard s r at base (inl stage) = never_both base base₀ v c m still stage has_heard_answer
         as_heard s r at base (inr k) = inr (lifted (hearing s r at) base k)
 
-  -- at a word, where its call can end by a step alone
+  -- at a word, each step keeps the rule, where the call can end by a step alone
   pub keeps_word : (base₀ v : View T) (c : C) (m : M) (key words slots id : ℕ) → words ≡ size_of key + 1 → v.capacity ≡ key
       → is_question (want c) ≡ false → AtAsked code kind after kept call base₀ v c m
       → Owes (λ (z : View T). z.asked) (IsMachine code kind key) words slots id (ToldAsked c m) (want c) (v, [])
   keeps_word base₀ v c m key words slots id wide known still at₀ = go_at (steps.asks key c stands_so still)
     where
+      -- the stage is one of the call
       stands_so : call.stands key c
       stands_so = grind (arith, same_size, standing)
 
+      -- with the word that it asks for, the call owes its step
       go_at : AsksFor (size_of key) (want c) → Owes (λ (z : View T). z.asked) (IsMachine code kind key) words slots id (ToldAsked c m) (want c) (v, [])
       go_at asked = subst (λ w. Owes (λ (z : View T). z.asked) (IsMachine code kind key) words slots id (ToldAsked c m) w (v, [])) (sym asked.2) (go at₀)
         where
+          -- the call is about to begin or under way, and steps at once, or it has heard an answer, of which
+          -- the machine is told first
           go : AtAsked code kind after kept call base₀ v c m → OwedAt key words slots id c m wide still asked v ToldAsked
           go (inl stage) = at_once key words slots id c m wide still asked base₀ v known stage
           go (inr h) = once_heard key words slots id c m wide still asked base₀ v known h
@@ -382,19 +426,22 @@ module _ {T C M E : Type 0} (machines : Machines T) (decides : MayDecide machine
   -- where the answer ends its call, the call finishes so, as `rested` says
   module _ (rested : (base v : View T) (c : C) (m : M) (said : Bool) (e : E) → is_question (want c) ≡ true → after c (number_of said) ≡ Done e
       → IsUnderWay code kind call base v c m → Finished base e (kept c m (number_of said)) v) where
-    -- where the answer ends its call, the call has ended
+    -- an answer that ends the call leaves it over, as `Finished` says
     pub ends_said : (base v : View T) (c : C) (m : M) (said : Bool) (e : E) → is_question (want c) ≡ true → after c (number_of said) ≡ Done e
         → AtAsked code kind after kept call base v c m → Finished base e (kept c m (number_of said)) v
     ends_said = grind arith
 
+    -- a call at a question that is told no goes on or ends as `NextKnown` asks
     told_no : (v : View T) (c : C) (m : M) → is_question (want c) ≡ true → ToldAsked c m v 0 v
     told_no v c m due = (refl, λ base stage. go base stage (after c 0) refl)
       where
+        -- with an answer the call goes on, and has heard it, or it ends
         go : (base : View T) → AtAsked code kind after kept call base v c m → (a : After C E) → after c 0 ≡ a
             → NextKnown (λ (z : View T). z.capacity) (AtAsked code kind after kept call) Finished base a (kept c m 0) v
-        go base stage (GoOn d) e = hears_said base v c d m false due e stage
-        go base stage (Done end) e = ends_said base v c m false end due e stage
+        go base stage (GoOn d) leads = hears_said base v c d m false due leads stage
+        go base stage (Done end) leads = ends_said base v c m false end due leads stage
 
+    -- each step of the call keeps the rule of the table, at a word and at a question
     pub keeps_said : KeepsSo code kind size_of driven (AtAsked code kind after kept call) Finished
     keeps_said base₀ v c m key words slots id wide known at₀ = by_bool (is_question (want c)) (λ due. at_question (want c) refl due)
         (λ still. keeps_word base₀ v c m key words slots id wide known still at₀)
@@ -402,16 +449,17 @@ module _ {T C M E : Type 0} (machines : Machines T) (decides : MayDecide machine
         -- a call at a question owes nothing at the words until the answer is there
         at_question : (w : Want (Unit {0})) → want c ≡ w → is_question w ≡ true
             → Owes (λ (z : View T). z.asked) (IsMachine code kind key) words slots id (ToldAsked c m) w (v, [])
-        at_question (wants.Ask a) e due = absurd (cc)
-        at_question (wants.Question q) e due = told_no v c m (ap is_question e ∙ due)
-        at_question wants.Nothing e due = absurd (cc)
+        at_question (wants.Ask a) asks_it due = absurd (cc)
+        at_question (wants.Question q) asks_it due = told_no v c m (ap is_question asks_it ∙ due)
+        at_question wants.Nothing asks_it due = absurd (cc)
 
--- ---- of a call that no answer ends
+-- ---- a call that no answer ends
 
 -- a call that may put questions, none of whose answers ends it
 pub record IsAskingOf {T C M E : Type 0} (code : Coding T) (kind : Kind) (effects : ℕ → Flight T → ℕ → List (Event T)) (size_of : ℕ → ℕ)
     (driven : Driven T C M E) : Type 0 where
   pub asking : IsAskingIn code kind effects size_of driven
+  -- no answer ends the call
   pub lasts : (c : C) (e : E) (n : ℕ) → is_question (driven.want c) ≡ true → driven.after c n ≡ Done e → ⊥
 
 module _ {T C M E : Type 0} (machines : Machines T) (decides : MayDecide machines.kind) (own : ℕ → Flight T → ℕ → List (Event T))
@@ -420,13 +468,17 @@ module _ {T C M E : Type 0} (machines : Machines T) (decides : MayDecide machine
   open machines use {code, kind, size_of}
   open driven use {want, after, kept, call}
 
+  -- since no answer ends it, nothing is owed of an answer that does
   never_ends : (base v : View T) (c : C) (m : M) (said : Bool) (e : E) → is_question (want c) ≡ true → after c (number_of said) ≡ Done e
       → IsUnderWay code kind call base v c m → Ends code kind call base e (kept c m (number_of said)) v
-  never_ends base v c m said end due e under = absurd (is_call.lasts c end (number_of said) due e)
+  never_ends base v c m said end due leads under = absurd (is_call.lasts c end (number_of said) due leads)
 
+  -- each step of a call that no answer ends keeps the rule, and the call ends by a step
   pub keeps_asked : KeepsSo code kind size_of driven (AtAsked code kind after kept call) (Ends code kind call)
   keeps_asked = keeps_said machines decides own driven acts is_call.asking (Ends code kind call) (λ base e m w h. h) never_ends
 
+  -- a call that stands at a question and is answered so that it goes on has heard the answer,
+  -- since no answer ends it
   pub hears_answer : (base v : View T) (c d : C) (m : M) (said : Bool) → is_question (want c) ≡ true → after c (number_of said) ≡ GoOn d
       → AtAsked code kind after kept call base v c m → AtAsked code kind after kept call base v d (kept c m (number_of said))
   hears_answer = grind arith

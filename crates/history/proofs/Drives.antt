@@ -26,6 +26,7 @@ pub use Rattle.history.proofs.CallsIn.{Driven, goes, IsCallBy, IsCallOf, KeepsSo
 pub use Rattle.history.proofs.Called.{called, at_itself}
 pub use Rattle.history.proofs.Sized.{AtSized, EndsSized, keeps_sized}
 
+-- a number is at most itself
 as_much : (n : ℕ) → n ≤ n
 as_much n = omega arith
 
@@ -34,68 +35,83 @@ module _ {T C M E Asks : Type 0} (machines : Machines T) (driven : Driven T C M 
   open machines use {code, kind, effects, size_of, laws}
   open driven use {want, after, kept, call}
 
-  abbrev Step : View T → After C E → M → View T → Type 0
-  Step base a m w = NextKnown (λ (z : View T). z.capacity) (At code kind call) (Over code kind call) base a m w
+  -- what is known of the call after a step that leads to `a`: it is under way at the next
+  -- stage, or it is over
+  abbrev KnownAfter : View T → After C E → M → View T → Type 0
+  KnownAfter base a m w = NextKnown (λ (z : View T). z.capacity) (At code kind call) (Over code kind call) base a m w
 
-  -- a step of a seat's call that asks for a word, with an answer that the call does not leave out
+  -- a step of a seat's call that asks for a word, with an answer that does not end the
+  -- call outside the history
   pub record Asking : Type 0 where
     pub seat : Seat machines call
     pub ask : Ask
+    -- the word is one of the structure, and it is the one that the call asks for
     pub low : ask.word < size_of seat.key
     pub wants_it : want seat.c ≡ wants.Ask ask
+    -- the word is a 64-bit one, which does not end the call outside the history
     pub small : slice_index seat.s.words ask.word < 2 ^ 64
     pub skip : call.skips seat.c (slice_index seat.s.words ask.word) ≡ false
 
   module _ (asking : Asking) where
     open asking use {seat, seat.{s, v, key, id, c, m, at, known, y}, ask, low, wants_it, small, skip}
 
+    -- the number that the word has
     abbrev n : ℕ
     n = slice_index s.words ask.word
 
+    -- the machine's call asks for that word
     pub asks_it : want_of code (call.flight c m) ≡ wants.Ask ask
     asks_it = is_call.same_want c m ∙ wants_it
 
+    -- the number is not that of a last position or version
     pub finds_it : IsFreshCall n (call.flight c m)
     finds_it = is_call.finds c m n small skip
 
+    -- the step, as one of the machine's
     abbrev step : Stepping machines call
     step = record { seat = seat; ask = Some ask; low = low; asks_it = asks_it; finds = finds_it }
 
+    -- the view of the seat after the step
     abbrev pub view_now : View T
     view_now = view_then machines call step
 
+    -- the machine's call goes to the stage to which the driver's goes
     comes_there : (base : View T) → At code kind call base v c m → goes_of code y.p (call.flight c m) n y.u.world.kept ≡ goes call (after c n) (kept c m n)
     comes_there = grind arith
 
+    -- each operation was a step of the call
     steps_so : (base : View T) → At code kind call base v c m → StepsOnly base view_now
     steps_so = asked_then machines call step refl
 
     -- what is known of the call after the step
-    known_then : (base : View T) → At code kind call base v c m → (r : After C E) → after c n ≡ r → Step base r (kept c m n) view_now
-    known_then base stage (GoOn d) e =
+    known_then : (base : View T) → At code kind call base v c m → (r : After C E) → after c n ≡ r → KnownAfter base r (kept c m n) view_now
+    known_then base stage (GoOn d) leads =
         inr (goes_then machines call step
-        base stage d (kept c m n) (comes_there base stage ∙ ap (λ r. goes call r (kept c m n)) e)
-        (is_call.stays base.capacity c d n (still_stands code kind call base v c m stage) e)
-        (λ k. is_call.past base.capacity c d n k (still_stands code kind call base v c m stage) e)
+        base stage d (kept c m n) (comes_there base stage ∙ ap (λ r. goes call r (kept c m n)) leads)
+        (is_call.stays base.capacity c d n (still_stands code kind call base v c m stage) leads)
+        (λ k. is_call.past base.capacity c d n k (still_stands code kind call base v c m stage) leads)
         (λ es late h waits met. is_call.tells base.capacity y.p base.going c d m n es late y.u
-        (still_stands code kind call base v c m stage) h waits met e)
+        (still_stands code kind call base v c m stage) h waits met leads)
         (steps_so base stage) refl)
-    known_then base stage (Done end) e =
+    known_then base stage (Done end) leads =
         inl (ends_then machines call step
-        base stage end (kept c m n) (comes_there base stage ∙ ap (λ r. goes call r (kept c m n)) e)
+        base stage end (kept c m n) (comes_there base stage ∙ ap (λ r. goes call r (kept c m n)) leads)
         (λ es late h waits met. is_call.tells_all base.capacity y.p base.going c end m n es late y.u
-        (still_stands code kind call base v c m stage) skip h waits met e
+        (still_stands code kind call base v c m stage) skip h waits met leads
         (ap is_question wants_it))
         (inl (steps_so base stage)))
 
+    -- what the step tells: where the call stands or how it has ended, in each drive
     pub told : Told (λ (z : View T). z.capacity) (At code kind call) (Over code kind call) after kept c m v (answered ask.op n) view_now
     told = grind (arith, known_then)
 
+    -- after the step the machine stands at the table's words, and the seat has gained the step's events
     pub between_then : Between code kind key y.owner
         (record { words = slice_set s.words ask.word (written ask.op n); homes = s.homes; views = s.views }) id y.p
         (then_gained machines call step) (after_turn y.u (Next y.p))
     between_then = next_between machines call step
 
+    -- the step is one operation, and one step of the run
     pub gains_now : Gains s.views v (v.asked + 1) (v.aside + 0)
         (steps_of_run code kind key (next_between machines call step).one.turns)
     gains_now = gains_then machines call step
@@ -104,9 +120,10 @@ module _ {T C M E Asks : Type 0} (machines : Machines T) (driven : Driven T C M 
     abbrev pub gained_now : List (Event T)
     gained_now = then_gained machines call step
 
-  -- ---- a call that finds the last position is a look
+  -- ---- a call that finds the last position or version ends outside the history: its step is a look
 
-  -- a step of a seat's call that asks for a word, whose answer the call leaves out: a look, after which the seat knows `w`
+  -- a step of a seat's call that asks for a word, with an answer that ends the call outside the history: a
+  -- look, after which the seat knows `w`
   pub record Looking : Type 0 where
     pub s : State (Unit {0}) (View T)
     pub v : View T
@@ -115,11 +132,14 @@ module _ {T C M E Asks : Type 0} (machines : Machines T) (driven : Driven T C M 
     pub c : C
     pub m : M
     pub ask : Ask
+    -- the call asks for this word, which ends it outside the history
     pub known : v.capacity ≡ key
     pub wants_it : want c ≡ wants.Ask ask
     pub skip : call.skips c (slice_index s.words ask.word) ≡ true
+    -- the look was one operation
     pub looked : Looks code kind key v w
     pub counts : w.asked ≡ v.asked + 1
+    -- the machine that was looked at had the word that the table had
     pub t : Trace T
     pub run : IsRun code kind key t
     pub same_seen : w.seen ≡ t.events
@@ -128,6 +148,7 @@ module _ {T C M E Asks : Type 0} (machines : Machines T) (driven : Driven T C M 
   module _ (looking : Looking) where
     open looking use {s, v, w, key, c, m, ask, known, wants_it, skip, looked, counts, t, run, same_seen, same_word}
 
+    -- the number that the word has, which ends the call outside the history
     abbrev seen_word : ℕ
     seen_word = slice_index s.words ask.word
 
@@ -152,16 +173,18 @@ module _ {T C M E Asks : Type 0} (machines : Machines T) (driven : Driven T C M 
         }
     left_out base (inr under) e m' left = grind (arith, false)
 
+    -- what the look tells: the call is over, and is left out of the history
     pub told_left : Told (λ (z : View T). z.capacity) (At code kind call) (Over code kind call) after kept c m v (answered ask.op seen_word) w
     told_left = grind (arith, inr, left_out)
 
-  -- it has not begun, so nothing is late for it
+  -- a call that a word ends outside the history has not begun, so nothing is late for it
   calm : (base v : View T) (c : C) (m : M) (n : ℕ) → call.skips c n ≡ true → At code kind call base v c m
       → (late : List (Event T)) → IsLate kind v.going late → late ≡ []
   calm = grind arith
 
   -- ---- each step of the call at a word keeps the rule
 
+  -- what a step from this stage has to tell, where the call may end outside the history
   abbrev pub ToldOver : C → M → View T → ℕ → View T → Type 0
   ToldOver c m = Told (λ (z : View T). z.capacity) (At code kind call) (Over code kind call) after kept c m
 
@@ -171,6 +194,7 @@ module _ {T C M E Asks : Type 0} (machines : Machines T) (driven : Driven T C M 
       → Owes (λ (z : View T). z.asked) (IsMachine code kind key) words slots id (ToldOver c m) (want c) (v, [])
   unfolding between_then
   keeps_at base₀ v c m key words slots id wide known at₀ asked =
+      -- the word that the call asks for is one of the structure's, before the last word of the table
       let ask = asked.0 in
       let same : base₀.capacity ≡ key = sym (same_capacity code kind call base₀ v c m at₀) ∙ known in
       let low : ask.word < size_of key = subst (λ z. ask.word < size_of z) same asked.1 in
@@ -178,6 +202,8 @@ module _ {T C M E Asks : Type 0} (machines : Machines T) (driven : Driven T C M 
       subst (λ w. Owes (λ (z : View T). z.asked) (IsMachine code kind key) words slots id (ToldOver c m) w (v, [])) (sym asked.2) (
         below,
         λ s r long at small. by_bool (call.skips c (slice_index s.words ask.word)) (λ skip. (
+            -- the word ends the call outside the history: the step is a look, which leaves
+            -- the words as they are
             let out = is_call.leaves c ask (slice_index s.words ask.word) skip asked.2 in
             let look =
             looks_at code kind key slots id ask.word v
@@ -212,6 +238,7 @@ module _ {T C M E Asks : Type 0} (machines : Machines T) (driven : Driven T C M 
                 look.6,
                 look.4.1,
               ),
+              -- else the step is one of the machine, and the view gains its events
             ))) (λ skip. (
             let y = ready machines call s v key id c m r at known base₀ at₀ in
             let asking : Asking =
@@ -235,20 +262,25 @@ module _ {T C M E Asks : Type 0} (machines : Machines T) (driven : Driven T C M 
 
   -- a call that no word leaves out always ends
   module _ (never : (c : C) (n : ℕ) → call.skips c n ≡ false) where
+    -- a call that is over has ended in the history
     ended : (base : View T) (e : E) (m : M) (w : View T) → Over code kind call base e m w → Ends code kind call base e m w
     ended = grind arith
 
-    pub next_ended : (base : View T) (r : After C E) (m : M) (w : View T) → Step base r m w
+    -- what is known after a step, where no word ends the call outside the history
+    pub next_ended : (base : View T) (r : After C E) (m : M) (w : View T) → KnownAfter base r m w
         → NextKnown (λ (z : View T). z.capacity) (At code kind call) (Ends code kind call) base r m w
-    next_ended base (GoOn d) m w h = h
-    next_ended base (Done e) m w h = ended base e m w h
+    next_ended base (GoOn d) m w known_after = known_after
+    next_ended base (Done e) m w known_after = ended base e m w known_after
 
+    -- what a step from this stage has to tell, where the call ends in the history
     abbrev ToldEnds : C → M → View T → ℕ → View T → Type 0
     ToldEnds c m = Told (λ (z : View T). z.capacity) (At code kind call) (Ends code kind call) after kept c m
 
+    -- what is told of a call that may end outside the history is told of one that does not
     told_all : (c : C) (m : M) (x : View T) (n : ℕ) (w : View T) → ToldOver c m x n w → ToldEnds c m x n w
     told_all = grind arith
 
+    -- a call whose steps keep the rule, and that no word ends outside the history, keeps it to its end
     pub keeps_ends : KeepsOver code kind size_of driven → KeepsEnds code kind size_of driven
     keeps_ends keeps base₀ v c m key words slots id wide known at₀ = go (want c) (keeps base₀ v c m key words slots id wide known at₀)
       where
@@ -273,15 +305,18 @@ module _ {T C M E Asks : Type 0} (machines : Machines T) (driven : Driven T C M 
 module _ {T C M E : Type 0} (machines : Machines T) (driven : Driven T C M E) (is_call : IsCallThere machines driven) where
   open machines use {code, kind, size_of}
 
+  -- each step of a call that is always at a word keeps the rule of the machine
   pub keeps_there : KeepsOver code kind size_of driven
   keeps_there base₀ v c m key words slots id wide known at₀ =
       keeps_at machines driven is_call base₀ v c m key words slots id wide known at₀
       (is_call.asks base₀.capacity c (still_stands code kind driven.call base₀ v c m at₀))
 
+  -- a call each step of which is at a word, and that no word ends outside the history,
+  -- keeps the rule to its end
   pub keeps_all_there : ((c : C) (n : ℕ) → driven.call.skips c n ≡ false) → KeepsEnds code kind size_of driven
   keeps_all_there never = keeps_ends machines driven is_call never keeps_there
 
--- ---- of a kind whose calls go on by themselves
+-- ---- calls of a kind that go on by their stage alone
 
 module _ {T C M E : Type 0} (machines : SteadyMachines T) (driven : Driven T C M E) (is_call : IsCallIn machines driven) where
   open machines use {code, kind, effects, size_of, laws}
@@ -295,19 +330,21 @@ module _ {T C M E : Type 0} (machines : SteadyMachines T) (driven : Driven T C M
       goes_on_alike code kind capacity (size_of capacity) effects (laws capacity) t run p (call.flight c m) n ∙ is_call.same_after capacity c m n stands)
       is_call
 
+  -- each step of such a call keeps the rule
   pub keeps_in : KeepsOver code kind size_of driven
   keeps_in = keeps_there (kept_machines machines) driven steps_there
 
+  -- such a call that no word ends outside the history keeps the rule to its end
   pub keeps_all_in : ((c : C) (n : ℕ) → call.skips c n ≡ false) → KeepsEnds code kind size_of driven
   keeps_all_in = keeps_all_there (kept_machines machines) driven steps_there
 
--- ---- of a kind whose parties write for themselves alone
+-- ---- calls of a kind whose parties write for themselves alone
 
--- what may go on by what is kept is that too
+-- a kind whose machine steps depend on the stage alone is a kind of `Machines` too
 abbrev pub lone_machines : {T : Type 0} → LoneMachines T → Machines T
 lone_machines machines = kept_machines (steady_machines machines)
 
--- it goes on by itself, and writes for itself alone
+-- a call of a kind without late events goes on by its stage, and writes for its own party alone
 pub acts_alone : {T C M E : Type 0} (machines : LoneMachines T) (call : Calling T C M E)
     → ActsAlone machines.code machines.kind (λ w. machines.effects) machines.effects call
 acts_alone machines call =
@@ -324,16 +361,20 @@ module _ {T C M E : Type 0} (machines : LoneMachines T) (driven : Driven T C M E
     (is_call : IsCallBy machines.code machines.effects machines.size_of driven) where
   open machines use {code, kind, effects, size_of}
 
+  -- the steps of the call, as steps of the more general kind
   by_itself : IsCallThere (lone_machines machines) driven
   by_itself = steps_alone code kind (λ w. effects) effects driven (acts_alone machines driven.call) is_call
 
+  -- each step of such a call keeps the rule
   pub keeps : KeepsOver code kind size_of driven
   keeps = keeps_there (lone_machines machines) driven by_itself
 
+  -- such a call that no word ends outside the history keeps the rule to its end
   pub keeps_to_end : ((c : C) (n : ℕ) → driven.call.skips c n ≡ false) → KeepsEnds code kind size_of driven
   keeps_to_end = keeps_all_there (lone_machines machines) driven by_itself
 
--- the same of a kind whose parties write for themselves alone
+-- each step of a call keeps the rule, on a kind whose parties write for themselves alone, if no word ends the
+-- call outside the history
 pub keeps_all : {T C M E : Type 0} (code : Coding T) (kind : Kind) (effects : ℕ → Flight T → ℕ → List (Event T)) (size_of : ℕ → ℕ)
     (laws : (capacity : ℕ) → KindLaws code kind capacity (size_of capacity) effects) (want : C → Want (Unit {0})) (after : C → ℕ → After C E)
     (kept : C → M → ℕ → M) (call : Calling T C M E) → IsCallOf code effects size_of want after kept call

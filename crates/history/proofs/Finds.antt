@@ -1,4 +1,5 @@
--- A look at the cell of an index says whether the index has an owner just then, so a find tells of one index after another.
+-- A look at the cell of an index of a robust set tells whether the index has a given owner at that moment, so
+-- a `find` tells it of one index after another.
 use Rattle.history.proofs.Names.{◌≡◌, ◌≢◌, ⊎_elim, ℕ, ◌+◌, ◌<◌, Option, Some, List, [], ◌∷◌, ◌++◌, sym, ap}
 use Rattle.history.proofs.Names.{subst, ◌∙◌, arith, Contains, cases_eq, All-push}
 use Rattle.history.proofs.Names.{All-weaker, Contains-push, Contains-append_left, empty, Event, Coding, filled_of}
@@ -14,11 +15,13 @@ use Rattle.history.proofs.Robusts.{is_open_set, robust_size}
 
 -- ---- what a cell says
 
+-- a cell that has an owner's number is filled for that owner
 cell_tells : (o : Option ℕ) (owner k : ℕ) → owner < empty → k ≡ cell_of o → k ≡ owner → o ≡ Some owner
 cell_tells = grind arith
 
+-- a cell that has another number is not filled for this owner
 cell_denies : (o : Option ℕ) (owner k : ℕ) → k ≡ cell_of o → k ≢ owner → o ≢ Some owner
-cell_denies o owner k is ne e = ne (is ∙ ap cell_of e)
+cell_denies o owner k k_is ne e = ne (k_is ∙ ap cell_of e)
 
 -- k is what the cell of the index had as it was looked at; v and w are what the seat knew before that and after it
 module _ {T : Type 0} (code : Coding T) (capacity index k : ℕ) (low : index < capacity) (v w : View T)
@@ -31,32 +34,39 @@ module _ {T : Type 0} (code : Coding T) (capacity index k : ℕ) (low : index < 
       let cells = (is_open_set code capacity looks.trace looks.run).cells index (omega arith) in
       looks.word_is (omega arith) ∙ (cells ∙ ap (λ es. cell_of (filled_of index es)) (sym looks.seen))
 
+  -- a cell that was found with the owner's number: the index has that owner in the history that is seen then
   pub tells_owner : (owner : ℕ) → owner < empty → k ≡ owner → filled_of index w.seen ≡ Some owner
-  tells_owner owner fits e = cell_tells (filled_of index w.seen) owner k fits in_cell e
+  tells_owner owner fits k_is = cell_tells (filled_of index w.seen) owner k fits in_cell k_is
 
+  -- a cell that was found with another number: the index has another owner, or none
   pub tells_other : (owner : ℕ) → k ≢ owner → filled_of index w.seen ≢ Some owner
   tells_other owner ne = cell_denies (filled_of index w.seen) owner k in_cell ne
 
 -- ---- one index after another
 
 module _ {T : Type 0} where
+  -- what held between `old` and `mid` held between `old` and a later history
   held_later : (P : List (Event T) → Type 0) (old mid new : List (Event T)) → IsBeginning mid new → HeldBetween P old mid → HeldBetween P old new
   held_later = grind (arith, begins_further)
 
+  -- what holds now held at a moment up to now
   held_now : (P : List (Event T) → Type 0) (old new : List (Event T)) → IsBeginning old new → P new → HeldBetween P old new
   held_now P old new on now = grind (arith, itself)
 
   module _ (owner : ℕ) (old : List (Event T)) where
+    -- the index had the owner at a moment between the two histories
     abbrev Had : List (Event T) → ℕ → Type 0
     Had new index = HeldBetween (λ es. filled_of index es ≡ Some owner) old new
 
+    -- at a moment between the two histories the index did not have the owner
     abbrev HadNot : List (Event T) → ℕ → Type 0
     HadNot new index = HeldBetween (λ es. filled_of index es ≢ Some owner) old new
 
+    -- for the bound 0, below which there is no index, nothing has to be known
     pub owned_none : (new : List (Event T)) → WereOwned owner 0 [] old new
     owned_none = grind arith
 
-    -- indices that had the owner at a moment had it at that moment as seen from later on
+    -- what is known of the indices below the bound is known in each later history
     pub owned_later : (bound : ℕ) (indices : List ℕ) (mid new : List (Event T)) → IsBeginning mid new → WereOwned owner bound indices old mid
         → WereOwned owner bound indices old new
     owned_later bound indices mid new on were_owned =
@@ -66,7 +76,7 @@ module _ {T : Type 0} where
         }
 
     module _ (index : ℕ) (indices : List ℕ) (new : List (Event T)) (on : IsBeginning old new) (h : WereOwned owner index indices old new) where
-      -- one index more that has the owner now
+      -- with one index more, which has the owner now
       pub owned_more : filled_of index new ≡ Some owner → WereOwned owner (index + 1) (indices ++ index ∷ []) old new
       owned_more has =
           record {
@@ -74,15 +84,18 @@ module _ {T : Type 0} where
             had_not = past;
           }
         where
+          -- each index up to this one that is not in the list did not have the owner at a moment
           past : (i : ℕ) → i < index + 1 → (Contains (indices ++ index ∷ []) i → ⊥) → HadNot new i
           past i below out =
               ⊎_elim (λ (e : i ≡ index). absurd (out (subst (Contains (indices ++ index ∷ [])) (sym e) (Contains-push indices index))))
               (λ (ne : i ≢ index). h.had_not i (omega arith) (λ among. out (Contains-append_left indices (index ∷ []) i among)))
               (cases_eq i index)
 
+      -- with one index more, which does not have the owner now
       pub owned_past : filled_of index new ≢ Some owner → WereOwned owner (index + 1) indices old new
       owned_past has_not = record { had = h.had; had_not = past }
         where
+          -- each index up to this one that is not in the list did not have the owner at a moment
           past : (i : ℕ) → i < index + 1 → (Contains indices i → ⊥) → HadNot new i
           past i below out =
               ⊎_elim (λ (e : i ≡ index). subst (HadNot new) (sym e) (held_now (λ es. filled_of index es ≢ Some owner) old new on has_not))

@@ -1,4 +1,5 @@
--- Who has begun a call has one in the run: its latest.
+-- The bound on a call's operations (`TakesAlone`) holds of the party's latest call in the
+-- run that the pass knows.
 use Rattle.history.proofs.Names.{◌≡◌, ◌≢◌, ⊎_elim, ℕ, ◌+◌, ◌≤◌, ◌*◌, Bool, false, Option, Some, None, List, [], ◌∷◌, ◌++◌, refl, sym, ap, subst, ◌∙◌, arith}
 use Rattle.history.proofs.Names.{cases_eq, sum_by-append, Start, Flight, Kind, Party, Doing, Going, Over, Turn, Begin, Next, Decide, Answer}
 use Rattle.history.proofs.Names.{party_of, party_put_same, party_put_other, after_begin, after_next, after_decision, after_answer, Event, Begun, Finished}
@@ -20,19 +21,22 @@ use Rattle.history.proofs.Known.{by_more, own_mine, by_other, sum_first}
 use Rattle.history.proofs.Paid.{progress_of}
 
 module _ {T : Type 0} where
+  -- a turn that is not refused is possible, as the laws of calls need it
   possible_as : (kind : Kind) (w : World T) (turn : Turn T) → refusal_as kind w turn ≡ None → IsPossible w turn
-  possible_as kinds.Robust w turn e = possible_open w turn e
-  possible_as kinds.Container w turn e = possible_open w turn e
-  possible_as kind w turn e = possible_on w turn e
+  possible_as kinds.Robust w turn free = possible_open w turn free
+  possible_as kinds.Container w turn free = possible_open w turn free
+  possible_as kind w turn free = possible_on w turn free
 
   module _ (p : ℕ) where
     -- how often the party has begun a call
     abbrev begun_by : List (Event T) → ℕ
     begun_by es = begun (events_by p es)
 
+    -- how often a party has begun a call in two lists together
     more : (xs ys : List (Event T)) → begun_by (xs ++ ys) ≡ begun_by xs + begun_by ys
     more xs ys = ap begun (by_more p xs ys) ∙ sum_by-append begun_of (events_by p xs) (events_by p ys)
 
+    -- an event begins for a party at most the calls that it begins
     few : (e : Event T) → begun (own_of p e) ≤ begun_of e
     few e = grind arith
 
@@ -41,12 +45,13 @@ module _ {T : Type 0} where
     fewer [] = omega arith
     fewer (e ∷ es) = omega (arith, few e, fewer es, sum_by-append begun_of (own_of p e) (events_by p es), sum_first begun_of e es)
 
-    -- a party with no call has begun none
+    -- a party without a latest call has begun no call
     abbrev None_begun : Trace T → Type 0
     None_begun t = party_of p t.world.latest ≡ None → begun_by t.events ≡ 0
 
-    -- ---- a turn keeps it
+    -- ---- after a turn, too, a party without a latest call has begun none
 
+    -- a party that was given a latest call has one
     never : (q : ℕ) (x : Party T) (latest : List (ℕ × Party T)) → party_of q (put q x latest) ≡ None → ⊥
     never q x latest none = (let no : ◌≡◌ {A = Option (Party T)} (Some x) None = sym (party_put_same q x latest) ∙ none in absurd (cc))
 
@@ -66,22 +71,24 @@ module _ {T : Type 0} where
         ⊎_elim (λ (e : p ≡ q). absurd (never q _ w.latest (subst (λ n. party_of n (after_answer w q x ask n' (Going flight since)).latest ≡ None) e none)))
         (λ (ne : p ≢ q). sym (party_put_other p q _ w.latest ne) ∙ none) (cases_eq p q)
 
+    -- a party that has no call after a step had none before
     nexts : (w : World T) (q : ℕ) (o : Option (Party T)) → party_of p (after_next w q o).latest ≡ None → party_of p w.latest ≡ None
     nexts w q None none = none
     nexts w q (Some x) none = answers w q x (ask_of_doing w.coding x.doing) (old_of w.words (ask_of_doing w.coding x.doing)) x.doing none
 
+    -- a party that has no call after an answer to a question had none before
     decides : (w : World T) (q : ℕ) (said : Bool) (o : Option (Party T)) → party_of p (after_decision w q said o).latest ≡ None
         → party_of p w.latest ≡ None
     decides w q said None none = none
     decides w q said (Some x) none = answers w q x None (number_of said) x.doing none
 
-    -- a turn that begins no call leaves the party with none begun
+    -- a turn that begins no call leaves a party that has begun none as it was
     quiet : (t : Trace T) (turn : Turn T) → begun (after_turns t (turn ∷ [])).events ≡ begun t.events → begun_by t.events ≡ 0
         → begun_by (after_turn t turn).events ≡ 0
     quiet t turn same none =
         omega (arith, sum_by-append begun_of t.events (events_of t.world turn), fewer (events_of t.world turn), more t.events (events_of t.world turn))
 
-    -- each turn keeps it that a party without a call has begun none
+    -- after each turn a party without a latest call still has begun no call
     turned : (t : Trace T) (turn : Turn T) → IsPossible t.world turn → None_begun t → None_begun (after_turn t turn)
     turned t (Begin q start) may was none =
         let before = begins t.world q start (first_of t.world.kind t.world.capacity start t.world.kept) may.call none in
@@ -93,15 +100,17 @@ module _ {T : Type 0} where
         quiet t (Decide q said) (omega (arith, begins_are t (Decide q said ∷ []))) (was (decides t.world q said (party_of q t.world.latest) none))
     turned t (Die owner) may was none = quiet t (Die owner) (omega (arith, begins_are t (Die owner ∷ []))) (was none)
 
+    -- turns that are not refused keep that a party without a latest call has begun no call
     turns_keep : (kind : Kind) (t : Trace T) (turns : List (Turn T)) → AreAllowedBy (refusal_as kind) t turns → None_begun t → None_begun (after_turns t turns)
     turns_keep kind t [] allowed was = was
     turns_keep kind t (turn ∷ turns) allowed was =
         turns_keep kind (after_turn t turn) turns allowed.1 (turned t turn (possible_as kind t.world turn allowed.0) was)
 
-  -- ---- of a call that a pass has made
+  -- ---- a call that a pass has made
 
   module _ (code : Coding T) (kind : Kind) (capacity alone retry p : ℕ) (start : Start T) (answer : Answer T) (wrote : List (Event T)) (old new : View T)
       (called : Called p start answer wrote old new) (mine : new.party ≡ Some p) (knows : Knows code kind capacity new) where
+    -- the run that the pass knows
     abbrev known : Trace T
     known = run_of code kind capacity new.turns
 
@@ -118,10 +127,13 @@ module _ {T : Type 0} where
           more p (Begun p start ∷ []) (called.during ++ Finished p start answer ∷ []),
         )
 
+    -- the bound of a call holds in the run that the pass knows: the view and the run count the
+    -- same changes by others
     pub takes_in_run : TakesAlone alone retry old new → TakesInRun code kind capacity alone retry p old new
     takes_in_run takes = go (party_of p known.world.latest) refl
       where
-        -- the party has a latest call in the run, and the view counts the changes that the run counts of that call
+        -- the party has a latest call in the run, and the view counts the changes by others that the run
+        -- counts of that call
         go : (o : Option (Party T)) → party_of p known.world.latest ≡ o → TakesInRun code kind capacity alone retry p old new
         go None none =
             absurd (omega (arith, turns_keep p kind (opening code kind capacity 0) new.turns knows.allowed (λ none. refl) none, one))

@@ -1,5 +1,5 @@
--- A role that one party at a time holds, of any structure: while a party holds it nobody else writes what its holder
--- writes. And where an event that a call wrote stands in the history.
+-- A role of a queue or a single value has one holder at a time (`HasOneHolder`). So between two looks of a
+-- pass that holds it, nobody else writes what its holder alone writes.
 use Rattle.history.proofs.Names.{Each-less, ◌≡◌, ℕ, ◌==◌, Bool, true, false, Option, Some, None, List, [], ◌∷◌, ◌++◌, fold, refl}
 use Rattle.history.proofs.Names.{sym, ap, subst, ◌∙◌, append-nil, append_assoc, arith, nat_tests, fold-append, flat_map}
 use Rattle.history.proofs.Names.{Answer, Event, Begun, Finished, Start, Each, whose, is_party}
@@ -12,29 +12,30 @@ use Rattle.history.proofs.Known.{by_more}
 -- ---- where an event stands
 
 module _ {T : Type 0} where
-  -- the first event of the party stands somewhere
+  -- if the first event of the party is e, e stands in the list behind events of others alone
   pub first_own : (p : ℕ) (xs es : List (Event T)) (e : Event T) → events_by p xs ≡ e ∷ es
       → (ls : List (Event T)) × (rs : List (Event T)) × (xs ≡ ls ++ e ∷ rs) × (events_by p ls ≡ []) × (events_by p rs ≡ es)
-  first_own p [] es e is = absurd (cc)
-  first_own p (x ∷ xs) es e is = go (λ rest. first_own p xs es e rest) (is_party p (whose x)) refl
+  first_own p [] es e events_are = absurd (cc)
+  first_own p (x ∷ xs) es e events_are = go (λ rest. first_own p xs es e rest) (is_party p (whose x)) refl
     where
       -- whether the event in front is the party's or another's, the first event of the party stands somewhere
       go : (events_by p xs ≡ e ∷ es
           → (ls : List (Event T)) × (rs : List (Event T)) × (xs ≡ ls ++ e ∷ rs) × (events_by p ls ≡ []) × (events_by p rs ≡ es))
           → (b : Bool) → is_party p (whose x) ≡ b
           → (ls : List (Event T)) × (rs : List (Event T)) × (x ∷ xs ≡ ls ++ e ∷ rs) × (events_by p ls ≡ []) × (events_by p rs ≡ es)
-      go later true t =
-          let here : x ∷ events_by p xs ≡ e ∷ es = rw t at is in
+      go later true test_is =
+          let here : x ∷ events_by p xs ≡ e ∷ es = rw test_is at events_are in
           let same : x ≡ e = cc in
           let more : events_by p xs ≡ es = cc in
           ([], xs, ap (λ z. z ∷ xs) same, refl, more)
-      go later false t =
-          let rest : events_by p xs ≡ e ∷ es = rw t at is in
+      go later false test_is =
+          let rest : events_by p xs ≡ e ∷ es = rw test_is at events_are in
           let more = later rest in
-          (x ∷ more.0, more.1, ap (λ zs. x ∷ zs) more.2, rw t more.3, more.4)
+          (x ∷ more.0, more.1, ap (λ zs. x ∷ zs) more.2, rw test_is more.3, more.4)
 
-  -- the first event that a call wrote, with what stood before it and what its party wrote after it
+  -- the first event e that a call wrote: what was seen before it, and what its party wrote after it
   pub record Wrote (p : ℕ) (e : Event T) (own : List (Event T)) (base w : View T) : Type 0 where
+    -- e stands in what was seen, behind what `base` had seen; after it the party wrote `own`
     pub before : List (Event T)
     pub after : List (Event T)
     pub is : w.seen ≡ before ++ e ∷ after
@@ -48,18 +49,19 @@ module _ {T : Type 0} where
     pub others_own : events_by p others ≡ []
     pub during_own : events_by p during ≡ []
 
+  -- the end of a party's call is an event of that party
   it_is : (p : ℕ) (start : Start T) (answer : Answer T) → events_by p (Finished p start answer ∷ []) ≡ Finished p start answer ∷ []
   it_is p start answer = (let t : (p == p) ≡ true = grind (arith, nat_tests) in rw t refl)
 
   -- the first event that a call wrote stands in the history
   pub first_wrote : (p : ℕ) (start : Start T) (answer : Answer T) (e : Event T) (es : List (Event T)) (base w : View T)
       → Called p start answer (e ∷ es) base w → Wrote p e (es ++ Finished p start answer ∷ []) base w
-  first_wrote p start answer e es base w c =
-      let part = first_own p c.during es e c.during_own in
-      let events_then : List (Event T) = base.seen ++ c.others in
+  first_wrote p start answer e es base w called =
+      let part = first_own p called.during es e called.during_own in
+      let events_then : List (Event T) = base.seen ++ called.others in
       let last : List (Event T) = Finished p start answer ∷ [] in
       let whole : w.seen ≡ (events_then ++ Begun p start ∷ part.0) ++ e ∷ (part.1 ++ last) =
-      c.is
+      called.is
       ∙ (ap (λ ds. events_then ++ Begun p start ∷ (ds ++ last)) part.2
       ∙ (ap (λ zs. events_then ++ Begun p start ∷ zs) (append_assoc part.0 (e ∷ part.1) last)
       ∙ sym (append_assoc events_then (Begun p start ∷ part.0) (e ∷ (part.1 ++ last)))))
@@ -68,20 +70,20 @@ module _ {T : Type 0} where
         before = events_then ++ Begun p start ∷ part.0;
         after = part.1 ++ last;
         is = whole;
-        since = record { rest = c.others ++ Begun p start ∷ part.0; is = append_assoc base.seen c.others (Begun p start ∷ part.0) };
+        since = record { rest = called.others ++ Begun p start ∷ part.0; is = append_assoc base.seen called.others (Begun p start ∷ part.0) };
         mine = by_more p part.1 last ∙ (ap (λ zs. zs ++ events_by p last) part.4 ∙ ap (λ zs. es ++ zs) (it_is p start answer));
         start = start;
-        others = c.others;
+        others = called.others;
         during = part.0;
         begins = refl;
-        others_own = c.others_own;
+        others_own = called.others_own;
         during_own = part.3;
       }
 
 -- ---- a role
 
--- A role: who holds it after an event, what an event tells that only its holder writes, that its holder wrote such an
--- event, and that an event that moves the role is right.
+-- A role: who holds it after an event, what an event tells that only its holder writes (`marks`), that the
+-- holder wrote such an event, and that an event which moves the role is right (`Grants`).
 pub record RoleEvents (T M : Type 0) : Type 1 where
   pub holder_after : Option ℕ → Event T → Option ℕ
   pub marks : Event T → List M
@@ -89,10 +91,11 @@ pub record RoleEvents (T M : Type 0) : Type 1 where
   pub Grants : List (Event T) → Event T → Type 0
 
 module _ {T M : Type 0} (role : RoleEvents T M) where
+  -- who holds the role after these events, if somebody does
   abbrev pub held : List (Event T) → Option ℕ
   held events = fold role.holder_after None events
 
-  -- an event that leaves the role with the party and tells nothing of it
+  -- the event leaves the role with the party and tells nothing of it
   abbrev pub IsPlain : ℕ → Event T → Type 0
   IsPlain p e = (role.marks e ≡ []) × (role.holder_after (Some p) e ≡ Some p)
 
@@ -101,7 +104,8 @@ module _ {T M : Type 0} (role : RoleEvents T M) where
   ArePlain p [] = Unit {0}
   ArePlain p (e ∷ es) = IsPlain p e × ArePlain p es
 
-  -- an event of another neither gives a party the role nor takes it away, and the begin of a call moves no role
+  -- An event of another party neither gives this party the role nor takes it away, and a begin of a call
+  -- moves no role.
   pub record HasOneHolder : Type 0 where
     -- before another's event that leaves the role to the party, the party held it, and the event tells nothing of it
     pub back : (p : ℕ) (before : List (Event T)) (e : Event T) → role.ByItsHolder before e → is_party p (whose e) ≡ false
@@ -109,10 +113,12 @@ module _ {T M : Type 0} (role : RoleEvents T M) where
     -- while the party holds the role, another's event leaves it there and tells nothing of it
     pub forth : (p : ℕ) (before : List (Event T)) (e : Event T) → role.ByItsHolder before e → role.Grants before e
         → is_party p (whose e) ≡ false → held before ≡ Some p → IsPlain p e
+    -- the begin of a call neither moves the role nor tells of it
     pub begin : (o : Option ℕ) (p : ℕ) (start : Start T) → (role.holder_after o (Begun p start) ≡ o) × (role.marks (Begun p start) ≡ [])
 
 module _ {T M : Type 0} (role : RoleEvents T M) (one : HasOneHolder role) where
-  -- who holds it at the end, and wrote nothing since, held it before, and nobody wrote what its holder writes
+  -- if the party holds the role at the end and wrote nothing in between, it held it before, and nobody wrote
+  -- what only its holder writes
   pub back_over : (p : ℕ) (before es : List (Event T)) → Each role.ByItsHolder (before ++ es) → events_by p es ≡ []
       → held role (before ++ es) ≡ Some p → (held role before ≡ Some p) × (flat_map role.marks es ≡ [])
   back_over p before [] each none now = (ap (held role) (sym (append-nil before)) ∙ now, refl)
@@ -120,6 +126,7 @@ module _ {T M : Type 0} (role : RoleEvents T M) (one : HasOneHolder role) where
       go (λ rest. back_over p (before ++ e ∷ []) es (subst (Each role.ByItsHolder) (sym longer) each) rest (ap (held role) longer ∙ now))
       (is_party p (whose e)) refl
     where
+      -- an event may be counted with those before it, or with those behind it
       longer : (before ++ e ∷ []) ++ es ≡ before ++ e ∷ es
       longer = append_assoc before (e ∷ []) es
 
@@ -127,15 +134,16 @@ module _ {T M : Type 0} (role : RoleEvents T M) (one : HasOneHolder role) where
       -- and nobody wrote what its holder writes
       go : (events_by p es ≡ [] → (held role (before ++ e ∷ []) ≡ Some p) × (flat_map role.marks es ≡ [])) → (b : Bool)
           → is_party p (whose e) ≡ b → (held role before ≡ Some p) × (flat_map role.marks (e ∷ es) ≡ [])
-      go later true t = (let mine : e ∷ events_by p es ≡ [] = rw t at none in absurd (cc))
-      go later false t =
-          let rest : events_by p es ≡ [] = rw t at none in
+      go later true test_is = (let mine : e ∷ events_by p es ≡ [] = rw test_is at none in absurd (cc))
+      go later false test_is =
+          let rest : events_by p es ≡ [] = rw test_is at none in
           let more = later rest in
           let leaves : role.holder_after (held role before) e ≡ Some p = sym (fold-append role.holder_after None before (e ∷ [])) ∙ more.0 in
-          let here = one.back p before e (each before es e refl) t leaves in
+          let here = one.back p before e (each before es e refl) test_is leaves in
           (here.0, ap (λ xs. xs ++ flat_map role.marks es) here.1 ∙ more.1)
 
-  -- where the party holds it, and its own events neither move it nor tell of it, nobody writes what its holder writes
+  -- while the party holds the role, and its own events leave it there and tell nothing of it, nobody writes
+  -- what only its holder writes
   pub forth_over : (p : ℕ) (before es : List (Event T)) → Each role.ByItsHolder (before ++ es) → Each role.Grants (before ++ es)
       → ArePlain role p (events_by p es) → held role before ≡ Some p → flat_map role.marks es ≡ []
   forth_over p before [] each grants plain now = refl
@@ -145,34 +153,38 @@ module _ {T M : Type 0} (role : RoleEvents T M) (one : HasOneHolder role) where
       (fold-append role.holder_after None before (e ∷ []) ∙ (ap (λ o. role.holder_after o e) now ∙ still)))
       (is_party p (whose e)) refl
     where
+      -- an event may be counted with those before it, or with those behind it
       longer : (before ++ e ∷ []) ++ es ≡ before ++ e ∷ es
       longer = append_assoc before (e ∷ []) es
 
       -- whether the event in front is the party's or another's, nobody writes what the role's holder writes
       go : (ArePlain role p (events_by p es) → role.holder_after (Some p) e ≡ Some p → flat_map role.marks es ≡ []) → (b : Bool)
           → is_party p (whose e) ≡ b → flat_map role.marks (e ∷ es) ≡ []
-      go later true t =
-          let own : IsPlain role p e × ArePlain role p (events_by p es) = rw t at plain in
+      go later true test_is =
+          let own : IsPlain role p e × ArePlain role p (events_by p es) = rw test_is at plain in
           ap (λ xs. xs ++ flat_map role.marks es) own.0.0 ∙ later own.1 own.0.1
-      go later false t =
-          let rest : ArePlain role p (events_by p es) = rw t at plain in
-          let here = one.forth p before e (each before es e refl) (grants before es e refl) t now in
+      go later false test_is =
+          let rest : ArePlain role p (events_by p es) = rw test_is at plain in
+          let here = one.forth p before e (each before es e refl) (grants before es e refl) test_is now in
           ap (λ xs. xs ++ flat_map role.marks es) here.0 ∙ later rest here.1
 
   -- after what a pass had seen nobody has written what a holder writes, where the call's party holds the role
   module _ (p : ℕ) (start : Start T) (seen others during : List (Event T))
       (each : Each role.ByItsHolder ((seen ++ others) ++ Begun p start ∷ during)) (none_others : events_by p others ≡ [])
       (none_during : events_by p during ≡ []) (holds : held role ((seen ++ others) ++ Begun p start ∷ during) ≡ Some p) where
+    -- the begin of the call may be counted with what came before it, or with what came during the call
     split : ((seen ++ others) ++ Begun p start ∷ []) ++ during ≡ (seen ++ others) ++ Begun p start ∷ during
     split = append_assoc (seen ++ others) (Begun p start ∷ []) during
 
+    -- the party held the role as its call had begun, and nobody wrote what its holder writes while the call
+    -- was under way
     later : (held role ((seen ++ others) ++ Begun p start ∷ []) ≡ Some p) × (flat_map role.marks during ≡ [])
     later =
         back_over p ((seen ++ others) ++ Begun p start ∷ []) during
         (subst (Each role.ByItsHolder) (sym split) each) none_during (ap (held role) split ∙ holds)
 
-    -- the party held the role as its pass had seen the history last, and nobody wrote what its
-    -- holder writes before the call began
+    -- The party held the role when its pass had last looked, and nobody wrote what its holder writes before
+    -- the call began.
     earlier : (held role seen ≡ Some p) × (flat_map role.marks others ≡ [])
     earlier =
         let back : held role (seen ++ others) ≡ Some p =
@@ -180,7 +192,7 @@ module _ {T M : Type 0} (role : RoleEvents T M) (one : HasOneHolder role) where
         ∙ (sym (fold-append role.holder_after None (seen ++ others) (Begun p start ∷ [])) ∙ later.0) in
         back_over p seen others (Each-less role.ByItsHolder (seen ++ others) (Begun p start ∷ during) each) none_others back
 
-    -- nobody else wrote such an event while the call was under way
+    -- nobody wrote what the role's holder writes from the last look on to this moment of the call
     none_between : flat_map role.marks ((seen ++ others) ++ Begun p start ∷ during) ≡ flat_map role.marks seen
     none_between =
         let m = role.marks in
@@ -190,7 +202,7 @@ module _ {T M : Type 0} (role : RoleEvents T M) (one : HasOneHolder role) where
         ∙ (append-nil (flat_map m (seen ++ others))
         ∙ (flat_map-append m seen others ∙ (ap (λ zs. flat_map m seen ++ zs) earlier.1 ∙ append-nil (flat_map m seen))))))
 
-    -- nobody else wrote such an event up to one more event that tells nothing of the role
+    -- nor did anybody up to one more event that tells nothing of the role
     pub none_to_end : (last : Event T) → role.marks last ≡ []
         → flat_map role.marks (((seen ++ others) ++ Begun p start ∷ during) ++ last ∷ []) ≡ flat_map role.marks seen
     none_to_end last none =
@@ -199,17 +211,18 @@ module _ {T M : Type 0} (role : RoleEvents T M) (one : HasOneHolder role) where
         flat_map-append m events_then (last ∷ [])
         ∙ (ap (λ zs. flat_map m events_then ++ (zs ++ [])) none ∙ (append-nil (flat_map m events_then) ∙ none_between))
 
-  -- where the holder at the end wrote nothing since, nobody wrote what its holder writes
+  -- if the party holds the role at the end of what is now seen and wrote nothing since, nobody wrote
+  -- what its holder writes
   pub none_looked : (p : ℕ) (seen rest now : List (Event T)) → now ≡ seen ++ rest → Each role.ByItsHolder now → events_by p rest ≡ []
       → held role now ≡ Some p → flat_map role.marks now ≡ flat_map role.marks seen
-  none_looked p seen rest now is each none holds =
+  none_looked p seen rest now now_is each none holds =
       let m = role.marks in
-      let back = back_over p seen rest (subst (Each role.ByItsHolder) is each) none (ap (held role) (sym is) ∙ holds) in
-      ap (flat_map m) is ∙ (flat_map-append m seen rest ∙ (ap (λ zs. flat_map m seen ++ zs) back.1 ∙ append-nil (flat_map m seen)))
+      let back = back_over p seen rest (subst (Each role.ByItsHolder) now_is each) none (ap (held role) (sym now_is) ∙ holds) in
+      ap (flat_map m) now_is ∙ (flat_map-append m seen rest ∙ (ap (λ zs. flat_map m seen ++ zs) back.1 ∙ append-nil (flat_map m seen)))
 
   module _ {p : ℕ} {e : Event T} {own : List (Event T)} {base w : View T} (at : Wrote p e own base w)
       (each : Each role.ByItsHolder w.seen) (holds : held role at.before ≡ Some p) where
-    -- since the pass looked last, nobody wrote such an event before this one
+    -- since the pass looked last, nobody wrote what the role's holder writes before event e
     pub none_since : flat_map role.marks at.before ≡ flat_map role.marks base.seen
     none_since =
         ap (flat_map role.marks) at.begins
@@ -218,7 +231,7 @@ module _ {T M : Type 0} (role : RoleEvents T M) (one : HasOneHolder role) where
         (subst (Each role.ByItsHolder) (at.is ∙ ap (λ xs. xs ++ e ∷ at.after) at.begins) each))
         at.others_own at.during_own (ap (held role) (sym at.begins) ∙ holds)
 
-    -- what its holders wrote is longer by what this event tells, and by nothing else
+    -- what the holders of the role wrote has become longer by what event e tells, and by nothing else
     pub listed : Each role.Grants w.seen → role.holder_after (Some p) e ≡ Some p → ArePlain role p own
         → flat_map role.marks w.seen ≡ flat_map role.marks base.seen ++ role.marks e
     listed grants stays plain =

@@ -1,4 +1,5 @@
--- The one run of a table: what a turn more leaves of it, and what a seat knows of it that is put in another's place.
+-- The one run of a table (`OneRun`): how it grows with a turn, what a seat knows of it, and that it goes on
+-- from call to call, and over splits and joins.
 use Rattle.history.proofs.Names.{◌≡◌, ◌≢◌, ⊎_elim, ℕ, Option, None, List, [], ◌∷◌, ◌++◌, set, refl, sym, ap, subst, ◌∙◌}
 use Rattle.history.proofs.Names.{append-nil, append_assoc, at_set, Kind, Turn, Coding, IsCoding, Refusal, after_turn, World, Trace}
 use Rattle.history.proofs.Names.{inl, inr, ◌⊎◌, capacity_error, arith}
@@ -25,7 +26,7 @@ module _ {T : Type 0} where
   pub first_none : (turns : List (Turn T)) → AreFirst [] turns
   first_none turns = record { rest = turns; is = refl }
 
-  -- the first turns of the first turns are first turns
+  -- the first of the first turns of a list are first turns of the list
   pub first_further : (xs ys zs : List (Turn T)) → AreFirst xs ys → AreFirst ys zs → AreFirst xs zs
   first_further xs ys zs are_first then_first =
       record {
@@ -36,11 +37,11 @@ module _ {T : Type 0} where
   pub first_more : (xs ys zs : List (Turn T)) → AreFirst xs ys → AreFirst xs (ys ++ zs)
   first_more xs ys zs first = first_further xs ys (ys ++ zs) first (record { rest = zs; is = refl })
 
-  -- of two that are first turns of the same, the one goes on to the other
+  -- of two that are first turns of one list, one is a first part of the other
   either_first : (xs ys xs' ys' : List (Turn T)) → xs ++ xs' ≡ ys ++ ys' → AreFirst xs ys ⊎ AreFirst ys xs
-  either_first [] ys xs' ys' e = inl (first_none ys)
-  either_first (x ∷ xs) [] xs' ys' e = inr (first_none (x ∷ xs))
-  either_first (x ∷ xs) (y ∷ ys) xs' ys' e =
+  either_first [] ys xs' ys' lists_are = inl (first_none ys)
+  either_first (x ∷ xs) [] xs' ys' lists_are = inr (first_none (x ∷ xs))
+  either_first (x ∷ xs) (y ∷ ys) xs' ys' lists_are =
       let here : x ≡ y = cc in
       let rest : xs ++ xs' ≡ ys ++ ys' = cc in
       ⊎_elim (λ (a : AreFirst xs ys). inl (record { rest = a.rest; is = ap (λ z. z ∷ ys) (sym here) ∙ ap (λ zs. x ∷ zs) a.is }))
@@ -48,19 +49,22 @@ module _ {T : Type 0} where
       (either_first xs ys xs' ys' rest)
 
   pub know_one : (turns : List (Turn T)) (v w : View T) → Knew turns v → Knew turns w → KnowOneRun v w
-  know_one turns v w a b = either_first v.turns w.turns a.mine.rest b.mine.rest (sym a.mine.is ∙ b.mine.is)
+  know_one turns v w first_knew second_knew =
+      either_first v.turns w.turns first_knew.mine.rest second_knew.mine.rest (sym first_knew.mine.is ∙ second_knew.mine.is)
 
+  -- a turn that is not refused can follow turns none of which is refused
   pub allowed_more : (refuses : World T → Turn T → Option Refusal) (t : Trace T) (turns : List (Turn T)) (turn : Turn T)
       → AreAllowedBy refuses t turns → refuses (after_turns t turns).world turn ≡ None → AreAllowedBy refuses t (turns ++ turn ∷ [])
   allowed_more refuses t [] turn all free = (free, tt)
   allowed_more refuses t (x ∷ xs) turn all free = (all.0, allowed_more refuses (after_turn t x) xs turn all.1 free)
 
+  -- a turn that finds neither the last position nor the last version can follow turns of which this holds
   pub fresh_turns_more : (t : Trace T) (turns : List (Turn T)) (turn : Turn T)
       → AreFresh t turns → IsFreshTurn (after_turns t turns) turn → AreFresh t (turns ++ turn ∷ [])
   fresh_turns_more t [] turn all fresh = (fresh, tt)
   fresh_turns_more t (x ∷ xs) turn all fresh = (all.0, fresh_turns_more (after_turn t x) xs turn all.1 fresh)
 
-  -- its coding gives values back, and its capacity is admitted
+  -- a reached machine has a coding that gives values back, and a capacity that its kind admits
   pub admits : (kind : Kind) (t : Trace T) → IsReachedAs kind t → IsCoding t.world.coding × (capacity_error t.world.kind t.world.capacity ≡ None)
   admits kinds.Robust t reached = (reached.coded, reached.admitted)
   admits kinds.Container t reached = (reached.coded, reached.admitted)
@@ -70,11 +74,11 @@ module _ {T : Type 0} where
     abbrev start : Trace T
     start = opening code kind capacity 0
 
-    -- no turn yet
+    -- a table that has just been opened has the run of no turns, which each seat knows
     abbrev pub one_opens : (views : List (View T)) → ((j : ℕ) (x : View T) → get_elem? views j ≡ some x → Knew [] x) → OneRun code kind capacity views start
     one_opens views knew = record { turns = []; allowed = tt; fresh = tt; is = refl; knew = knew }
 
-    -- a turn more
+    -- the run with one turn more, which is not refused; each seat still knows first turns of it
     abbrev pub one_more : (views : List (View T)) (u : Trace T) (turn : Turn T) → refusal_as kind u.world turn ≡ None → IsFreshTurn u turn
         → OneRun code kind capacity views u → OneRun code kind capacity views (after_turn u turn)
     one_more views u turn free fresh one =
@@ -93,7 +97,7 @@ module _ {T : Type 0} where
               });
         }
 
-    -- a seat knows otherwise
+    -- one seat gets another view, which knows first turns of the run
     abbrev pub one_set : (views : List (View T)) (u : Trace T) (id : ℕ) (w : View T) (one : OneRun code kind capacity views u)
         → Knew one.turns w → OneRun code kind capacity (set views id w) u
     one_set views u id w one now =
@@ -107,47 +111,47 @@ module _ {T : Type 0} where
               (λ (e : (j ≢ id) × (get_elem? views j ≡ some x)). one.knew j x e.1) (at_set views id j w x found);
         }
 
-    -- who has seen all of it
+    -- a view that has all turns of the run knows first turns of it
     pub knew_all : (views : List (View T)) (u : Trace T) (w : View T) (one : OneRun code kind capacity views u)
         → w.turns ≡ one.turns → w.other_turns ≡ [] → Knew one.turns w
-    knew_all views u w one is none =
+    knew_all views u w one turns_are none =
         record {
-          mine = subst (λ ts. AreFirst ts one.turns) (sym is) (first_all one.turns);
+          mine = subst (λ ts. AreFirst ts one.turns) (sym turns_are) (first_all one.turns);
           theirs = subst (λ ts. AreFirst ts one.turns) (sym none) (first_none one.turns);
         }
 
-    -- a view that has all turns and all events of the run knows it
+    -- a view with all turns and all events of the run, its operations and its changes by others, knows it
     pub knows_all : (views : List (View T)) (u : Trace T) (w : View T) (one : OneRun code kind capacity views u)
         → IsRun code kind capacity u → w.turns ≡ one.turns → w.seen ≡ u.events → w.others ≡ others_by u.world w.party
         → HasAsked w (steps_of_run code kind capacity one.turns) → Knows code kind capacity w
-    knows_all views u w one run is seen others asked =
+    knows_all views u w one run turns_are seen others asked =
         let may = admits kind u run.reached in
         record {
           coded = subst IsCoding run.coded may.0;
           admitted =
               subst (λ k. capacity_error k capacity ≡ None) run.of_kind
               (subst (λ n. capacity_error u.world.kind n ≡ None) run.sized may.1);
-          allowed = subst (λ ts. AreAllowedBy (refusal_as kind) start ts) (sym is) one.allowed;
-          fresh = subst (λ ts. AreFresh start ts) (sym is) one.fresh;
-          is = seen ∙ ap (λ (t : Trace T). t.events) (one.is ∙ ap (run_of code kind capacity) (sym is));
-          others = others ∙ ap (λ (t : Trace T). others_by t.world w.party) (one.is ∙ ap (run_of code kind capacity) (sym is));
-          asked = subst (λ ts. HasAsked w (steps_of_run code kind capacity ts)) (sym is) asked;
+          allowed = subst (λ ts. AreAllowedBy (refusal_as kind) start ts) (sym turns_are) one.allowed;
+          fresh = subst (λ ts. AreFresh start ts) (sym turns_are) one.fresh;
+          is = seen ∙ ap (λ (t : Trace T). t.events) (one.is ∙ ap (run_of code kind capacity) (sym turns_are));
+          others = others ∙ ap (λ (t : Trace T). others_by t.world w.party) (one.is ∙ ap (run_of code kind capacity) (sym turns_are));
+          asked = subst (λ ts. HasAsked w (steps_of_run code kind capacity ts)) (sym turns_are) asked;
         }
 
-    -- the run that it knew goes on to it
+    -- the run that a seat knew goes on to the whole run of the table
     pub continues_all : (views : List (View T)) (u : Trace T) (id : ℕ) (v w : View T) (one : OneRun code kind capacity views u)
         → get_elem? views id ≡ some v → IsRun code kind capacity u → w.turns ≡ one.turns → w.seen ≡ u.events → w.others ≡ others_by u.world w.party
         → HasAsked w (steps_of_run code kind capacity one.turns) → Continues code kind capacity v w
-    continues_all views u id v w one at run is seen others asked =
+    continues_all views u id v w one has_view run turns_are seen others asked =
         record {
-          first = subst (λ ts. AreFirst v.turns ts) (sym is) (one.knew id v at).mine;
-          knows = knows_all views u w one run is seen others asked;
+          first = subst (λ ts. AreFirst v.turns ts) (sym turns_are) (one.knew id v has_view).mine;
+          knows = knows_all views u w one run turns_are seen others asked;
         }
 
     pub continues_further : (x y z : View T) → AreFirst x.turns y.turns → Continues code kind capacity y z → Continues code kind capacity x z
     continues_further x y z are_first continues = record { first = first_further x.turns y.turns z.turns are_first continues.first; knows = continues.knows }
 
-    -- a pass that has the turns and the events of another knows its run
+    -- a pass with the same turns, events and changes by others as another knows the run that the other knows
     same_run : (old new : View T) → new.turns ≡ old.turns → new.seen ≡ old.seen
         → new.others ≡ others_by (run_of code kind capacity old.turns).world new.party
         → HasAsked new (steps_of_run code kind capacity old.turns) → Knows code kind capacity old
@@ -178,6 +182,7 @@ module _ {T : Type 0} where
           (right_asked old right (steps_of_run code kind capacity old.turns) knows.asked cut.right_share cut.right_asked cut.right_aside) knows,
     )
 
+    -- the run that a joined pass knows goes on from the runs that both passes knew
     pub continues_join : (mine theirs new : View T) → HasJoined mine theirs new → Knows code kind capacity new
         → Continues code kind capacity mine new × Continues code kind capacity theirs new
     continues_join mine theirs new joined knows =
@@ -199,4 +204,4 @@ module _ {T : Type 0} where
         }
 
     pub seats_know_one : (s : State (Unit {0}) (View T)) → IsMachine code kind capacity s → SeatsKnowOneRun s
-    seats_know_one s m i j v w at there = know_one m.one.turns v w (m.one.knew i v at) (m.one.knew j w there)
+    seats_know_one s is_machine i j v w at there = know_one is_machine.one.turns v w (is_machine.one.knew i v at) (is_machine.one.knew j w there)

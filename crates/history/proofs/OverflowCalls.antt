@@ -1,5 +1,5 @@
--- The calls on the overflowing queue as calls of the model. What a push has written is read from the machine, since a pop
--- may have written its act.
+-- A push of an overflowing queue is a call of the model, whose act another party's pop may write; each step
+-- keeps the rule of the table.
 use Rattle.history.proofs.Names.{inl, ◌≡◌, ℕ, ◌+◌, ◌^◌, ◌%◌, ◌<◌, ◌==◌, Bool, true, false, cond, Option}
 use Rattle.history.proofs.Names.{Some, None, List, [], ◌∷◌, ◌++◌, get_or, slice_index, fold, refl, sym, ap, subst}
 use Rattle.history.proofs.Names.{◌∙◌, append_assoc, append-nil, arith, nat_tests, AllByRecursion, written, Ask}
@@ -42,35 +42,40 @@ use Rattle.history.proofs.CallsIn.{Driven, KeepsOver}
 -- ---- events within a call
 
 module _ {T : Type 0} where
+  -- two lists of events within calls make one list of events within calls
   within_both : (xs ys : List (Event T)) → AllByRecursion IsWithin xs → AllByRecursion IsWithin ys → AllByRecursion IsWithin (xs ++ ys)
-  within_both [] ys a b = b
-  within_both (x ∷ xs) ys a b = (a.0, within_both xs ys a.1 b)
+  within_both [] ys first_all_hold second_all_hold = second_all_hold
+  within_both (x ∷ xs) ys first_all_hold second_all_hold = (first_all_hold.0, within_both xs ys first_all_hold.1 second_all_hold)
 
+  -- the act of a call is an event within it
   within_acts : (p : ℕ) (start : QueueStart T) (o : Option (Answer T)) → AllByRecursion IsWithin (acts_if_done p start o)
   within_acts p start None = tt
   within_acts p start (Some answer) = (λ a. refl, tt)
 
+  -- what an effect writes lies within its call
   within_effect : (p : ℕ) (start : QueueStart T) (effect : Effect T) (o : Option (Answer T)) → AllByRecursion IsWithin (effects_of p start effect o)
   within_effect = grind (arith, within_acts, within_both)
 
+  -- what another party writes for a push is within the push
   within_late : (start : Start T) (late : List (Event T))
       → AllByRecursion (λ (e : Event T). (p : ℕ) × (e ≡ Acted p start PoppedNone)) late → AllByRecursion IsWithin late
-  within_late start [] h = tt
-  within_late start (e ∷ es) h = (λ a. subst (λ z. own_after a z ≡ longer a z) (sym h.0.1) refl, within_late start es h.1)
+  within_late start [] all_hold = tt
+  within_late start (e ∷ es) all_hold = (λ a. subst (λ z. own_after a z ≡ longer a z) (sym all_hold.0.1) refl, within_late start es all_hold.1)
 
-  -- such events make a span longer
+  -- events within a call make its span longer
   spans_on : (start : Start T) (xs ys : List (Event T)) → AllByRecursion IsWithin ys → fold own_after (Open start xs) ys ≡ Open start (xs ++ ys)
-  spans_on start xs [] h = ap (λ es. Open start es) (sym (append-nil xs))
-  spans_on start xs (y ∷ ys) h =
-      ap (λ a. fold own_after a ys) (h.0 (Open start xs))
-      ∙ (spans_on start (xs ++ y ∷ []) ys h.1 ∙ ap (λ es. Open start es) (append_assoc xs (y ∷ []) ys))
+  spans_on start xs [] all_hold = ap (λ es. Open start es) (sym (append-nil xs))
+  spans_on start xs (y ∷ ys) all_hold =
+      ap (λ a. fold own_after a ys) (all_hold.0 (Open start xs))
+      ∙ (spans_on start (xs ++ y ∷ []) ys all_hold.1 ∙ ap (λ es. Open start es) (append_assoc xs (y ∷ []) ys))
 
+  -- open spans that are equal have written the same
   same_open : (start other : Start T) (xs ys : List (Event T)) → Open start xs ≡ Open other ys → xs ≡ ys
-  same_open start other xs ys e = cc
+  same_open start other xs ys open_is = cc
 
 -- ---- pushes
 
--- a push that is not left out ends as a call
+-- a push that no word ends outside the history ends with an end that is in the history
 acts : (c : Pushing) (e : PushEnd) (n : ℕ) (stage : PushStage) → HasPushWord stage
     → over_push_skips stage n ≡ false → push_takes c stage n ≡ Done e → HasActed e
 acts c e n pushes.HandsBack push_word skip ends = absurd push_word
@@ -79,28 +84,37 @@ acts c e n (pushes.LoadsRead write) push_word skip ends = absurd (cc)
 acts c e n (pushes.StoresCell write at) push_word skip ends = absurd (cc)
 acts c e n (pushes.StoresWrite write at) push_word skip ends = go (distance write at == c.capacity) ends
   where
+    -- where the queue is over its capacity the push goes on to move the read position, else it
+    -- ends with its index added
     go : (b : Bool) → cond b (GoOn (at_push c (pushes.MovesRead at))) (Done Added) ≡ Done e → HasActed e
-    go true d = absurd (cc)
-    go false d = (let same : Added ≡ e = cc in subst HasActed same tt)
+    go true leads = absurd (cc)
+    go false leads = (let same : Added ≡ e = cc in subst HasActed same tt)
 acts c e n (pushes.MovesRead at) push_word skip ends = go (n == at) ends
   where
+    -- where the read position is still the one that it loaded the push goes on to load the oldest index, else
+    -- it ends with its own index added
     go : (b : Bool) → cond b (GoOn (at_push c (pushes.LoadsCell at))) (Done Added) ≡ Done e → HasActed e
-    go true d = absurd (cc)
-    go false d = (let same : Added ≡ e = cc in subst HasActed same tt)
+    go true leads = absurd (cc)
+    go false leads = (let same : Added ≡ e = cc in subst HasActed same tt)
 acts c e n (pushes.LoadsCell at) push_word skip ends = (let same : Oldest ≡ e = cc in subst HasActed same tt)
 
 module _ {T : Type 0} (code : Coding T) (v : ℕ) where
+  -- a push of this value, as a call of the model
   abbrev pushing : Calling T Pushing OneWord PushEnd
   pushing = pushes_over v
 
+  -- the model's push goes on as the driver's does
   same_after : (c : Pushing) (m : OneWord) (n : ℕ) → after_of code (pushing.flight c m) n ≡ goes pushing (push_after c n) (push_kept c m n)
   same_after = grind arith
 
-  abbrev Next : ℕ → Pushing → Type 0
-  Next capacity d = (d.capacity ≡ capacity) × HasPushWord d.stage × ((k : ℕ) → over_push_skips d.stage k ≡ false)
+  -- the push stands at a stage that has a word, on a queue of this capacity, and no word ends it
+  -- outside the history there
+  abbrev StandsNext : ℕ → Pushing → Type 0
+  StandsNext capacity d = (d.capacity ≡ capacity) × HasPushWord d.stage × ((k : ℕ) → over_push_skips d.stage k ≡ false)
 
+  -- a push that goes on is on a queue of the same capacity, at a stage that has a word
   stays : (capacity : ℕ) (c d : Pushing) (n : ℕ) (stage : PushStage) → c.capacity ≡ capacity
-      → HasPushWord stage → push_takes c stage n ≡ GoOn d → Next capacity d
+      → HasPushWord stage → push_takes c stage n ≡ GoOn d → StandsNext capacity d
   stays = grind arith
 
   -- a push asks for a word of the queue at each stage that has one
@@ -116,41 +130,51 @@ module _ {T : Type 0} (code : Coding T) (v : ℕ) where
   asks capacity own (pushes.LoadsCell read) same push_word =
       (record { word = cell_word own read; op = Load }, (let low : read % (own + 1) < own + 1 = omega arith in omega arith), refl)
 
-  abbrev Hears : Pushing → OneWord → Ask → ℕ → PushStage → Type 0
-  Hears c m a n stage = (push_takes c stage (answered a.op n) ≡ push_takes c stage n) × (push_keeps m stage (answered a.op n) ≡ push_keeps m stage n)
+  -- what the push hears of the operation is what the word was before it
+  abbrev HearsTheWord : Pushing → OneWord → Ask → ℕ → PushStage → Type 0
+  HearsTheWord c m a n stage = (push_takes c stage (answered a.op n) ≡ push_takes c stage n) × (push_keeps m stage (answered a.op n) ≡ push_keeps m stage n)
 
-  hears : (c : Pushing) (m : OneWord) (a : Ask) (n : ℕ) (stage : PushStage) → push_asks c.capacity stage v ≡ wants.Ask a → Hears c m a n stage
+  -- what a push hears of an operation is what the word was before it
+  hears : (c : Pushing) (m : OneWord) (a : Ask) (n : ℕ) (stage : PushStage) → push_asks c.capacity stage v ≡ wants.Ask a → HearsTheWord c m a n stage
   hears = grind arith
 
+  -- a push that no word ends outside the history does not find the last position
   finds : (n : ℕ) (stage : PushStage) → n < 2 ^ 64 → over_push_skips stage n ≡ false → IsFreshOver n stage
   finds = grind arith
 
-  -- a step that the model leaves out changes no word and ends the push
+  -- a push that loads the last position changes no word, and ends as handed back
   leaves : (c : Pushing) (a : Ask) (n : ℕ) (stage : PushStage) → over_push_skips stage n ≡ true
       → push_asks c.capacity stage v ≡ wants.Ask a
       → (written a.op n ≡ n) × (e : PushEnd) × (e ≡ Own) × (push_takes c stage n ≡ Done e)
   leaves = grind arith
 
-  -- ---- what it wrote, by the machine
+  -- ---- what a push has written, as its machine tells
 
-  -- the machine that a push stands at, with the words and what it wrote so far
-  record There (capacity p : ℕ) (c : Pushing) (es : List (Event T)) (n : ℕ) (t : Trace T) : Type 0 where
+  -- the machine on which a push stands at this stage: its positions, its cells, and what the
+  -- push has written so far
+  record StandsThere (capacity p : ℕ) (c : Pushing) (es : List (Event T)) (n : ℕ) (t : Trace T) : Type 0 where
+    -- the queue, as its laws have it, and that the push has written what its stage says
     pub core : Core ℕ
     pub wrote : es ≡ overflow_wrote capacity core p v c.stage
+    -- the read position and the cells are those of the machine's words
     pub read : slice_index t.world.words 1 ≡ core.read
     pub cell : (position : ℕ) → slice_index t.world.words (cell_word capacity position) ≡ get_or core.cells (position % (capacity + 1)) 0
+    -- the word that the push asks for is n
     pub found : old_of t.world.words (ask_of (push_asks capacity c.stage v)) ≡ n
 
-  -- the push of the machine stands where that of the driver does
+  -- on the machine on which the driver's push is to take a step, the model's push stands,
+  -- with what it has written
   there : (capacity p : ℕ) (from : Option (Start T × Flight T)) (c : Pushing) (m : OneWord) (n : ℕ) (es : List (Event T)) (t : Trace T)
       → c.capacity ≡ capacity → from ≡ None → AllByRecursion IsWithin es
-      → Met code kinds.Overflow capacity pushing.start (pushing.flight c m) p from es n t → There capacity p c es n t
+      → Met code kinds.Overflow capacity pushing.start (pushing.flight c m) p from es n t → StandsThere capacity p c es n t
   there capacity p from c m n es t same none are met =
+      -- what the queue's laws say of the push on this machine
       let is_sound = sound_of code capacity queues.Overflow t met.run in
       let at = stands t.world p pushing.start (pushing.flight c m) met.there in
       let now = stands_there (family t.world.coding queues.Overflow t.world.capacity) t is_sound p at.x at.since (pushing.flight c m) at.found at.doing in
       let core_now = is_sound.state.core in
       let words : t.world.words ≡ layout is_sound.state.roles core_now = is_sound.fit.words in
+      -- the span of its party tells what the push has written
       let span : Open at.x.start (overflow_wrote t.world.capacity core_now p v c.stage) ≡ Open pushing.start es =
       sym now.span ∙ (met.span none ∙ spans_on pushing.start [] es are) in
       record {
@@ -159,6 +183,7 @@ module _ {T : Type 0} (code : Coding T) (v : ℕ) where
             same_open pushing.start at.x.start es (overflow_wrote t.world.capacity core_now p v c.stage) (sym span)
             ∙ ap (λ z. overflow_wrote z core_now p v c.stage) met.run.sized;
         read = ap (λ ws. slice_index ws 1) words;
+        -- each cell of the queue is where the position says
         cell =
             λ position. ap (λ ws. slice_index ws (cell_word capacity position)) words
             ∙ word_at core_now.write core_now.read (free is_sound.state.roles.producer) (free is_sound.state.roles.consumer) core_now.cells
@@ -166,28 +191,30 @@ module _ {T : Type 0} (code : Coding T) (v : ℕ) where
         found = ap (λ z. old_of t.world.words (ask_of (push_asks z c.stage v))) (sym same) ∙ met.found;
       }
 
-  -- the effects of a step that goes on, and of one that ends
+  -- the events of the step with which a push ends, by its stage and its end
   effects_end : (w : World T) (p : ℕ) (c : Pushing) (e : PushEnd) (m : OneWord) (n : ℕ) → push_after c n ≡ Done e
       → over_effects w p (pushing.flight c m) n
       ≡ effects_of p (PushIndex v) (overflow_push_effect w.words c.capacity (Index v) c.stage n)
       (Some (popped (push_answer v (push_kept c m n).0 e)))
-  effects_end w p c e m n is = rw is refl
+  effects_end w p c e m n leads = rw leads refl
 
-  abbrev Tells : ℕ → ℕ → Pushing → PushEnd → OneWord → ℕ → List (Event T) → World T → PushStage → Type 0
-  Tells capacity p c e m n es w stage =
+  -- with what was written before, the last step of the push has written what a push with this end writes
+  abbrev TellsAtEnd : ℕ → ℕ → Pushing → PushEnd → OneWord → ℕ → List (Event T) → World T → PushStage → Type 0
+  TellsAtEnd capacity p c e m n es w stage =
       es ++ effects_of p (PushIndex v) (overflow_push_effect w.words c.capacity (Index v) stage n)
       (Some (popped (push_answer v (push_keeps m stage n).0 e)))
       ≡ over_push_wrote p v (push_keeps m stage n).0 e
 
-  -- what the last step of a push writes is what the push tells
+  -- the last step of a push writes what a push with its end writes in all
   tells_end : (capacity p : ℕ) (c : Pushing) (e : PushEnd) (m : OneWord) (n : ℕ) (es : List (Event T)) (t : Trace T)
       (k : Core ℕ) (stage : PushStage)
       → es ≡ overflow_wrote capacity k p v stage → slice_index t.world.words 1 ≡ k.read
       → ((position : ℕ) → slice_index t.world.words (cell_word capacity position) ≡ get_or k.cells (position % (capacity + 1)) 0)
       → old_of t.world.words (ask_of (push_asks capacity stage v)) ≡ n → HasPushWord stage
-      → over_push_skips stage n ≡ false → push_takes c stage n ≡ Done e → Tells capacity p c e m n es t.world stage
+      → over_push_skips stage n ≡ false → push_takes c stage n ≡ Done e → TellsAtEnd capacity p c e m n es t.world stage
   tells_end = grind arith
 
+  -- a push, as the driver makes it
   abbrev pub push_driven : Driven T Pushing OneWord PushEnd
   push_driven = record { want = λ c. push_want c v; after = push_after; kept = push_kept; call = pushing }
 
@@ -195,14 +222,18 @@ module _ {T : Type 0} (code : Coding T) (v : ℕ) where
   pub push_is_call : IsCallIn (overflow_machines code) push_driven
   push_is_call =
       record {
+        -- the model's push wants the word that the driver's push wants, and goes to the
+        -- stage to which that goes
         same_want = λ c m. refl;
         same_after = λ capacity c m n h. same_after c m n;
         hears = λ c m a n e. hears c m a n c.stage e;
         stays = λ capacity c d n h e. (let next = stays capacity c d n c.stage h.1 h.2 e in (h.0, next.0, next.1));
         asks = λ capacity c h. asks capacity c.capacity c.stage h.1 h.2;
+        -- only its first load may end it outside the history
         past = λ capacity c d n k h e. (stays capacity c d n c.stage h.1 h.2 e).2 k;
         finds = λ c m n small t. finds n c.stage small t;
         leaves = λ c a n t e. leaves c a n c.stage t e;
+        -- what a step writes, and what came late, lies within the call
         tells = λ capacity p from c d m n es late t h wrote waits met e. (
           wrote.0,
           within_both (es ++ late) (events_by p (over_effects t.world p (pushing.flight c m) n))
@@ -212,6 +243,7 @@ module _ {T : Type 0} (code : Coding T) (v : ℕ) where
               (push_own t.world p (record { call = c; given = v; room = m }) n)))
               (within_effect p (PushIndex v) _ _)),
         );
+        -- the last step writes what a push with its end writes, as the machine on which it stands has it
         tells_all = λ capacity p from c e m n es late t h skip wrote waits met is still. (
           acts c e n c.stage h.2 skip is,
           let x = there capacity p from c m n (es ++ late) t h.1 wrote.0 (within_both es late wrote.1 (within_late pushing.start late waits)) met in
@@ -226,7 +258,7 @@ module _ {T : Type 0} (code : Coding T) (v : ℕ) where
   pub over_push_keeps : KeepsOver code kinds.Overflow (λ capacity. 4 + (capacity + 1)) push_driven
   over_push_keeps = keeps_in (overflow_machines code) push_driven push_is_call
 
-  -- a push begins on a pass that rests and has the producer's role
+  -- a push begins on a pass that has the producer's role and no call under way, on a queue with a capacity
   pub over_push_first : (x : View T) → x.going ≡ None → x.other ≡ [] → 0 < x.share.part → 0 < x.capacity
       → x.capacity < 2 ^ 32 → HasRole Producer x.made
       → At code kinds.Overflow pushing x x (first_push x.capacity) (record { 0 = 0 })

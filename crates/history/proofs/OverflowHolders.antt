@@ -1,5 +1,5 @@
--- Who writes what of the overflowing queue, and where: the producer alone publishes, where at most the capacity waits, and
--- what is taken out is what waits first.
+-- In each history of an overflowing queue an index is published only by the holder of the producer's role,
+-- where at most the capacity waits, and what is taken out waits first.
 use Rattle.history.proofs.Names.{◌≡◌, inl, inr, ℕ, ◌+◌, ◌%◌, ◌<◌, ◌==◌, Bool, true, false, cond, Option, Some, None}
 use Rattle.history.proofs.Names.{List, [], ◌∷◌, ◌++◌, get_or, length, map, slice_index, refl, sym, ap, subst, ◌∙◌}
 use Rattle.history.proofs.Names.{append_assoc, append-nil, arith, nat_tests, length-map, fold-append, OneWord}
@@ -41,13 +41,16 @@ use Rattle.history.proofs.Overflows.{IsOwn, push_effect_own, over_effects, facts
 use Rattle.laws_robust.proofs.Cases.{on_bool}
 
 module _ {T : Type 0} (c : ℕ) where
+  -- the event is right: its party has the role that it needs, and it publishes or takes
+  -- out as the list allows
   abbrev Rightly : List (Event T) → Event T → Type 0
   Rightly before e = ByOverHolder before e × KeepsList (c + 1) before e
 
-  abbrev Right : List (Event T) → List (Event T) → Type 0
-  Right before es = AreRight Rightly before es
+  -- each of these events, one after another, is right behind `before`
+  abbrev AllRightly : List (Event T) → List (Event T) → Type 0
+  AllRightly before es = AreRight Rightly before es
 
-  -- what an effect says of the list
+  -- a step with this effect publishes where at most the capacity waits, and takes out what waits first
   abbrev FitsList : List (Event T) → Effect T → Type 0
   FitsList before (Publishes item) = length (waiting before) < c + 1
   FitsList before (PublishesAndActs item) = length (waiting before) < c + 1
@@ -57,71 +60,78 @@ module _ {T : Type 0} (c : ℕ) where
   FitsList before effect = Unit {0}
 
   -- events that are right one after the other are right together
-  right_both : (before xs ys : List (Event T)) → Right before xs → Right (before ++ xs) ys → Right before (xs ++ ys)
-  right_both before [] ys first_right second_right = subst (λ zs. Right zs ys) (append-nil before) second_right
+  right_both : (before xs ys : List (Event T)) → AllRightly before xs → AllRightly (before ++ xs) ys → AllRightly before (xs ++ ys)
+  right_both before [] ys first_right second_right = subst (λ zs. AllRightly zs ys) (append-nil before) second_right
   right_both before (x ∷ xs) ys first_right second_right = (
     first_right.0,
-    right_both (before ++ x ∷ []) xs ys first_right.1 (subst (λ zs. Right zs ys) (sym (append_assoc before (x ∷ []) xs)) second_right),
+    right_both (before ++ x ∷ []) xs ys first_right.1 (subst (λ zs. AllRightly zs ys) (sym (append_assoc before (x ∷ []) xs)) second_right),
   )
 
-  -- an event of a call moves no role
+  -- an event that gives the producer's role to nobody leaves it with the party
   produces : (before : List (Event T)) (e : Event T) (p : ℕ) → ((o : Option ℕ) → producer_after o e ≡ o)
       → producer_of before ≡ Some p → producer_of (before ++ e ∷ []) ≡ Some p
   produces = grind (arith, fold-append)
 
+  -- an event that gives the consumer's role to nobody leaves it with the party
   consumes : (before : List (Event T)) (e : Event T) (p : ℕ) → ((o : Option ℕ) → consumer_after o e ≡ o)
       → consumer_of before ≡ Some p → consumer_of (before ++ e ∷ []) ≡ Some p
   consumes = grind (arith, fold-append)
 
-  push_acts : (p v : ℕ) (o : Option (Answer T)) (before : List (Event T)) → producer_of before ≡ Some p → Right before (acts_if_done p (PushIndex v) o)
+  -- the act of a push is right where its party has the producer's role
+  push_acts : (p v : ℕ) (o : Option (Answer T)) (before : List (Event T)) → producer_of before ≡ Some p → AllRightly before (acts_if_done p (PushIndex v) o)
   push_acts = grind arith
 
-  pop_acts : (p : ℕ) (o : Option (Answer T)) (before : List (Event T)) → consumer_of before ≡ Some p → Right before (acts_if_done p Pop o)
+  -- the act of a pop is right where its party has the consumer's role
+  pop_acts : (p : ℕ) (o : Option (Answer T)) (before : List (Event T)) → consumer_of before ≡ Some p → AllRightly before (acts_if_done p Pop o)
   pop_acts p None before holds = tt
   pop_acts p (Some answer) before holds = ((holds, tt), tt)
 
+  -- the events of a push's step are right, where its effect fits the list and its party
+  -- has the producer's role
   push_right : (p v : ℕ) (effect : Effect T) (o : Option (Answer T)) (before : List (Event T)) → IsOwn effect
-      → FitsList before effect → producer_of before ≡ Some p → Right before (effects_of p (PushIndex v) effect o)
+      → FitsList before effect → producer_of before ≡ Some p → AllRightly before (effects_of p (PushIndex v) effect o)
   push_right = grind (arith, push_acts, produces, inl)
 
+  -- a pop that hands out what waits first, as the consumer, writes right events
   hands_right : (p : ℕ) (item : Item T) (o : Option (Answer T)) (before : List (Event T))
       → FitsList before (HandsOut item) → consumer_of before ≡ Some p
-      → Right before (effects_of p Pop (HandsOut item) o)
+      → AllRightly before (effects_of p Pop (HandsOut item) o)
   hands_right = grind (arith, inr, pop_acts, consumes)
 
-  -- a pop that makes room moves no role either
+  -- what a pop writes leaves the producer's role with its holder
   still : (p : ℕ) (item : Item T) (o : Option (Answer T)) (before : List (Event T))
       → producer_of (before ++ effects_of p Pop (HandsOut item) o) ≡ producer_of before
   still = grind (arith, fold-append)
 
-  -- what a pop takes out it takes out rightly, as the consumer does
+  -- the events of a pop's step are right, also where it writes the act of a push that waits for room
   takes_right : (p : ℕ) (item : Item T) (waits : Option (ℕ × ℕ)) (o : Option (Answer T)) (before : List (Event T))
       → ((q v : ℕ) → waits ≡ Some (q, v) → producer_of before ≡ Some q) → FitsList before (HandsOut item)
-      → consumer_of before ≡ Some p → Right before (effects_of p Pop (takes_effect item waits) o)
+      → consumer_of before ≡ Some p → AllRightly before (effects_of p Pop (takes_effect item waits) o)
   takes_right p item None o before known fits holds = hands_right p item o before fits holds
   takes_right p item (Some push) o before known fits holds =
       right_both before (effects_of p Pop (HandsOut item) o)
       (Acted push.0 (Queues (PushIndex push.1)) PoppedNone ∷ []) (hands_right p item o before fits holds)
       ((still p item o before ∙ known push.0 push.1 refl, tt), tt)
 
-  -- what a pop takes out, where it does
+  -- a pop that is about to take out has read what waits first
   abbrev PopFits : List (Event T) → List ℕ → ℕ → ℕ → PopStage → Type 0
   PopFits before words capacity n (pops.MovesRead read) =
       n ≡ read → FitsList before (HandsOut (Index (slice_index words (cell_word capacity read))))
   PopFits before words capacity n stage = Unit {0}
 
-  -- each step of a pop takes out rightly
+  -- each step of a pop that has read what waits first writes right events
   pop_right : (words : List ℕ) (capacity p n : ℕ) (waits : Option (ℕ × ℕ)) (stage : PopStage)
       (o : Option (Answer T)) (before : List (Event T))
       → ((q v : ℕ) → waits ≡ Some (q, v) → producer_of before ≡ Some q) → PopFits before words capacity n stage
       → consumer_of before ≡ Some p
-      → Right before (effects_of p Pop (overflow_pop_effect words waits capacity stage n) o)
+      → AllRightly before (effects_of p Pop (overflow_pop_effect words waits capacity stage n) o)
   pop_right words capacity p n waits pops.FindsNone o before known fits holds = pop_acts p o before holds
   pop_right words capacity p n waits pops.LoadsRead o before known fits holds = tt
   pop_right words capacity p n waits (pops.LoadsWrite read) o before known fits holds = pop_acts p o before holds
   pop_right words capacity p n waits (pops.LoadsCell read) o before known fits holds = tt
   pop_right words capacity p n waits (pops.MovesRead read) o before known fits holds =
-      on_bool (λ b. Right before (effects_of p Pop (cond b (takes_effect (Index (slice_index words (cell_word capacity read))) waits) Quiet) o)) (n == read)
+      on_bool (λ b. AllRightly before (effects_of p Pop (cond b (takes_effect (Index (slice_index words (cell_word capacity read))) waits) Quiet) o))
+      (n == read)
       (λ d.
       (let is : n ≡ read = grind (arith, nat_tests) in
       takes_right p (Index (slice_index words (cell_word capacity read))) waits o before known (fits is) holds))
@@ -132,7 +142,7 @@ module _ {T : Type 0} (c : ℕ) where
   module _ (k : Core ℕ) (words : List ℕ) (before : List (Event T)) (good : Good 1 words_of_index (c + 1) k)
       (same : waiting before ≡ map Index k.waiting) (is_read : slice_index words 1 ≡ k.read)
       (cell : (position : ℕ) → slice_index words (cell_word c position) ≡ get_or k.cells (position % (c + 1)) 0) where
-    -- the front stands in the cell of the read position
+    -- what waits first stands in the cell of the read position
     front : (read : ℕ) → read ≡ k.read → 0 < length k.waiting → (rest : List (Item T)) × (waiting before ≡ Index (slice_index words (cell_word c read)) ∷ rest)
     front read here some =
         let old = oldest c k good some in
@@ -140,10 +150,11 @@ module _ {T : Type 0} (c : ℕ) where
         ap (λ z. get_or k.cells (z % (c + 1)) 0) (sym here) ∙ sym (cell read) in
         (map Index old.0, same ∙ (ap (map Index) old.1 ∙ ap (λ u. Index u ∷ map Index old.0) value))
 
+    -- as many wait as the queue's laws say
     long : length (waiting before) ≡ length k.waiting
     long = ap length same ∙ length-map k.waiting Index
 
-    -- each step of a push fits the list
+    -- each step of a push has an effect that fits the list
     push_fits : (v capacity n : ℕ) (stage : PushStage) → capacity ≡ c → KnowsOverflowPush c k v stage
         → (stage_found : old_of words (ask_of (push_asks capacity stage v)) ≡ n)
         → FitsList before (overflow_push_effect words capacity (Index v) stage n)
@@ -153,6 +164,7 @@ module _ {T : Type 0} (c : ℕ) where
     push_fits v capacity n (pushes.StoresCell write read) size knows found = tt
     push_fits v capacity n (pushes.StoresWrite write read) size knows found = go _
       where
+        -- at most the capacity waits, so there is room for the index
         room : length (waiting before) < c + 1
         room = omega (arith, good.write, knows.2, knows.3, long)
 
@@ -170,7 +182,7 @@ module _ {T : Type 0} (c : ℕ) where
         (λ d. tt)
     push_fits v capacity n (pushes.LoadsCell read) size knows found = tt
 
-    -- each step of a pop fits the list
+    -- each step of a pop, where it takes out, has read what waits first
     pop_fits : (room : OneWord) (capacity n : ℕ) (stage : PopStage) → capacity ≡ c
         → KnowsOverflowPop c k room stage → old_of words (ask_of (pop_asks capacity stage)) ≡ n
         → PopFits before words capacity n stage
@@ -185,61 +197,67 @@ module _ {T : Type 0} (c : ℕ) where
         subst (λ z. FitsList before (HandsOut (Index (slice_index words (cell_word z read))))) (sym size) (front read here some)
 
   module _ (en : Coding T) (t : Trace T) (s : frame.Sound (family en queues.Overflow c) t) where
+    -- the words of the machine are those of the queue, as its laws have it
     its_words : t.world.words ≡ layout s.state.roles s.state.core
     its_words = s.fit.words
 
+    -- what waits is what the queue's laws say
     its_waiting : waiting t.events ≡ map Index s.state.core.waiting
     its_waiting = waiting_is t.events (map Index s.state.core.waiting) s.holds.book
 
+    -- the read position is that of the queue
     its_read : slice_index t.world.words 1 ≡ s.state.core.read
     its_read = ap (λ ws. slice_index ws 1) its_words
 
+    -- each cell has what the queue has there
     its_cell : (position : ℕ) → slice_index t.world.words (cell_word c position) ≡ get_or s.state.core.cells (position % (c + 1)) 0
     its_cell = grind arith
 
-    -- a push and a pop are handed what stands in their word
+    -- a push is handed what stands in the word that it asks for
     push_handed : (run : Pushing) (n : ℕ)
         → IsHanded t (flights.Queues (Overflow (overflows.Push run))) n
         → old_of t.world.words (ask_of (push_asks run.call.capacity run.call.stage run.given)) ≡ n
     push_handed = grind arith
 
+    -- a pop is handed what stands in the word that it asks for
     pop_handed : (run : Running Popping (Unit {0}) OneWord) (n : ℕ)
         → IsHanded t (flights.Queues (Overflow (overflows.Pop run))) n
         → old_of t.world.words (ask_of (pop_asks run.call.capacity run.call.stage)) ≡ n
     pop_handed = grind arith
 
-    -- each step of any call writes rightly
+    -- each step of any call on an overflowing queue writes right events
     over_right : (p n : ℕ) (start : Start T) (flight : Flight T)
         → (family en queues.Overflow c).At s.state p start flight → IsHanded t flight n
-        → Right t.events (over_effects t.world p flight n)
-    over_right p n (Queues (PushIndex v)) (flights.Queues (Overflow (overflows.Push run))) at handed =
+        → AllRightly t.events (over_effects t.world p flight n)
+    over_right p n (Queues (PushIndex v)) (flights.Queues (Overflow (overflows.Push run))) stands_at handed =
         grind (arith, push_right, after, push_effect_own, push_fits, its_waiting, its_read, its_cell, push_handed)
-    over_right p n (Queues Pop) (flights.Queues (Overflow (overflows.Pop run))) at handed =
+    over_right p n (Queues Pop) (flights.Queues (Overflow (overflows.Pop run))) stands_at handed =
         pop_right t.world.words run.call.capacity p n (beside_of t.world.words t.world.kept t.world.latest p)
         run.call.stage (answer_in (after t.world.coding (Overflow (overflows.Pop run)) n)) t.events
         (λ q v e. (beside_waits en c t en c s t.world.kept p q v e s.fit.kept).producer)
         (pop_fits s.state.core t.world.words t.events s.holds.good its_waiting its_read its_cell run.room
-        run.call.capacity n run.call.stage at.1 at.2 (pop_handed run n handed))
-        (s.holds.consumers ∙ at.0)
-    over_right p n (Queues start) (flights.Queues (OnRole call)) at handed = tt
-    over_right p n (Queues start) (flights.Queues (Length which run)) at handed = tt
-    over_right p n (Queues start) (flights.Queues (Indices call)) at handed = absurd at
-    over_right p n (Queues start) (flights.Queues (Values call)) at handed = absurd at
-    over_right p n (Queues start) (flights.Queues (Overflow call)) at handed = absurd at
-    over_right p n start flight at handed = absurd at
+        run.call.capacity n run.call.stage stands_at.1 stands_at.2 (pop_handed run n handed))
+        (s.holds.consumers ∙ stands_at.0)
+    over_right p n (Queues start) (flights.Queues (OnRole call)) stands_at handed = tt
+    over_right p n (Queues start) (flights.Queues (Length which run)) stands_at handed = tt
+    over_right p n (Queues start) (flights.Queues (Indices call)) stands_at handed = absurd stands_at
+    over_right p n (Queues start) (flights.Queues (Values call)) stands_at handed = absurd stands_at
+    over_right p n (Queues start) (flights.Queues (Overflow call)) stands_at handed = absurd stands_at
+    over_right p n start flight stands_at handed = absurd stands_at
 
-    -- the same of a step of the machine
+    -- each step of the machine writes right events
     step_right : (p n : ℕ) (x : Party T) (flight : Flight T) (since : ℕ) → party_of p t.world.latest ≡ Some x
-        → x.doing ≡ Going flight since → IsHanded t flight n → Right t.events (step_in t.world p x flight n).wrote
+        → x.doing ≡ Going flight since → IsHanded t flight n → AllRightly t.events (step_in t.world p x flight n).wrote
     step_right p n x flight since found doing handed =
         let there = stands_there (family en queues.Overflow c) t s p x since flight found doing in
         let fact =
         facts en c t.world en c p n s.state.roles s.state.core x.start flight t.world.kept
         s.fit.kept there.at in
-        subst (Right t.events) (sym fact.writes) (over_right p n x.start flight there.at handed)
+        subst (AllRightly t.events) (sym fact.writes) (over_right p n x.start flight there.at handed)
 
 module _ {T : Type 0} (code : Coding T) (capacity : ℕ) where
-  -- all events of every run are right
+  -- in every run each event is right: its party has the role that it needs, and what it publishes or takes
+  -- out fits the list
   rightly : (t : Trace T) → IsRun code kinds.Overflow capacity t → Each (Rightly t.world.capacity) t.events
   rightly t run =
       let world_now = t.world in
@@ -260,6 +278,7 @@ module _ {T : Type 0} (code : Coding T) (capacity : ℕ) where
       (λ t s. step_right world_now.capacity world_now.coding t s) run.fresh.turns first run.fresh.fresh sound
       (Each-nil (Rightly world_now.capacity)))
 
+  -- in every history each event is of a party with the role that it needs
   pub history_by_over_holders : (events : List (Event T)) → IsHistory code kinds.Overflow capacity events → Each ByOverHolder events
   history_by_over_holders events history =
       subst (Each ByOverHolder) (sym history.is) (λ before after e is. (rightly history.trace history.run before after e is).0)
@@ -273,12 +292,13 @@ module _ {T : Type 0} (code : Coding T) (capacity : ℕ) where
   -- at any time what was taken out is a beginning of what was published, and at most one more than the capacity waits
   pub over_listed : (events : List (Event T)) → IsHistory code kinds.Overflow capacity events
       → (part rest : List (Event T)) → events ≡ part ++ rest → IsListed (capacity + 1) part
-  over_listed events history part rest is = listed_in (capacity + 1) events (over_lists_kept events history) part rest is
+  over_listed events history part rest events_are = listed_in (capacity + 1) events (over_lists_kept events history) part rest events_are
 
+  -- who publishes as `ByOverHolder` says is the holder of the producer's role
   producer_of_it : (before : List (Event T)) (e : Event T) → ByOverHolder before e → ByHolderOf Producer before e
   producer_of_it before (Published p item) holds = holds
   producer_of_it before e holds = tt
 
   -- only the holder of the producer's role publishes
   pub history_by_producers : (events : List (Event T)) → IsHistory code kinds.Overflow capacity events → Each (ByHolderOf Producer) events
-  history_by_producers events h before after e is = producer_of_it before e (history_by_over_holders events h before after e is)
+  history_by_producers events is_history before after e is = producer_of_it before e (history_by_over_holders events is_history before after e is)

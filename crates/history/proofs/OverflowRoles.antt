@@ -1,4 +1,5 @@
--- The calls on the roles and the lengths of the overflowing queue: they are those of an index queue, over one cell more.
+-- The calls on the roles and the lengths of an overflowing queue are those of an index queue, over one cell
+-- more; each step keeps the rule of the table, which opens empty.
 use Rattle.history.proofs.Names.{◌≡◌, ℕ, ◌+◌, ◌-◌, ◌*◌, ◌^◌, ◌<◌, ◌≤◌, nat_lt, false, List, [], ◌∷◌, ◌++◌, replicate}
 use Rattle.history.proofs.Names.{refl, ap, ◌∙◌, arith, nat_tests, len_want, len_after, LengthOf, Coding}
 use Rattle.history.proofs.Names.{IsCoding, KeepsRule}
@@ -18,41 +19,51 @@ use Rattle.history.proofs.QueueRoles.{acquire_driven, release_driven, look_drive
 use Rattle.history.proofs.Queues.{queue_effects}
 
 module _ {T : Type 0} (code : Coding T) where
+  -- how many words an overflowing queue has
   abbrev words_of : ℕ → ℕ
   words_of capacity = 4 + (capacity + 1)
 
+  -- an overflowing queue has at least the words of an index queue
   low : (capacity : ℕ) → 4 + capacity ≤ words_of capacity
   low capacity = omega arith
 
   module _ (role : Role) where
+    -- an acquire of a role is a call of the model
     acquires : IsCallIn (overflow_machines code) (acquire_driven code role)
     acquires = grind arith
 
+    -- each step of an acquire of a role keeps the rule
     pub over_acquire_keeps : KeepsEnds code kinds.Overflow words_of (acquire_driven code role)
     over_acquire_keeps = keeps_all_in (overflow_machines code) (acquire_driven code role) acquires (λ c n. refl)
 
+    -- a release of a role is a call of the model
     releases : IsCallIn (overflow_machines code) (release_driven code role)
     releases = grind arith
 
+    -- each step of a release of a role keeps the rule
     pub over_release_keeps : KeepsEnds code kinds.Overflow words_of (release_driven code role)
     over_release_keeps = keeps_all_in (overflow_machines code) (release_driven code role) releases (λ c n. refl)
 
+    -- a look at a role is a call of the model
     looks : IsCallIn (overflow_machines code) (look_driven code role)
     looks = grind arith
 
+    -- each step of a look at a role keeps the rule
     pub over_look_keeps : KeepsEnds code kinds.Overflow words_of (look_driven code role)
     over_look_keeps = keeps_all_in (overflow_machines code) (look_driven code role) looks (λ c n. refl)
 
   module _ (which : LengthOf) where
+    -- a call on lengths is a call of the model, on a queue of this capacity
     counts : (size : ℕ) → IsCallIn (overflow_machines code) (len_driven code which size)
     counts size =
         in_machine code kinds.Overflow over_effects (queue_effects code) (len_driven code which size) (λ c m late h. h) (λ capacity p c m n t run there. refl)
         (wider code (queue_effects code) (λ capacity. 4 + capacity) words_of (len_driven code which size) low (len_is_call code which size))
 
+    -- each step of a call on lengths keeps the rule, on a queue of this capacity
     len_keeps : (size : ℕ) → KeepsEnds code kinds.Overflow words_of (len_driven code which size)
     len_keeps size = keeps_all_in (overflow_machines code) (len_driven code which size) (counts size) (λ c n. refl)
 
-    -- the calls on lengths of the overflowing queue keep the rule, for any capacity
+    -- each step of a call on lengths keeps the rule, for any capacity
     pub over_lens_keep : KeepsRule (λ (z : View T). z.asked) (λ (z : View T). z.capacity)
         (λ (base : View T). At code kinds.Overflow (counts_waiting which base.capacity) base)
         (λ (base : View T). Ends code kinds.Overflow (counts_waiting which base.capacity) base)
@@ -60,16 +71,18 @@ module _ {T : Type 0} (code : Coding T) where
         (λ c m n. m)
     over_lens_keep = keeps_sized code kinds.Overflow words_of len_want len_after (λ c m n. m) (counts_waiting which) len_keeps
 
--- ---- how its table opens: empty
+-- ---- the table of an overflowing queue opens empty
 
 module _ {T : Type 0} (code : Coding T) (law : IsCoding code) (capacity : ℕ) (small : capacity < 2 ^ 32) where
+  -- a capacity below 2^32 is admitted
   most : nat_lt (2 ^ 32 - 1) capacity ≡ false
   most = grind (arith, nat_tests)
 
+  -- no capacity is too small
   least : nat_lt capacity 0 ≡ false
   least = grind (arith, nat_tests)
 
-  -- a table of such words opens as an empty queue
+  -- a table with these words, the opening's, opens as an empty overflowing queue
   pub overflow_opens : (words : List ℕ) → words ≡ 0 ∷ 0 ∷ 1 ∷ 1 ∷ (replicate (capacity + 1) 0 ++ 0 ∷ [])
       → IsMachine code kinds.Overflow capacity (opening words [] (first_view capacity))
   overflow_opens words same =

@@ -1,4 +1,4 @@
--- Who peeks into a bounded queue holds the consumer's role as the peek ends.
+-- A party that peeks into a bounded queue holds the consumer's role as the peek ends (`peeker`).
 use Rattle.history.proofs.Names.{◌≡◌, ℕ, ◌+◌, Option, Some, None, List, [], ◌∷◌, ◌++◌, refl, sym, ap, subst, ◌∙◌}
 use Rattle.history.proofs.Names.{append-nil, arith, sum_by-append, Answer, Event, Finished, Start, Queues, Flight, QueueKind}
 use Rattle.history.proofs.Names.{Doing, Going, Over, Party, Roles, World, Coding, step_of, beside_of, party_of, ask_of_doing, answer_in}
@@ -14,48 +14,55 @@ use Rattle.history.specs.History.{LastStep}
 use Rattle.history.proofs.Queues.{sound_of}
 
 module _ {T : Type 0} where
-  -- a step that writes an end last ends its own call, and wrote all before that itself
+  -- where the last event of a step is an end, it ends the step's own call, and the events before it
+  -- are the step's effects
   last_is : (p q : ℕ) (start begun : Start T) (answer : Answer T) (o : Option (Answer T)) (wrote es : List (Event T)) → ends es ≡ 0
       → es ++ ending_of q begun o ≡ wrote ++ Finished p start answer ∷ [] → (begun ≡ start) × (wrote ≡ es)
-  last_is p q start begun answer None wrote es none is =
-      let same : es ≡ wrote ++ Finished p start answer ∷ [] = sym (append-nil es) ∙ is in
+  last_is p q start begun answer None wrote es none lists_are =
+      let same : es ≡ wrote ++ Finished p start answer ∷ [] = sym (append-nil es) ∙ lists_are in
       let one : ends es ≡ ends wrote + 1 = ap ends same ∙ sum_by-append _ wrote (Finished p start answer ∷ []) in
       absurd (omega arith)
-  last_is p q start begun answer (Some other) wrote es none is =
-      let both = same_from_push es wrote (Finished q begun other) (Finished p start answer) is in
+  last_is p q start begun answer (Some other) wrote es none lists_are =
+      let both = same_from_push es wrote (Finished q begun other) (Finished p start answer) lists_are in
       let last = both.1 in
       (cc, sym both.0)
 
+  -- a list with an element is not empty
   none_last : (wrote : List (Event T)) (e : Event T) → [] ≡ wrote ++ e ∷ [] → ⊥
-  none_last [] e is = absurd (cc)
-  none_last (x ∷ xs) e is = absurd (cc)
+  none_last [] e lists_are = absurd (cc)
+  none_last (x ∷ xs) e lists_are = absurd (cc)
 
-  -- a peek that stands so is of the party that holds the role, and its step writes nothing
+  -- a peek that stands at this flight is of the party that holds the consumer's role, and
+  -- its step writes nothing
   peek_at : (z en : Coding T) (c p n : ℕ) (words : List ℕ) (waits : Option (ℕ × ℕ)) (kd : QueueKind) (ro : Roles) (k : Core (Val T kd)) (flight : Flight T)
       → (family en kd c).At (record { roles = ro; core = k }) p (Queues Peek) flight
       → (ro.consumer ≡ Some p) × ((step_of z words waits p (Queues Peek) flight n (registries.Queues ro)).wrote ≡ [])
   peek_at = grind arith
 
 module _ {T : Type 0} (code : Coding T) (kd : QueueKind) (capacity p : ℕ) (answer : Answer T) where
+  -- the response of the peek
   abbrev last : Event T
   last = Finished p (Queues Peek) answer
 
   module _ (events before : List (Event T)) (l : LastStep code (machine_kind kd) capacity p last events) (is : events ≡ before ++ last ∷ []) where
+    -- the machine before the peek's last step
     abbrev w : World T
     w = l.old.world
 
-    abbrev Holds : Type 0
-    Holds = consumer_of before ≡ Some p
+    -- the party holds the consumer's role in the history before the response
+    abbrev PeekerHoldsRole : Type 0
+    PeekerHoldsRole = consumer_of before ≡ Some p
 
-    at_end : l.wrote ≡ [] → consumer_of l.old.events ≡ Some p → Holds
+    -- with no effect before its response, the party held the role then if it does now
+    at_end : l.wrote ≡ [] → consumer_of l.old.events ≡ Some p → PeekerHoldsRole
     at_end none holds =
         let whole : before ++ last ∷ [] ≡ l.old.events ++ last ∷ [] =
         sym is ∙ (l.is ∙ (ap (λ es. l.old.events ++ es) (l.writes ∙ ap (λ es. es ++ last ∷ []) none))) in
         ap consumer_of (same_from_push before l.old.events last last whole).0 ∙ holds
 
-    -- the step with which a peek ends is that of the consumer
+    -- the step with which a peek ends is of the party that holds the consumer's role
     stands : (x : Party T) (flight : Flight T) (since n : ℕ) → party_of p w.latest ≡ Some x → x.doing ≡ Going flight since
-        → (step_in w p x flight n).wrote ++ ending_of p x.start (answer_in (step_in w p x flight n).after) ≡ l.wrote ++ last ∷ [] → Holds
+        → (step_in w p x flight n).wrote ++ ending_of p x.start (answer_in (step_in w p x flight n).after) ≡ l.wrote ++ last ∷ [] → PeekerHoldsRole
     stands x flight since n found doing writes =
         let is_sound = sound_of code capacity kd l.old l.run in
         let beside = beside_of w.words w.kept w.latest p in
@@ -69,15 +76,17 @@ module _ {T : Type 0} (code : Coding T) (kd : QueueKind) (capacity p : ℕ) (ans
         ∙ (ap (λ k. (step_of w.coding w.words beside p (Queues Peek) flight n k).wrote) is_sound.fit.kept ∙ quiet.1) in
         at_end (it.1 ∙ same) (is_sound.holds.consumers ∙ quiet.0)
 
+    -- whether the party's call is over or under way, it holds the role as the step writes the response
     does : (x : Party T) (n : ℕ) → party_of p w.latest ≡ Some x → (doing : Doing T) → x.doing ≡ doing
-        → events_of_answer w p x n doing ≡ l.wrote ++ last ∷ [] → Holds
+        → events_of_answer w p x n doing ≡ l.wrote ++ last ∷ [] → PeekerHoldsRole
     does x n found (Over others) same_doing writes = absurd (none_last l.wrote last writes)
     does x n found (Going flight since) same_doing writes = stands x flight since n found same_doing writes
 
-    goes : (o : Option (Party T)) → party_of p w.latest ≡ o → events_of_next w p o ≡ l.wrote ++ last ∷ [] → Holds
+    -- whether the party has had a call or not, it holds the role as the step writes the response
+    goes : (o : Option (Party T)) → party_of p w.latest ≡ o → events_of_next w p o ≡ l.wrote ++ last ∷ [] → PeekerHoldsRole
     goes None found writes = absurd (none_last l.wrote last writes)
     goes (Some x) found writes = does x (old_of w.words (ask_of_doing w.coding x.doing)) found x.doing refl writes
 
-    -- before its last event the party holds the role
-    pub peeker : Holds
+    -- the party holds the consumer's role just before its response
+    pub peeker : PeekerHoldsRole
     peeker = goes (party_of p w.latest) refl l.writes

@@ -1,4 +1,5 @@
--- The peeks of the bounded queues as calls of the model.
+-- A peek into an index queue, and into a queue of values, is a call of the model, each step of which keeps
+-- the rule of its table.
 use Rattle.history.proofs.Names.{inl, ◌≡◌, nat_lt, ℕ, ◌+◌, ◌^◌, ◌%◌, ◌*◌, ◌<◌, ◌==◌, ◌||◌, Bool}
 use Rattle.history.proofs.Names.{true, false, Option, Some, None, List, [], ◌++◌, slice_set, refl}
 use Rattle.history.proofs.Names.{sym, ap, subst, ◌∙◌, arith, nat_tests, Ask, After, GoOn, OneWord, read_in}
@@ -36,34 +37,37 @@ use Rattle.laws_robust.proofs.Cases.{by_bool}
 -- ---- of an index queue
 
 module _ {T : Type 0} (code : Coding T) where
+  -- a peek, as a call of the model
   abbrev index_looking : Calling T indices.Peeking OneWord Bool
   index_looking = peeks_index
 
+  -- the room after a step: with the word that the step has loaded
   abbrev keeps_it : indices.Peeking → OneWord → ℕ → OneWord
   keeps_it = peek_kept kept_in_one
 
+  -- the model's peek goes on as the driver's does
   index_same_after : (c : indices.Peeking) (m : OneWord) (n : ℕ)
       → after_of code (index_looking.flight c m) n ≡ goes index_looking (peek_after 1 c n) (keeps_it c m n)
   index_same_after = grind arith
 
-  -- a peek that goes on stands where the rule has it stand
+  -- a peek that goes on is at a cell of the queue
   index_stays : (capacity : ℕ) (c d : indices.Peeking) (n : ℕ) (stage : PeekStage) → c.capacity ≡ capacity
       → indices.PeekStage capacity stage → peek_takes 1 c stage n ≡ GoOn d
       → (d.capacity ≡ capacity) × indices.PeekStage capacity d.stage
-  index_stays capacity c d n peeks.LoadsRead size peek_stage e = let same : at_peek c (peeks.LoadsWrite n) ≡ d = cc in
+  index_stays capacity c d n peeks.LoadsRead size peek_stage leads = let same : at_peek c (peeks.LoadsWrite n) ≡ d = cc in
       subst (λ z. (z.capacity ≡ capacity) × indices.PeekStage capacity z.stage) same (size, tt)
-  index_stays capacity c d n (peeks.LoadsWrite read) size peek_stage e =
+  index_stays capacity c d n (peeks.LoadsWrite read) size peek_stage leads =
       by_bool (c.capacity == 0 || n == read)
-      (λ t. let no : ◌≡◌ {A = After indices.Peeking Bool} (Done false) (GoOn d) = rw t at e in absurd (cc))
+      (λ t. let no : ◌≡◌ {A = After indices.Peeking Bool} (Done false) (GoOn d) = rw t at leads in absurd (cc))
       (λ t.
-      let is : ◌≡◌ {A = After indices.Peeking Bool} (GoOn (at_peek c (peeks.LoadsCell (cell_word c.capacity 1 read) 0))) (GoOn d) = rw t at e in
+      let is : ◌≡◌ {A = After indices.Peeking Bool} (GoOn (at_peek c (peeks.LoadsCell (cell_word c.capacity 1 read) 0))) (GoOn d) = rw t at leads in
       let same : at_peek c (peeks.LoadsCell (cell_word c.capacity 1 read) 0) ≡ d = cc in
       let some : 0 < capacity = grind (arith, nat_tests) in
       subst (λ z. (z.capacity ≡ capacity) × indices.PeekStage capacity z.stage) same
       (size, (read, some, ap (λ k. cell_word k 1 read) size, refl)))
-  index_stays capacity c d n (peeks.LoadsCell cell at) size peek_stage e =
+  index_stays capacity c d n (peeks.LoadsCell cell at) size peek_stage leads =
       let not_below : nat_lt (at + 1) 1 ≡ false = (let none = peek_stage.3 in grind (arith, nat_tests)) in
-      let no : ◌≡◌ {A = After indices.Peeking Bool} (Done true) (GoOn d) = rw not_below at e in
+      let no : ◌≡◌ {A = After indices.Peeking Bool} (Done true) (GoOn d) = rw not_below at leads in
       absurd (cc)
 
   -- a peek asks for a word of the queue at each stage
@@ -79,11 +83,13 @@ module _ {T : Type 0} (code : Coding T) where
       let some = peek_stage.1 in
       (record { word = word_at cell at; op = Load }, (let low : peek_stage.0 % capacity < capacity = omega arith in omega arith), refl)
 
+  -- what a peek hears of an operation is what the word was before it, and its room keeps that
   index_hears : (c : indices.Peeking) (m : OneWord) (a : Ask) (n : ℕ) (stage : PeekStage) → peek_asks stage ≡ wants.Ask a
       → (peek_takes 1 c stage (answered a.op n) ≡ peek_takes 1 c stage n)
       × (peek_keeps kept_in_one m stage (answered a.op n) ≡ peek_keeps kept_in_one m stage n)
   index_hears = grind arith
 
+  -- a peek, as the driver makes it
   abbrev pub peek_driven : Driven T indices.Peeking OneWord Bool
   peek_driven = record { want = λ (c : indices.Peeking). peek_want c; after = λ c n. peek_after 1 c n; kept = keeps_it; call = index_looking }
 
@@ -103,10 +109,11 @@ module _ {T : Type 0} (code : Coding T) where
         tells_all = λ capacity p from c b m n es h skip wrote e still. ap (λ zs. zs ++ queue_effects code p (index_looking.flight c m) n) wrote;
       }
 
+  -- each step of a peek keeps the rule of the table
   pub peek_keep_all : KeepsEnds code kinds.IndexQueue (λ capacity. 4 + capacity) peek_driven
   peek_keep_all = keeps_to_end (index_queue_machines code) peek_driven peek_is_call (λ c n. refl)
 
-  -- a peek begins on a pass that rests and has the consumer's role
+  -- a peek begins on a pass that has the consumer's role and no call under way
   pub peek_first : (x : View T) → x.going ≡ None → x.other ≡ [] → 0 < x.share.part → x.capacity < 2 ^ 32
       → HasRole Consumer x.made → At code kinds.IndexQueue peeks_index x x (first_peek x.capacity) (record { 0 = 0 })
   peek_first x idle alone any small has =
@@ -125,32 +132,36 @@ module _ {T : Type 0} (code : Coding T) where
 
 -- ---- of a queue of values
 
--- a word of a cell is one of the queue's words
+-- a word of a cell is one of the table's words
 cell_low : (size capacity position cell at : ℕ) → IsWordOf size capacity position cell at → word_at cell at < 4 + size * capacity
 cell_low = grind arith
 
 module _ {T R : Type 0} (code : Coding T) (law : IsCoding code) (words_in : R → List ℕ) (with_word : R → ℕ → ℕ → R)
     (put_in : (x : R) (at word : ℕ) → words_in (with_word x at word) ≡ slice_set (words_in x) at word) where
+  -- a peek, as a call of the model
   abbrev looking : Calling T (Peeking T R) R Bool
   looking = peeks_value code words_in
 
+  -- the room after a step: with the word that the step has loaded
   abbrev keeps_word : Peeking T R → R → ℕ → R
   keeps_word = peek_kept with_word
 
-  -- a peek at this stage, with this room
+  -- the model's peek at this stage, with this room
   abbrev flight_at : ℕ → PeekStage → buffers.Buffer 128 → Flight T
   flight_at capacity stage room =
       flights.Queues
       (Values
       (rings.Peek (record { call = record { capacity = capacity; stage = stage; of = record {} }; given = tt; room = room })))
 
+  -- the room, as the model has it
   abbrev room_in : R → buffers.Buffer 128
   room_in m = room_of code.size (words_in m)
 
+  -- a word that is put to its place in the room is put there in the model's room too
   put_there : (m : R) (at n : ℕ) → at < code.size → kept_at (room_in m) at n ≡ room_in (with_word m at n)
   put_there m at n below = grind (arith, room_set, room_of)
 
-  -- the peek of the model goes on as that of the driver does
+  -- the model's peek of a value goes on as the driver's does
   peek_same_after : (capacity : ℕ) (c : Peeking T R) (m : R) (n : ℕ) (stage : PeekStage)
       → PeekPlace code.size capacity stage
       → after_of code (flight_at c.capacity stage (room_in m)) n
@@ -166,29 +177,30 @@ module _ {T R : Type 0} (code : Coding T) (law : IsCoding code) (words_in : R �
       (λ t. rw t (ap (λ x. Done (Popped x)) (ap (read_in code) (put_there m at n peek_place.1.2) ∙ room_read code (words_in (with_word m at n)))))
 
   module _ (capacity : ℕ) where
+    -- the peek is at a word of a position's cell, on a queue of this capacity
     abbrev PeeksNext : Peeking T R → Type 0
     PeeksNext d = (d.capacity ≡ capacity) × PeekPlace code.size capacity d.stage
 
-    -- a peek that goes on stands where the rule has it stand
+    -- a peek of a value that goes on is at a word of a cell of the queue
     peek_stays : (c d : Peeking T R) (n : ℕ) (stage : PeekStage) → c.capacity ≡ capacity
         → PeekPlace code.size capacity stage → peek_takes code.size c stage n ≡ GoOn d → PeeksNext d
-    peek_stays c d n peeks.LoadsRead size peek_place e = let same : at_peek c (peeks.LoadsWrite n) ≡ d = cc in subst PeeksNext same (size, tt)
-    peek_stays c d n (peeks.LoadsWrite read) size peek_place e =
+    peek_stays c d n peeks.LoadsRead size peek_place leads = let same : at_peek c (peeks.LoadsWrite n) ≡ d = cc in subst PeeksNext same (size, tt)
+    peek_stays c d n (peeks.LoadsWrite read) size peek_place leads =
         by_bool (c.capacity == 0 || n == read)
-        (λ t. let no : ◌≡◌ {A = After (Peeking T R) Bool} (Done false) (GoOn d) = rw t at e in absurd (cc))
+        (λ t. let no : ◌≡◌ {A = After (Peeking T R) Bool} (Done false) (GoOn d) = rw t at leads in absurd (cc))
         (λ t.
-        let is : ◌≡◌ {A = After (Peeking T R) Bool} (GoOn (at_peek c (peeks.LoadsCell (cell_word c.capacity code.size read) 0))) (GoOn d) = rw t at e in
+        let is : ◌≡◌ {A = After (Peeking T R) Bool} (GoOn (at_peek c (peeks.LoadsCell (cell_word c.capacity code.size read) 0))) (GoOn d) = rw t at leads in
         let same : at_peek c (peeks.LoadsCell (cell_word c.capacity code.size read) 0) ≡ d = cc in
         let some : 0 < capacity = grind (arith, nat_tests) in
         subst PeeksNext same (size, (read, (some, ap (λ k. cell_word k code.size read) size, law.some))))
-    peek_stays c d n (peeks.LoadsCell cell at) size peek_place e =
+    peek_stays c d n (peeks.LoadsCell cell at) size peek_place leads =
         by_bool (nat_lt (at + 1) code.size)
         (λ t.
-        let is : ◌≡◌ {A = After (Peeking T R) Bool} (GoOn (at_peek c (peeks.LoadsCell cell (at + 1)))) (GoOn d) = rw t at e in
+        let is : ◌≡◌ {A = After (Peeking T R) Bool} (GoOn (at_peek c (peeks.LoadsCell cell (at + 1)))) (GoOn d) = rw t at leads in
         let same : at_peek c (peeks.LoadsCell cell (at + 1)) ≡ d = cc in
         let low : at + 1 < code.size = grind (arith, nat_tests) in
         subst PeeksNext same (size, (peek_place.0, (peek_place.1.0, peek_place.1.1, low))))
-        (λ t. let no : ◌≡◌ {A = After (Peeking T R) Bool} (Done true) (GoOn d) = rw t at e in absurd (cc))
+        (λ t. let no : ◌≡◌ {A = After (Peeking T R) Bool} (Done true) (GoOn d) = rw t at leads in absurd (cc))
 
   -- a peek asks for a word of the queue at each stage
   peek_finds_word : (capacity : ℕ) (stage : PeekStage) → PeekPlace code.size capacity stage
@@ -198,11 +210,13 @@ module _ {T R : Type 0} (code : Coding T) (law : IsCoding code) (words_in : R �
   peek_finds_word capacity (peeks.LoadsCell cell at) peek_place =
       (record { word = word_at cell at; op = Load }, cell_low code.size capacity peek_place.0 cell at peek_place.1, refl)
 
+  -- what a peek of a value hears of an operation is what the word was before it, and its room keeps that
   peek_hears : (c : Peeking T R) (m : R) (a : Ask) (n : ℕ) (stage : PeekStage) → peek_asks stage ≡ wants.Ask a
       → (peek_takes code.size c stage (answered a.op n) ≡ peek_takes code.size c stage n)
       × (peek_keeps with_word m stage (answered a.op n) ≡ peek_keeps with_word m stage n)
   peek_hears = grind arith
 
+  -- a peek, as the driver makes it
   abbrev pub value_peek_driven : Driven T (Peeking T R) R Bool
   value_peek_driven = record { want = λ (c : Peeking T R). peek_want c; after = λ c n. peek_after code.size c n; kept = keeps_word; call = looking }
 
@@ -222,10 +236,11 @@ module _ {T R : Type 0} (code : Coding T) (law : IsCoding code) (words_in : R �
         tells_all = λ capacity p from c b m n es h skip wrote e still. ap (λ zs. zs ++ queue_effects code p (looking.flight c m) n) wrote;
       }
 
+  -- each step of a peek keeps the rule of the table
   pub value_peek_keeps : KeepsEnds code kinds.Queue (λ capacity. 4 + code.size * capacity) value_peek_driven
   value_peek_keeps = keeps_to_end (queue_machines code) value_peek_driven value_peek_is_call (λ c n. refl)
 
-  -- a peek begins in a room of zeros in which a value fits
+  -- a peek of a value begins in a room of zeros, on a pass that has the consumer's role and no call under way
   pub value_peek_first : (x : View T) (m : R) → room_in m ≡ fresh_cell → x.going ≡ None → x.other ≡ []
       → 0 < x.share.part → x.capacity < 2 ^ 32 → HasRole Consumer x.made
       → At code kinds.Queue looking x x (first_peek x.capacity) m

@@ -7,12 +7,13 @@ use Rattle.history.specs.History.{IsHistory}
 use Rattle.history.proofs.Reached.{queue_run}
 
 module _ {T : Type 0} (code : Coding T) (capacity : ℕ) where
+  -- linearized as its kind has it, a history is linearizable as the list of its queue
   as_its_list : (kd : QueueKind) (t : Trace T) → IsLinearized (machine_kind kd) t → IsLinearizable (as_list kd t.world.capacity) t.events
   as_its_list IndexQueue t linearized = linearized
   as_its_list Overflow t linearized = linearized
   as_its_list Queue t linearized = linearized
 
-  -- every history of a queue is linearizable as its list
+  -- every history of a queue is linearizable as its list: a bounded one, or the overflowing one
   pub queue_linearizable : (kd : QueueKind) (events : List (Event T))
       → IsHistory code (machine_kind kd) capacity events → IsLinearizable (as_list kd capacity) events
   queue_linearizable kd events history =

@@ -1,4 +1,5 @@
--- The calls on the roles and the lengths of the index queue as calls of the model.
+-- The calls on the roles and the lengths of an index queue are calls of the model, each step of which keeps
+-- the rule of the table.
 use Rattle.history.proofs.Names.{inl, ◌≡◌, ℕ, ◌+◌, ◌<◌, Bool, false, Option, Some, None}
 use Rattle.history.proofs.Names.{[], refl, sym, arith, Ask, GoOn, Queues}
 use Rattle.history.proofs.Names.{Flight, Coding, after_of, first_of, opening_of, answered, KeepsRule}
@@ -28,25 +29,30 @@ use Rattle.history.proofs.Queues.{queue_effects, plain_starts, role_starts, inde
 use Rattle.history.proofs.QueueCalls.{holds_it}
 use Rattle.history.proofs.CallsIn.{Driven, IsCallBy, KeepsEnds}
 
--- ---- roles
+-- ---- acquires, releases and looks of roles
 
 module _ {T : Type 0} (code : Coding T) (role : Role) where
+  -- an acquire of the role, as a call of the model
   abbrev acquiring : Calling T AcquireRole (Unit {0}) Bool
   acquiring = takes_role role
 
+  -- a release of the role, as a call of the model
   abbrev releasing : Calling T ReleaseRole (Unit {0}) (Unit {0})
   releasing = gives_role role
 
+  -- an acquire of a role, as the driver makes it
   abbrev pub acquire_driven : Driven T AcquireRole (Unit {0}) Bool
   acquire_driven = record { want = acquire_want; after = acquire_after; kept = λ c m n. m; call = acquiring }
 
+  -- an acquire of a role is a call of the model
   pub acquire_is_call : IsCallBy code (queue_effects code) (λ capacity. 4 + capacity) acquire_driven
   acquire_is_call = grind arith
 
+  -- each step of an acquire of a role keeps the rule of the table
   pub acquire_keeps : KeepsEnds code kinds.IndexQueue (λ capacity. 4 + capacity) acquire_driven
   acquire_keeps = keeps_to_end (index_queue_machines code) acquire_driven acquire_is_call (λ c n. refl)
 
-  -- an acquire of a role begins, on any pass that rests
+  -- an acquire of a role begins on a pass with no call under way
   pub acquire_first : (x : View T) (m : Unit {0}) → x.going ≡ None → x.other ≡ [] → 0 < x.share.part
       → At code kinds.IndexQueue acquiring x x (record { word = role_word role }) m
   acquire_first x m idle alone any =
@@ -63,6 +69,7 @@ module _ {T : Type 0} (code : Coding T) (role : Role) where
         wrote = λ p. refl;
       })
     where
+      -- the model begins an acquire of either role at its only stage
       first_is : (kept : Registry T) (r : Role)
           → ◌≡◌ {A = Option (Flight T)} (first_of kinds.IndexQueue x.capacity (Queues (acquire_start r)) kept)
           (Some ((takes_role r).flight (record { word = role_word r }) m))
@@ -73,16 +80,19 @@ module _ {T : Type 0} (code : Coding T) (role : Role) where
       none_lacks Producer roles p = refl
       none_lacks Consumer roles p = refl
 
+  -- a release of a role, as the driver makes it
   abbrev pub release_driven : Driven T ReleaseRole (Unit {0}) (Unit {0})
   release_driven = record { want = release_want; after = release_after; kept = λ c m n. m; call = releasing }
 
+  -- a release of a role is a call of the model
   pub release_is_call : IsCallBy code (queue_effects code) (λ capacity. 4 + capacity) release_driven
   release_is_call = grind arith
 
+  -- each step of a release of a role keeps the rule of the table
   pub release_keeps : KeepsEnds code kinds.IndexQueue (λ capacity. 4 + capacity) release_driven
   release_keeps = keeps_to_end (index_queue_machines code) release_driven release_is_call (λ c n. refl)
 
-  -- the release of a role begins, on a pass that has it
+  -- a release of a role begins on a pass that has the role and no call under way
   pub release_first : (x : View T) (m : Unit {0}) → x.going ≡ None → x.other ≡ [] → 0 < x.share.part
       → HasRole role x.made → At code kinds.IndexQueue releasing x x (record { word = role_word role }) m
   release_first x m idle alone any has =
@@ -99,6 +109,7 @@ module _ {T : Type 0} (code : Coding T) (role : Role) where
         wrote = λ p. refl;
       })
     where
+      -- the model begins a release of either role at its only stage
       first_is : (kept : Registry T) (r : Role)
           → ◌≡◌ {A = Option (Flight T)} (first_of kinds.IndexQueue x.capacity (Queues (release_start r)) kept)
           (Some ((gives_role r).flight (record { word = role_word r }) m))
@@ -106,50 +117,59 @@ module _ {T : Type 0} (code : Coding T) (role : Role) where
       first_is kept Consumer = refl
 
       free : (r : Role) (roles : Roles) (p : ℕ) → holder r roles ≡ Some p → lacks_role {T = T} roles p (release_start r) ≡ false
-      free Producer roles p is = holds_it roles.producer p is
-      free Consumer roles p is = holds_it roles.consumer p is
+      free Producer roles p holder_is = holds_it roles.producer p holder_is
+      free Consumer roles p holder_is = holds_it roles.consumer p holder_is
 
-  -- the call that tells whether the role is held, as the driver runs it
+  -- the call that tells whether a role is held, as the driver makes it
   abbrev pub look_driven : Driven T LookRole (Unit {0}) Bool
   look_driven = record { want = look_want; after = look_after; kept = λ c m n. m; call = looks_role role }
 
+  -- a look at a role is a call of the model
   pub look_is_call : IsCallBy code (queue_effects code) (λ capacity. 4 + capacity) look_driven
   look_is_call = grind arith
 
+  -- each step of a look at a role keeps the rule of the table
   pub look_keeps : KeepsEnds code kinds.IndexQueue (λ capacity. 4 + capacity) look_driven
   look_keeps = keeps_to_end (index_queue_machines code) look_driven look_is_call (λ c n. refl)
 
--- ---- how many wait
+-- ---- the calls on lengths
 
 module _ {T : Type 0} (code : Coding T) (which : LengthOf) (size : ℕ) where
+  -- a call on lengths, as a call of the model
   abbrev counting : Calling T Len (Unit {0}) ℕ
   counting = counts_waiting which size
 
+  -- the model's call on lengths goes on as the driver's does
   len_same_after : (c : Len) (m : Unit {0}) (n : ℕ) → c.capacity ≡ size → after_of code (counting.flight c m) n ≡ goes counting (len_after c n) m
   len_same_after = grind arith
 
   len_stays : (n : ℕ) (c : Len) (k : ℕ) (d : Len) (stage : LenStage) → c.capacity ≡ n → len_takes c stage k ≡ GoOn d → d.capacity ≡ n
   len_stays = grind arith
 
+  -- at each stage a length asks for a word of the queue
   len_asks_for : (capacity : ℕ) (stage : LenStage) → (a : Ask) × (a.word < 4 + capacity) × (len_asks stage ≡ wants.Ask a)
   len_asks_for capacity lengths.LoadsWrite = (record { word = 0; op = Load }, omega arith, refl)
   len_asks_for capacity (lengths.LoadsRead write) = (record { word = 1; op = Load }, omega arith, refl)
   len_asks_for capacity (lengths.LoadsWriteAgain write read) = (record { word = 0; op = Load }, omega arith, refl)
   len_asks_for capacity (lengths.LoadsReadAgain write read) = (record { word = 1; op = Load }, omega arith, refl)
 
+  -- what a call on lengths hears of an operation is what the word was before it
   len_hears : (c : Len) (a : Ask) (n : ℕ) (stage : LenStage) → len_asks stage ≡ wants.Ask a → len_takes c stage (answered a.op n) ≡ len_takes c stage n
   len_hears = grind arith
 
+  -- a call on lengths, as the driver makes it
   abbrev pub len_driven : Driven T Len (Unit {0}) ℕ
   len_driven = record { want = len_want; after = len_after; kept = λ c m n. m; call = counting }
 
+  -- a call on lengths is a call of the model
   pub len_is_call : IsCallBy code (queue_effects code) (λ capacity. 4 + capacity) len_driven
   len_is_call = grind (arith, len_same_after, len_hears, len_stays, len_asks_for)
 
+  -- each step of a call on lengths keeps the rule of the table
   pub len_keeps : KeepsEnds code kinds.IndexQueue (λ capacity. 4 + capacity) len_driven
   len_keeps = keeps_to_end (index_queue_machines code) len_driven len_is_call (λ c n. refl)
 
-  -- a length begins, on any pass that rests
+  -- a length begins on a pass with no call under way
   pub len_first : (x : View T) (m : Unit {0}) → x.capacity ≡ size → x.going ≡ None → x.other ≡ [] → 0 < x.share.part
       → At code kinds.IndexQueue counting x x (first_len size) m
   len_first x m same idle alone any =
@@ -166,7 +186,7 @@ module _ {T : Type 0} (code : Coding T) (which : LengthOf) (size : ℕ) where
         wrote = λ p. refl;
       })
     where
-      -- the model begins each call on lengths as the one that counts what waits
+      -- the model begins each call on lengths as one that counts what waits
       first_is : (kept : Registry T) (k : LengthOf)
           → ◌≡◌ {A = Option (Flight T)} (first_of kinds.IndexQueue x.capacity (Queues (length_start k)) kept)
           (Some ((counts_waiting k size).flight (first_len size) m))
@@ -179,7 +199,7 @@ module _ {T : Type 0} (code : Coding T) (which : LengthOf) (size : ℕ) where
       none_lacks measures.IsEmpty roles p = refl
       none_lacks measures.IsFull roles p = refl
 
--- the calls on lengths keep the rule, for any capacity
+-- each step of a call on lengths keeps the rule, for any capacity
 pub lens_keep : {T : Type 0} (code : Coding T) (which : LengthOf)
     → KeepsRule (λ (z : View T). z.asked) (λ (z : View T). z.capacity)
     (λ (base : View T). At code kinds.IndexQueue (counts_waiting which base.capacity) base)

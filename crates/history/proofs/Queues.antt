@@ -1,4 +1,5 @@
--- What the bounded queues owe, from the laws of the queues, and which party may begin a call on a queue.
+-- The kinds of queues as tables that are machines: how many words they have, what their calls write
+-- (`ring_effects`), that each step leads where the queue's laws say, and how a call begins.
 use Rattle.history.proofs.Names.{◌≡◌, ℕ, ◌+◌, ◌*◌, false, Option, Some, None, IfSome, List, [], length, sum_by, fold}
 use Rattle.history.proofs.Names.{refl, sym, ap, subst, ◌∙◌, arith, Event, Start, Queues, Flight}
 use Rattle.history.proofs.Names.{Registry, QueueKind, QueueStart, PushIndex, Pop, Roles, QueueFlight, Values}
@@ -37,6 +38,7 @@ use Rattle.model.specs.Promises.Families.{promise_of}
 use Rattle.history.proofs.Paid.{Pays, progress_kept, pays_run}
 use Rattle.history.proofs.Turns.{CallGoesOn, KindLaws, LoneMachines}
 
+-- who holds the role by the machine's record holds it by the events
 held_there : {T : Type 0} (role : Role) (roles : Roles) (events : List (Event T))
     → KeepsHolders (registries.Queues roles) events → holder role roles ≡ fold (role_after role) None events
 held_there = grind arith
@@ -57,30 +59,35 @@ module _ {T : Type 0} (code : Coding T) where
       (answer_in (after code (Values (rings.Pop run)) old))
   ring_effects p flight old = []
 
+  -- what a step of a call on a bounded queue writes, as the effects of any call
   abbrev pub queue_effects : ℕ → Flight T → ℕ → List (Event T)
   queue_effects p (flights.Queues flight) old = ring_effects p flight old
   queue_effects p flight old = []
 
-  -- ---- they are events of its party
+  -- ---- the effects of a step are events of its party
 
+  -- the effects of a step are events of its party
   effects_own : (p : ℕ) (flight : Flight T) (n : ℕ) → AreOf p (queue_effects p flight n)
   effects_own = grind arith
 
--- ---- of a queue of any kind
+-- ---- queues of any kind
 
 module _ {T : Type 0} (code : Coding T) (capacity : ℕ) (kd : QueueKind) where
+  -- the machine is one of a run of a queue of this kind and capacity
   abbrev pub IsOf : Trace T → Type 0
   IsOf t = IsRun code (machine_kind kd) capacity t
 
+  -- a run of a queue keeps the invariant of its laws
   pub sound_of : (t : Trace T) → IsOf t → frame.Sound (family t.world.coding kd t.world.capacity) t
   sound_of = grind (arith, queue_run, sound_on)
 
+  -- the cells of a queue have as many words as its items of this coding, each in its cell
   cell_sizes : (q : QueueKind) (z : Coding T) → (encoded z q).size * cells_of q capacity ≡ words_of_cell z.size q * cells_of q capacity
   cell_sizes IndexQueue z = refl
   cell_sizes queues.Overflow z = refl
   cell_sizes queues.Queue z = refl
 
-  -- its words
+  -- a reached queue has four words and those of its cells
   pub sized_so : (t : Trace T) → IsOf t → length t.world.words ≡ 4 + words_of_cell code.size kd * cells_of kd capacity
   sized_so t run =
       let is_sound = sound_of t run in
@@ -91,47 +98,52 @@ module _ {T : Type 0} (code : Coding T) (capacity : ℕ) (kd : QueueKind) where
       let four : length (layout is_sound.state.roles is_sound.state.core) ≡ 4 + length is_sound.state.core.cells = omega arith in
       ap length is_sound.fit.words ∙ (four ∙ ap (λ n. 4 + n) cells)
 
--- ---- what a bounded queue owes, of indices or of values
+-- ---- the laws of bounded queues, of indices or of values
 
 module _ {T : Type 0} (code : Coding T) (capacity : ℕ) (r : Ring) where
-  abbrev IsBounded : Trace T → Type 0
-  IsBounded t = IsRun code (machine_kind (kind_of r)) capacity t
+  -- the machine is one of a run of a bounded queue of this capacity
+  abbrev IsBoundedRun : Trace T → Type 0
+  IsBoundedRun t = IsRun code (machine_kind (kind_of r)) capacity t
 
-  -- the words of the table
+  -- how many words the table of a bounded queue has
   abbrev pub ring_words : ℕ
   ring_words = 4 + words_of_cell code.size (kind_of r) * capacity
 
+  -- a bounded queue has as many cells as its capacity
   as_many : (q : Ring) → cells_of (kind_of q) capacity ≡ capacity
   as_many of_indices = refl
   as_many of_values = refl
 
-  size : (t : Trace T) → IsBounded t → length t.world.words ≡ ring_words
+  -- a bounded queue has as many words as its kind says
+  size : (t : Trace T) → IsBoundedRun t → length t.world.words ≡ ring_words
   size t run = sized_so code capacity (kind_of r) t run ∙ ap (λ n. 4 + words_of_cell code.size (kind_of r) * n) (as_many r)
 
-  -- the step of a call that stands so, whatever its name
-  record Facts (z : Coding T) (words : List ℕ) (waits : Option (ℕ × ℕ)) (p n : ℕ) (start : Start T) (flight : Flight T) (kept : Registry T) : Type 0 where
+  -- where a step leads a call of the queue, and what it writes, whatever the call
+  record StepFacts (z : Coding T) (words : List ℕ) (waits : Option (ℕ × ℕ)) (p n : ℕ) (start : Start T) (flight : Flight T) (kept : Registry T) : Type 0 where
+    -- nothing refuses the step; its effects are `queue_effects`, and it leads where the call's flight says
     pub may : first_row (going_rows z kept (Some flight) None) ≡ None
     pub writes : (step_of z words waits p start flight n kept).wrote ≡ queue_effects z p flight n
     pub goes : (step_of z words waits p start flight n kept).after ≡ after_of z flight n
 
+  -- these facts hold of each call that the queue's laws have under way
   facts : (z : Coding T) (words : List ℕ) (waits : Option (ℕ × ℕ)) (c p n : ℕ) (q : Queue (Val T (kind_of r)))
       (start : Start T) (flight : Flight T) (kept : Registry T)
       → kept ≡ registries.Queues q.roles → (family z (kind_of r) c).At q p start flight
-      → Facts z words waits p n start flight kept
+      → StepFacts z words waits p n start flight kept
   facts = grind arith
 
   -- each step of a call under way leads where the queue's table says
-  goes_on : (t : Trace T) → IsBounded t → (p : ℕ) (start : Start T) (flight : Flight T)
+  goes_on : (t : Trace T) → IsBoundedRun t → (p : ℕ) (start : Start T) (flight : Flight T)
       → call_in t.world p ≡ Some (start, flight)
       → CallGoesOn code (machine_kind (kind_of r)) capacity ring_words (queue_effects code) t p flight
-  goes_on t run p start flight at =
+  goes_on t run p start flight call_is =
       let is_sound = sound_of code capacity (kind_of r) t run in
-      let here = stands t.world p start flight at in
+      let here = stands t.world p start flight call_is in
       let there = stands_there (family t.world.coding (kind_of r) t.world.capacity) t is_sound p here.x here.since flight here.found here.doing in
       let waits = beside_of t.world.words t.world.kept t.world.latest p in
       let fact = λ (x : Party T) (n : ℕ) (found : party_of p t.world.latest ≡ Some x).
       (let same : here.x ≡ x = (let both : Some here.x ≡ Some x = sym here.found ∙ found in cc) in
-      subst (λ (st : Start T). Facts t.world.coding t.world.words waits p n st flight t.world.kept) (ap (λ (y : Party T). y.start) same)
+      subst (λ (st : Start T). StepFacts t.world.coding t.world.words waits p n st flight t.world.kept) (ap (λ (y : Party T). y.start) same)
       (facts t.world.coding t.world.words waits t.world.capacity p n is_sound.state here.x.start flight t.world.kept is_sound.fit.kept there.at))
       in
       record {
@@ -141,7 +153,7 @@ module _ {T : Type 0} (code : Coding T) (capacity : ℕ) (r : Ring) where
         goes = λ x n found. (fact x n found).goes;
       }
 
-  -- a bounded queue owes what its kind has to
+  -- bounded queues keep the laws of a kind: what their steps write, and where they lead
   pub ring_owes : KindLaws code (machine_kind (kind_of r)) capacity ring_words (queue_effects code)
   ring_owes = record {
     size = size;
@@ -150,25 +162,30 @@ module _ {T : Type 0} (code : Coding T) (capacity : ℕ) (r : Ring) where
     stateless = λ t run. (let is_sound = sound_of code capacity (kind_of r) t run in subst IsStateless (sym is_sound.fit.kept) tt);
   }
     where
+      -- nothing is late for a call on a bounded queue
       alone : (q : Ring) (going : Option (Start T × Flight T)) (late : List (Event T)) → IsLate (machine_kind (kind_of q)) going late → late ≡ []
       alone of_indices going late is_late = is_late
       alone of_values going late is_late = is_late
 
 module _ {T : Type 0} (code : Coding T) (capacity : ℕ) where
+  -- index queues keep the laws of a kind
   pub index_owes : KindLaws code kinds.IndexQueue capacity (4 + capacity) (queue_effects code)
   index_owes = let one : 4 + 1 * capacity ≡ 4 + capacity = omega arith in
       subst (λ n. KindLaws code kinds.IndexQueue capacity n (queue_effects code)) one (ring_owes code capacity of_indices)
 
+  -- queues of values keep the laws of a kind
   pub values_owe : KindLaws code kinds.Queue capacity (4 + code.size * capacity) (queue_effects code)
   values_owe = ring_owes code capacity of_values
 
 -- ---- which party may begin a call on a queue of any kind
 
 module _ {T : Type 0} (code : Coding T) (kd : QueueKind) (base : View T) where
-  abbrev IsOn : Trace T → Type 0
-  IsOn t = IsRun code (machine_kind kd) base.capacity t
+  -- the machine is one of a run of a queue of the pass's capacity
+  abbrev IsPassRun : Trace T → Type 0
+  IsPassRun t = IsRun code (machine_kind kd) base.capacity t
 
-  pub queue_goes_on : (t : Trace T) → IsOn t → IsQueue kd t
+  -- a run of a queue is a reached one, as the queue's laws have it
+  pub queue_goes_on : (t : Trace T) → IsPassRun t → IsQueue kd t
   queue_goes_on t is_on = (let run_here = queue_run code base.capacity kd t is_on in
       (subst (λ P. IsKeptBy P t) (promised_by kd t is_on.of_kind)
       (kept_on kd t is_on.of_kind run_here.reached.coded run_here.reached.admitted run_here.fresh)).promised)
@@ -178,7 +195,7 @@ module _ {T : Type 0} (code : Coding T) (kd : QueueKind) (base : View T) where
   promise_is queues.Overflow = refl
   promise_is queues.Queue = refl
 
-  -- how many steps its calls take
+  -- each call takes at most the steps that the model promises of a queue
   pub queue_pays : Pays code (machine_kind kd) base.capacity
   queue_pays t r =
       (let run_here = queue_run code base.capacity kd t r in
@@ -188,19 +205,21 @@ module _ {T : Type 0} (code : Coding T) (kd : QueueKind) (base : View T) where
       (progress_kept code (machine_kind kd) base.capacity t r F (promise_is kd) is_sound
       (kept_on kd t r.of_kind run_here.reached.coded run_here.reached.admitted run_here.fresh)))
 
-  kept_there : (t : Trace T) → IsOn t → (roles : Roles) × (t.world.kept ≡ registries.Queues roles)
+  -- a machine of a queue keeps who holds its roles
+  kept_there : (t : Trace T) → IsPassRun t → (roles : Roles) × (t.world.kept ≡ registries.Queues roles)
   kept_there t is_on = let is_sound = sound_of code base.capacity kd t is_on in (is_sound.state.roles, is_sound.fit.kept)
 
-  abbrev AllOf : Trace T → (ℕ → ℕ) → ℕ → Type 0
-  AllOf t owner j = (f : Event T → ℕ) → sum_by f base.made ≡ sum_by (owned owner j f) t.events
+  -- what the pass has made, by every measure, is what its parties wrote
+  abbrev MadeByParties : Trace T → (ℕ → ℕ) → ℕ → Type 0
+  MadeByParties t owner j = (f : Event T → ℕ) → sum_by f base.made ≡ sum_by (owned owner j f) t.events
 
   -- a party that lacks no role for it may begin
   module _ {C M E : Type 0} (call : Calling T C M E) (start : QueueStart T) (c : C) (m : M) (named : call.start ≡ Queues start)
       (first_is : (kept : Registry T) → first_of (machine_kind kd) base.capacity (Queues start) kept ≡ Some (call.flight c m))
-      (t : Trace T) (owner : ℕ → ℕ) (j p : ℕ) (run : IsOn t) (mine : owner p ≡ j) (by : call.by base.party p)
+      (t : Trace T) (owner : ℕ → ℕ) (j p : ℕ) (run : IsPassRun t) (mine : owner p ≡ j) (by : call.by base.party p)
       (roles : Roles) (is : t.world.kept ≡ registries.Queues roles)
       (lacks : lacks_role roles p start ≡ false) where
-    -- the call begins for a party of its pass, which the machine finds idle
+    -- the call may begin as that of party p, whom the machine finds without a call under way
     as_party : Starts code (machine_kind kd) call base c m t owner j
     as_party =
         record {
@@ -211,44 +230,48 @@ module _ {T : Type 0} (code : Coding T) (kd : QueueKind) (base : View T) where
           may = rw named (rows kd (first_is t.world.kept));
         }
       where
+        -- what the machine keeps refuses no begin of the call
         kept_free : first_row (kept_rows start t.world.kept p) ≡ None
         kept_free = subst (λ k. first_row (kept_rows start k p) ≡ None) (sym is) (rw lacks refl)
 
+        -- nothing that is tested of the begin refuses it, on any kind of queue
         rows : (k : QueueKind) → first_of (machine_kind k) base.capacity (Queues start) t.world.kept ≡ Some (call.flight c m)
             → first_row (rows_as (machine_kind k) base.capacity t.world.kept p (Queues start)) ≡ None
-        rows IndexQueue e = rw e kept_free
-        rows queues.Overflow e = rw e kept_free
-        rows queues.Queue e = rw e kept_free
+        rows IndexQueue first_is = rw first_is kept_free
+        rows queues.Overflow first_is = rw first_is kept_free
+        rows queues.Queue first_is = rw first_is kept_free
 
   module _ {C M E : Type 0} (call : Calling T C M E) (start : QueueStart T) (c : C) (m : M) (named : call.start ≡ Queues start)
       (first_is : (kept : Registry T) → first_of (machine_kind kd) base.capacity (Queues start) kept ≡ Some (call.flight c m)) where
-    -- a call that needs no role, as the party that the pass was last
+    -- a call that needs no role begins as that of the party that the pass was last, or of
+    -- the pass's own number
     pub plain_starts : ((o : Option ℕ) (p : ℕ) → IfSome o (λ q. q ≡ p) → call.by o p) → ((roles : Roles) (p : ℕ) → lacks_role roles p start ≡ false)
-        → (t : Trace T) (owner : ℕ → ℕ) (j : ℕ) → IsOn t → owner j ≡ j → IfSome base.party (λ p. owner p ≡ j)
-        → AllOf t owner j → Starts code (machine_kind kd) call base c m t owner j
+        → (t : Trace T) (owner : ℕ → ℕ) (j : ℕ) → IsPassRun t → owner j ≡ j → IfSome base.party (λ p. owner p ≡ j)
+        → MadeByParties t owner j → Starts code (machine_kind kd) call base c m t owner j
     plain_starts by_last free t owner j run self party sums = go base.party refl party
       where
+        -- the machine keeps who holds the roles
         kept : (roles : Roles) × (t.world.kept ≡ registries.Queues roles)
         kept = kept_there t run
 
         -- whether the pass was a party last or not, the call begins, as that party or as the one
         -- of the pass's own number
         go : (o : Option ℕ) → base.party ≡ o → IfSome o (λ p. owner p ≡ j) → Starts code (machine_kind kd) call base c m t owner j
-        go None e h =
+        go None party_is if_some =
             as_party call start c m named first_is t owner j j run self
-            (by_last base.party j (subst (λ (z : Option ℕ). IfSome z (λ q. q ≡ j)) (sym e) tt)) kept.0 kept.1
+            (by_last base.party j (subst (λ (z : Option ℕ). IfSome z (λ q. q ≡ j)) (sym party_is) tt)) kept.0 kept.1
             (free kept.0 j)
-        go (Some p) e h =
-            as_party call start c m named first_is t owner j p run h
-            (by_last base.party p (subst (λ (z : Option ℕ). IfSome z (λ q. q ≡ p)) (sym e) refl)) kept.0 kept.1
+        go (Some p) party_is if_some =
+            as_party call start c m named first_is t owner j p run if_some
+            (by_last base.party p (subst (λ (z : Option ℕ). IfSome z (λ q. q ≡ p)) (sym party_is) refl)) kept.0 kept.1
             (free kept.0 p)
 
-    -- a call of a role, as that of the pass's parties which holds it
+    -- a call that needs a role begins as that of the pass's party which holds the role
     pub role_starts : (role : Role) → ((o : Option ℕ) (p : ℕ) → call.by o p)
         → ((roles : Roles) (p : ℕ) → holder role roles ≡ Some p → lacks_role roles p start ≡ false)
         → HasRole role base.made
-        → (t : Trace T) (owner : ℕ → ℕ) (j : ℕ) → IsOn t → owner j ≡ j → IfSome base.party (λ p. owner p ≡ j)
-        → AllOf t owner j → Starts code (machine_kind kd) call base c m t owner j
+        → (t : Trace T) (owner : ℕ → ℕ) (j : ℕ) → IsPassRun t → owner j ≡ j → IfSome base.party (λ p. owner p ≡ j)
+        → MadeByParties t owner j → Starts code (machine_kind kd) call base c m t owner j
     role_starts role by_any free has t owner j run self party sums =
         let queue = queue_goes_on t run in
         let kept = kept_there t run in
@@ -257,10 +280,12 @@ module _ {T : Type 0} (code : Coding T) (kd : QueueKind) (base : View T) where
         as_party call start c m named first_is t owner j by_this_party.0 run by_this_party.1 (by_any base.party by_this_party.0) kept.0 kept.1
         (free kept.0 by_this_party.0 (held_there role kept.0 t.events keeps ∙ by_this_party.2))
 
+-- the machines of index queues
 abbrev pub index_queue_machines : {T : Type 0} → Coding T → LoneMachines T
 index_queue_machines code =
     record { code = code; kind = kinds.IndexQueue; effects = queue_effects code; size_of = λ capacity. 4 + capacity; laws = index_owes code }
 
+-- the machines of queues of values
 abbrev pub queue_machines : {T : Type 0} → Coding T → LoneMachines T
 queue_machines code =
     record { code = code; kind = kinds.Queue; effects = queue_effects code; size_of = λ capacity. 4 + code.size * capacity; laws = values_owe code }

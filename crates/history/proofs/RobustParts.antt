@@ -14,38 +14,46 @@ use Rattle.history.proofs.CallsIn.{AsksFor}
 
 -- ---- an ask that is no store is answered by what was found
 
+-- what a count hears of an operation is what the word was before it
 pub count_found : (count : Count) (a : Ask) (n : ℕ) → count_want count ≡ wants.Ask a → answered a.op n ≡ n
 count_found = grind arith
 
--- ---- the words
+-- ---- which words the parts ask for
 
+-- a raise asks for the counter of the set
 pub raise_asks : (capacity : ℕ) (raise : Raise) → AsksFor (capacity + 1) (raise_want raise)
 raise_asks capacity raises.LoadsCounter = (_, omega arith, refl)
 raise_asks capacity (raises.ExchangesCounter counter) = (_, omega arith, refl)
 
+-- a count asks for the counter or a cell of the set
 pub count_asks : (capacity : ℕ) (count : Count) → CountIn capacity count → AsksFor (capacity + 1) (count_want count)
-count_asks capacity counts.LoadsCounter h = (_, omega arith, refl)
-count_asks capacity (counts.LoadsCell counter index filled) h = (_, (let low : 1 + index < capacity + 1 = omega arith in low), refl)
-count_asks capacity (counts.ExchangesCounter counter filled) h = (_, omega arith, refl)
+count_asks capacity counts.LoadsCounter count_in = (_, omega arith, refl)
+count_asks capacity (counts.LoadsCell counter index filled) count_in = (_, (let low : 1 + index < capacity + 1 = omega arith in low), refl)
+count_asks capacity (counts.ExchangesCounter counter filled) count_in = (_, omega arith, refl)
 
+-- a lock asks for the counter or a cell of the set
 pub lock_asks : (capacity : ℕ) (lock : Lock) → LockIn capacity lock → AsksFor (capacity + 1) (lock_want lock)
-lock_asks capacity (locks.Counts count) h = count_asks capacity count h
-lock_asks capacity (locks.ExchangesCounter counter) h = (_, omega arith, refl)
+lock_asks capacity (locks.Counts count) lock_in = count_asks capacity count lock_in
+lock_asks capacity (locks.ExchangesCounter counter) lock_in = (_, omega arith, refl)
 
--- ---- where they go on
+-- ---- where the parts go on
 
 module _ (capacity : ℕ) where
+  -- a count that goes on is at an index of the set
   abbrev pub CountOn : After Count Counted → Type 0
   CountOn (GoOn d) = CountIn capacity d
   CountOn (Done e) = Unit {0}
 
+  -- a lock that goes on is at an index of the set where it counts
   abbrev pub LockOn : After Lock ReleaseState → Type 0
   LockOn (GoOn d) = LockIn capacity d
   LockOn (Done e) = Unit {0}
 
   module _ (cap : ℕ) (same : cap ≡ capacity) where
+    -- after a step a count is at an index of the set, or has ended
     pub count_on : (count : Count) (k : ℕ) → CountOn (count_after cap count k)
     count_on = grind arith
 
+    -- after a step a lock is at an index of the set where it counts, or has ended
     pub lock_on : (lock : Lock) (k : ℕ) → LockOn (lock_after cap lock k)
     lock_on = grind arith

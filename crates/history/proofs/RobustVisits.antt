@@ -1,4 +1,5 @@
--- The lists of a recovery's visits: that they ascend, what was written of them, and that this tells what they are.
+-- The visits of a recovery of a robust index set: how they go on with a step, and that what was written tells
+-- which visits they are.
 use Rattle.history.proofs.Names.{◌≡◌, ℕ, ◌+◌, ◌<◌, ◌≤◌, List, [], ◌∷◌, ◌++◌, fold, append_assoc, append-nil, refl}
 use Rattle.history.proofs.Names.{sym, ap, subst, ◌∙◌, arith, All-push, All-weaker, fold-append, ReleaseMode}
 use Rattle.history.proofs.Names.{Event, Begun, FreedOf, Asked, Start}
@@ -12,26 +13,29 @@ use Rattle.history.specs.Robust.{came_to, HasCome, VisitsAt, wrote_to, wrote_of,
 
 -- ---- the last of a list
 
+-- a list without its last element
 abbrev all_but_last : {A : Type 0} → List A → List A
 all_but_last [] = []
 all_but_last (x ∷ []) = []
 all_but_last (x ∷ y ∷ xs) = x ∷ all_but_last (y ∷ xs)
 
+-- a list with one more at its end, without that, is the list
 but_last : {A : Type 0} (xs : List A) (x : A) → all_but_last (xs ++ x ∷ []) ≡ xs
 but_last [] x = refl
 but_last (y ∷ []) x = refl
 but_last (y ∷ z ∷ xs) x = ap (λ zs. y ∷ zs) (but_last (z ∷ xs) x)
 
 pub same_before : {A : Type 0} (xs ys : List A) (x : A) → xs ++ x ∷ [] ≡ ys ++ x ∷ [] → xs ≡ ys
-same_before xs ys x e = sym (but_last xs x) ∙ (ap all_but_last e ∙ but_last ys x)
+same_before xs ys x lists_are = sym (but_last xs x) ∙ (ap all_but_last lists_are ∙ but_last ys x)
 
+-- the last visit, with how far the recovery has come there, in place of what it was
 pub came_last : (visits : List Visit) (index owner : ℕ) (came next : Came)
     → came_to next (visits ++ visit index owner came ∷ []) ≡ visits ++ visit index owner next ∷ []
 came_last [] index owner came next = refl
 came_last (v ∷ []) index owner came next = refl
 came_last (v ∷ w ∷ visits) index owner came next = ap (λ zs. v ∷ zs) (came_last (w ∷ visits) index owner came next)
 
--- ---- they ascend
+-- ---- visits are of ascending indices
 
 module _ (mode : ReleaseMode) where
   pub none_yet : (bound : ℕ) (visits : List Visit) → visits ≡ [] → AreVisits mode bound visits
@@ -40,7 +44,7 @@ module _ (mode : ReleaseMode) where
   pub wider : (low high : ℕ) (visits : List Visit) → low ≤ high → AreVisits mode low visits → AreVisits mode high visits
   wider = grind arith
 
-  -- one visit more, of the next index
+  -- a visit of the next index behind visits of smaller indices
   pub one_more : (index owner : ℕ) (came : Came) (visits : List Visit) → MayCome mode came → AreVisits mode index visits
       → AreVisits mode (index + 1) (visits ++ visit index owner came ∷ [])
   one_more index owner came visits may are_visits = (
@@ -50,17 +54,18 @@ module _ (mode : ReleaseMode) where
         (wider index (index + 1) visits (omega arith) are_visits).1 (omega arith, may),
   )
 
+  -- with the last visit the visits are of indices up to that one
   pub came_past : (index owner : ℕ) (came : Came) (visits : List Visit) → MayCome mode came → HasCome mode index came owner visits
       → AreVisits mode (index + 1) visits
   came_past index owner came visits may come = subst (AreVisits mode (index + 1)) (sym come.is) (one_more index owner came come.before may come.passed)
 
-  -- it comes further with the last one
+  -- the recovery comes further with the last visit
   abbrev pub comes_on : (index owner : ℕ) (came next : Came) (visits : List Visit) → HasCome mode index came owner visits
       → HasCome mode index next owner (came_to next visits)
-  comes_on index owner came next visits h =
-      record { before = h.before; passed = h.passed; is = ap (came_to next) h.is ∙ came_last h.before index owner came next }
+  comes_on index owner came next visits has_come =
+      record { before = has_come.before; passed = has_come.passed; is = ap (came_to next) has_come.is ∙ came_last has_come.before index owner came next }
 
--- ---- what was written of them
+-- ---- what a recovery wrote of its visits
 
 module _ {T : Type 0} (p : ℕ) where
   abbrev wrote : List Visit → List (Event T)
@@ -69,23 +74,23 @@ module _ {T : Type 0} (p : ℕ) where
   pub wrote_last : (visits : List Visit) (v : Visit) → wrote (visits ++ v ∷ []) ≡ wrote visits ++ wrote_of p v
   wrote_last = grind (arith, flat_map-append, append-nil)
 
-  -- the last one has come further, and so much more was written
+  -- what the recovery writes as it comes further with the last visit is what the visits then tell
   pub wrote_on : (mode : ReleaseMode) (index owner : ℕ) (came next : Came) (visits : List Visit) (es more : List (Event T))
       → wrote_to p index owner came ++ more ≡ wrote_to p index owner next → HasCome mode index came owner visits
       → es ≡ wrote visits → es ++ more ≡ wrote (came_to next visits)
-  wrote_on mode index owner came next visits es more longer come is =
-      ap (λ zs. zs ++ more) (is ∙ (ap wrote come.is ∙ wrote_last come.before (visit index owner came)))
+  wrote_on mode index owner came next visits es more longer come es_is =
+      ap (λ zs. zs ++ more) (es_is ∙ (ap wrote come.is ∙ wrote_last come.before (visit index owner came)))
       ∙ (append_assoc (wrote come.before) (wrote_to p index owner came) more
       ∙ (ap (λ zs. wrote come.before ++ zs) longer
       ∙ (sym (wrote_last come.before (visit index owner next)) ∙ ap wrote (sym (comes_on mode index owner came next visits come).is))))
 
--- ---- it tells what they are
+-- ---- what was written tells which visits they are
 
 module _ (T : Type 0) (p : ℕ) where
   abbrev writes : List Visit → List (Event T)
   writes visits = wrote_by p visits
 
-  -- the visits of the call that began last
+  -- the visits of a recovery, as an event leaves them: read from its events since its begin
   abbrev read : List Visit → Event T → List Visit
   read visits (Begun q start) = []
   read visits (Asked q index owner) = visits ++ visit index owner HasAsked ∷ []
@@ -105,32 +110,33 @@ module _ (T : Type 0) (p : ℕ) where
       ∙ (ap (λ vs. fold read vs (writes visits)) (reads_one front v.index v.owner v.came)
       ∙ (reads (front ++ v ∷ []) visits ∙ append_assoc front (v ∷ []) visits))
 
-  -- what it reads where a recovery stands
+  -- the events of a recovery up to a stage read back as its visits
   read_there : (before : List (Event T)) (start : Start T) (stage : RecoverStage) (visits : List Visit)
       → fold read [] (before ++ Begun p start ∷ (writes visits ++ wrote_now p stage)) ≡ fold read visits (wrote_now p stage)
   read_there = grind (arith, fold-append, fold, reads)
 
-  -- lists of visits that read alike at a stage are equal
+  -- two lists of visits at one stage whose events are equal are equal
   told_apart : (capacity : ℕ) (mode : ReleaseMode) (stage : RecoverStage) (a b : List Visit) → VisitsAt capacity mode stage a
       → VisitsAt capacity mode stage b → fold read a (wrote_now p stage) ≡ fold read b (wrote_now p stage) → a ≡ b
-  told_apart capacity mode recovers.LoadsCounter a b x y e = e
-  told_apart capacity mode (recovers.LoadsCell index) a b x y e = e
-  told_apart capacity mode (recovers.Asks index owner) a b x y e = same_before a b (visit index owner HasAsked) e
-  told_apart capacity mode (recovers.EmptiesCell index owner) a b x y e =
+  told_apart capacity mode recovers.LoadsCounter a b first_visits_at second_visits_at fold_is = fold_is
+  told_apart capacity mode (recovers.LoadsCell index) a b first_visits_at second_visits_at fold_is = fold_is
+  told_apart capacity mode (recovers.Asks index owner) a b first_visits_at second_visits_at fold_is = same_before a b (visit index owner HasAsked) fold_is
+  told_apart capacity mode (recovers.EmptiesCell index owner) a b first_visits_at second_visits_at fold_is =
       let last = λ (vs : List Visit) (h : HasCome mode index HasAsked owner vs). (comes_on mode index owner HasAsked WasTold vs h).is in
-      x.is
+      first_visits_at.is
       ∙ (ap (λ vs. vs ++ visit index owner HasAsked ∷ [])
-      (same_before x.before y.before (visit index owner WasTold) (sym (last a x) ∙ (e ∙ last b y))) ∙ sym y.is)
-  told_apart capacity mode (recovers.Raises index raise) a b x y e = e
-  told_apart capacity mode (recovers.Locks index lock) a b x y e = e
-  told_apart capacity mode recovers.LoadsCounterAgain a b x y e = e
+      (same_before first_visits_at.before second_visits_at.before (visit index owner WasTold)
+      (sym (last a first_visits_at) ∙ (fold_is ∙ last b second_visits_at))) ∙ sym second_visits_at.is)
+  told_apart capacity mode (recovers.Raises index raise) a b first_visits_at second_visits_at fold_is = fold_is
+  told_apart capacity mode (recovers.Locks index lock) a b first_visits_at second_visits_at fold_is = fold_is
+  told_apart capacity mode recovers.LoadsCounterAgain a b first_visits_at second_visits_at fold_is = fold_is
 
--- who knows what it made since it began knows the visits
+-- two recoveries at one stage, with the same events since they began, have the same visits
 pub same_visits : {T : Type 0} (p q size other : ℕ) (mode : ReleaseMode) (start : Start T) (stage : RecoverStage) (made first second : List (Event T))
     (a b : List Visit) → p ≡ q → VisitsAt size mode stage a → VisitsAt other mode stage b → size ≡ other
     → made ≡ first ++ Begun p start ∷ (wrote_by p a ++ wrote_now p stage) → made ≡ second ++ Begun q start ∷ (wrote_by q b ++ wrote_now q stage) → a ≡ b
-same_visits {T} p q size other mode start stage made first second a b by x y sized is also =
+same_visits {T} p q size other mode start stage made first second a b by first_visits_at second_visits_at sized made_is also =
     let there : made ≡ second ++ Begun p start ∷ (wrote_by p b ++ wrote_now p stage) =
     subst (λ r. made ≡ second ++ Begun r start ∷ (wrote_by r b ++ wrote_now r stage)) (sym by) also in
-    told_apart T p size mode stage a b x (subst (λ n. VisitsAt n mode stage b) (sym sized) y)
-    (sym (read_there T p first start stage a) ∙ (ap (fold (read T p) []) (sym is ∙ there) ∙ read_there T p second start stage b))
+    told_apart T p size mode stage a b first_visits_at (subst (λ n. VisitsAt n mode stage b) (sym sized) second_visits_at)
+    (sym (read_there T p first start stage a) ∙ (ap (fold (read T p) []) (sym made_is ∙ there) ∙ read_there T p second start stage b))

@@ -26,10 +26,11 @@ use Rattle.history.proofs.OneRun.{continues_all}
 use Rattle.history.proofs.Steps.{view_after, settle}
 use Rattle.history.proofs.CallsIn.{AsksFor, no_rest, same_rest, none_after}
 
+-- a number is at most one more
 no_more : (n : ℕ) → n ≤ n + 1
 no_more n = omega arith
 
--- each step of the call keeps the rule, where it may and stands so
+-- each step of the call at a word keeps the rule, at a stage that `Stage` allows and of which `may` holds
 abbrev pub KeepsWhere : {T : Type 0} → Coding T → Kind → (ℕ → ℕ) → {C M E : Type 0} → (C → Type 0)
     → (View T → View T → C → M → Type 0) → (View T → E → M → View T → Type 0)
     → (C → Want (Unit {0})) → (C → ℕ → After C E) → (C → M → ℕ → M) → Type 0
@@ -37,7 +38,8 @@ KeepsWhere {T} code kind size_of {C} {M} {E} may at ends want after kept =
     (base v : View T) (c : C) (m : M) (key words slots id : ℕ) → may c → words ≡ size_of key + 1 → v.capacity ≡ key → at base v c m
     → Owes (λ (z : View T). z.asked) (IsMachine code kind key) words slots id (Told (λ (z : View T). z.capacity) at ends after kept c m) (want c) (v, [])
 
--- machines that hear answers, where none writes for another, and an answer that ends a call writes nothing
+-- Machines of a kind that hears answers: nothing is late for a call, and an answer that ends a
+-- call writes no effect.
 pub record Hearing (T : Type 0) : Type 0 where
   pub machines : Machines T
   pub decides : MayDecide machines.kind
@@ -50,8 +52,9 @@ module _ {T : Type 0} (hearing : Hearing T) where
 
   -- ---- the machine is handed the answer
 
-  -- a seat whose call rests
+  -- a seat of the table whose call rests: it stands at a question that the answer no ends
   pub record Rests (v : View T) (key id : ℕ) : Type 0 where
+    -- the table, the machine that it is, and that the seat has this view
     pub s : State (Unit {0}) (View T)
     pub r : IsMachine code kind key s
     pub at : get_elem? s.views id ≡ some v
@@ -61,12 +64,15 @@ module _ {T : Type 0} (hearing : Hearing T) where
   module _ {v : View T} {key id : ℕ} (rests : Rests v key id) where
     open rests use {s, r, at, known, h}
 
+    -- the seat fits the machine of the table
     here : Fits r.owner r.trace id v
     here = r.seats id v at
 
+    -- the party whose call rests is one of the seat's
     mine : r.owner h.party ≡ id
     mine = subst (λ (o : Option ℕ). IfSome o (λ q. r.owner q ≡ id)) h.mine here.party
 
+    -- nothing is late for the seat
     none : here.late ≡ []
     none = grind arith
 
@@ -81,12 +87,15 @@ module _ {T : Type 0} (hearing : Hearing T) where
         let none_written : sum_by f here.late ≡ 0 = ap (sum_by f) none in
         omega (arith, here.made f)))
 
+    -- in the machine the party's call stands at its question
     there : call_in r.trace.world h.party ≡ Some (h.start, h.flight)
     there = here.going h.party mine h.mine ∙ h.going
 
+    -- the answer no ends the call
     comes : goes_of code h.party h.flight (number_of false) r.trace.world.kept ≡ Done h.answer
     comes = h.ends r.trace.world.kept
 
+    -- the machine does not refuse the answer
     free : refusal_as kind r.trace.world (Decide h.party false) ≡ None
     free = grind (arith, decide_as, false, flight_is, stands, there)
 
@@ -104,22 +113,27 @@ module _ {T : Type 0} (hearing : Hearing T) where
           comes = comes;
         }
 
+    -- the response of the call that rested
     abbrev end : List (Event T)
     end = Finished h.party h.start h.answer ∷ []
 
+    -- the machine after the answer
     abbrev u_then : Trace T
     u_then = after_turn r.trace (Decide h.party false)
 
+    -- what the seat has gained with the answer
     abbrev gained_then : List (Event T)
     gained_then = [] ++ events_by h.party (events_of r.trace.world (Decide h.party false))
 
+    -- after the answer the machine stands at the table's words
     pub between_then : Between code kind key r.owner s id h.party gained_then u_then
     between_then = decided answering
 
-    -- what the seat would know then
+    -- the view of the seat once the machine has been handed the answer no, which ends its call
     abbrev pub view_settled : View T
     view_settled = view_after code kind key id h.party between_then.one.turns v.asked v.aside v gained_then u_then
 
+    -- the table with the seat's view after the answer
     abbrev pub table_settled : State (Unit {0}) (View T)
     table_settled = record { words = s.words; homes = s.homes; views = slice_set s.views id view_settled }
 
@@ -136,49 +150,58 @@ module _ {T : Type 0} (hearing : Hearing T) where
           own = omega arith;
         }
 
+    -- what the seat has asked for is still counted right
     has_settled : HasAsked view_settled (steps_of_run code kind key between_then.one.turns)
     has_settled = gains_has s.views v view_settled (steps_of_run code kind key between_then.one.turns) gains_settled refl
 
+    -- the table with this view is a machine
     pub machine_settled : IsMachine code kind key table_settled
     machine_settled = settle code kind key id h.party r.owner v.asked v.aside s.words s v gained_then u_then at h.some between_then gains_settled
 
-    -- an answer is no look
+    -- an answer is no look of a state, so the state of the party stays
     state_stays : view_settled.state ≡ v.state
     state_stays = grind (arith, between_then, free, here, mine)
 
+    -- the answer has no effect besides the call's end
     wrote_none : effects r.trace.world h.party h.flight (number_of false) ≡ []
     wrote_none = quiet r.trace.world h.party h.flight h.answer h.asks comes
 
+    -- the turn of the answer writes the response alone
     told_end : events_of r.trace.world (Decide h.party false) ≡ end
     told_end = heard answering ∙ ap (λ zs. zs ++ end) wrote_none
 
+    -- that is what the seat has gained
     own_end : gained_then ≡ end
     own_end = own_heard answering ∙ ap (λ zs. events_by h.party zs ++ end) wrote_none
 
+    -- the pass has made the response
     made_end : view_settled.made ≡ v.made ++ end
     made_end = ap (λ zs. v.made ++ zs) own_end
 
-    -- who has a share has seen all of its own
+    -- a pass with a share has seen all events of its own party
     seen_own : events_by h.party here.seen.rest ≡ []
     seen_own = ⊎_elim of_seen of_other (here.own h.some h.party mine)
       where
+        -- where its own view has them, none of them is among the events that it has not seen
         of_seen : events_by h.party v.seen ++ events_by h.party here.late ≡ events_by h.party r.trace.events → events_by h.party here.seen.rest ≡ []
-        of_seen e =
+        of_seen lists_are =
             same_rest (events_by h.party v.seen) (events_by h.party here.seen.rest) []
             (sym (by_more h.party v.seen here.seen.rest)
-            ∙ (sym (ap (events_by h.party) here.seen.is) ∙ (sym e ∙ ap (λ zs. events_by h.party v.seen ++ events_by h.party zs) none)))
+            ∙ (sym (ap (events_by h.party) here.seen.is) ∙ (sym lists_are ∙ ap (λ zs. events_by h.party v.seen ++ events_by h.party zs) none)))
 
+        -- the other case, of a pass that was taken in, has no call under way, but this call rests
         of_other : (call_in r.trace.world h.party ≡ None) × (events_by h.party v.other ≡ events_by h.party r.trace.events)
             → events_by h.party here.seen.rest ≡ []
         of_other x = (let no : ◌≡◌ {A = Option (Start T × Flight T)} None (Some (h.start, h.flight)) = sym x.0 ∙ there in absurd (cc))
 
-    -- who has the whole has seen all
+    -- a pass with the whole share has seen all events
     seen_all : IsAll v.share → here.seen.rest ≡ []
     seen_all all =
         ⊎_elim (λ (e : v.seen ≡ r.trace.events). no_rest v.seen here.seen.rest (e ∙ here.seen.is))
         (λ (e : v.other ≡ r.trace.events). none_after v.seen here.seen.rest (sym (sym here.seen.is ∙ (sym e ∙ h.alone))))
         (known_whole s.views r.trace.events id v at all r.known)
 
+    -- the machine after the answer is a run
     run_then : IsRun code kind v.capacity u_then
     run_then = subst (λ n. IsRun code kind n u_then) (sym known) between_then.run
 
@@ -187,19 +210,23 @@ module _ {T : Type 0} (hearing : Hearing T) where
     settles =
         record {
           resting = h;
+          -- the answer changes neither capacity, party, share nor state, and no call is under way
           capacity = refl;
           party = sym h.mine;
           share = refl;
           state = state_stays;
           idle = decided_at answering;
+          -- the answer is no operation
           asked = no_more v.asked;
           aside = refl;
           fresh = refl;
+          -- what others did before, and then the response, which the pass made
           others = here.seen.rest;
           seen = ap (λ zs. r.trace.events ++ zs) told_end ∙ ap (λ zs. zs ++ end) here.seen.is;
           alone = seen_all;
           others_own = seen_own;
           made = made_end;
+          -- what is seen is the history of the machine with the answer
           history = record { trace = u_then; run = run_then; is = refl };
           ran =
               subst (λ n. Continues code kind n v view_settled) (sym known)
@@ -210,11 +237,12 @@ module _ {T : Type 0} (hearing : Hearing T) where
 
   -- ---- a look with which the call that rests is ended
 
-  -- it may do so by a load of any word
+  -- a pass whose call rests settles with the load of any word of the table, which changes no word
   pub settles_at : (key slots id word : ℕ) (v : View T) → v.capacity ≡ key → IsResting code v
       → Allows (IsMachine code kind key) slots id (v, []) word (λ n. n) (λ found me. Settles code kind v me.0 × (me.1 ≡ []))
-  settles_at key slots id word v known h s r long at small =
-      let rests : Rests v key id = record { s = s; r = r; at = at; known = known; h = h } in
+  settles_at key slots id word v known is_resting s r long at small =
+      let rests : Rests v key id = record { s = s; r = r; at = at; known = known; h = is_resting } in
+      -- the table's words stay, and the seat's view is the one in which its call has ended
       let w = view_settled rests in (
         w,
         table.keeps,
@@ -224,7 +252,7 @@ module _ {T : Type 0} (hearing : Hearing T) where
         (settles rests, refl),
       )
 
-  -- ---- a call begins after it
+  -- ---- a call begins after one that rests
 
   -- Stage and Over say where the call stands and how it has ended, Begins where it may begin; none
   -- stands there already, as apart says
@@ -235,23 +263,30 @@ module _ {T : Type 0} (hearing : Hearing T) where
       (stays : (v w : View T) (c : C) (m : M) → Settles code kind v w → Begins v c m → Begins w c m)
       (first : (v : View T) (c : C) (m : M) → Begins v c m → v.going ≡ None → v.other ≡ [] → 0 < v.share.part → Stage v v c m)
       (apart : (base v : View T) (c : C) (m : M) → IsResting code v → Begins v c m → Stage base v c m → ⊥) where
-    abbrev Rested : View T → View T → C → M → Type 0
-    Rested base v c m = AtWaiting code kind Begins Stage base v c m
+    -- the call waits to begin, or is at `Stage`, counted from the view in which the last one had ended
+    abbrev StandsRested : View T → View T → C → M → Type 0
+    StandsRested base v c m = AtWaiting code kind Begins Stage base v c m
 
-    abbrev RestedOver : View T → E → M → View T → Type 0
-    RestedOver base e m w = EndsSettled code kind Over base e m w
+    -- the call is over, counted from the view in which the last one had ended
+    abbrev OverRested : View T → E → M → View T → Type 0
+    OverRested base e m w = EndsSettled code kind Over base e m w
 
+    -- what a step has to tell, where the last call may rest
     abbrev ToldRested : C → M → View T → ℕ → View T → Type 0
-    ToldRested c m = Told (λ (z : View T). z.capacity) Rested RestedOver after kept c m
+    ToldRested c m = Told (λ (z : View T). z.capacity) StandsRested OverRested after kept c m
 
+    -- what a step has to tell, where no call rests
     abbrev ToldStage : C → M → View T → ℕ → View T → Type 0
     ToldStage c m = Told (λ (z : View T). z.capacity) Stage Over after kept c m
 
-    -- how it has gone on from there
+    -- what a step has made of the call, counted from `from`, it has made of the call counted from `base`,
+    -- where `from` is the view in which the last call had ended
     onward : (base from : View T) → SettledFrom code kind base from → (a : After C E) (m : M) (w : View T)
-        → NextKnown (λ (z : View T). z.capacity) Stage Over from a m w → NextKnown (λ (z : View T). z.capacity) Rested RestedOver base a m w
+        → NextKnown (λ (z : View T). z.capacity) Stage Over from a m w → NextKnown (λ (z : View T). z.capacity) StandsRested OverRested base a m w
     onward = grind arith
 
+    -- a call that is under way already keeps the rule by its own step, counted from the view
+    -- from which it began
     begun_keeps : (base₀ v : View T) (c : C) (m : M) (key words slots id : ℕ) → Stage base₀ v c m → (w : Want (Unit {0}))
         → Owes (λ (z : View T). z.asked) (IsMachine code kind key) words slots id (ToldStage c m) w (v, [])
         → Owes (λ (z : View T). z.asked) (IsMachine code kind key) words slots id (ToldRested c m) w (v, [])
@@ -260,38 +295,48 @@ module _ {T : Type 0} (hearing : Hearing T) where
     -- who has still to begin
     module _ (v : View T) (c : C) (m : M) (key words slots id : ℕ) (wide : words ≡ size_of key + 1) (known : v.capacity ≡ key) (h : IsResting code v)
         (begins : Begins v c m) (ok : may c) where
+      -- the call asks for a word of the structure
       word : AsksFor (size_of key) (want c)
       word = subst (λ n. AsksFor (size_of n) (want c)) known (asks v c m begins)
 
+      -- the word that the call asks for
       abbrev ask : Ask
       ask = word.0
 
-      -- what the seat knows once the machine has the answer
+      -- the view of the seat once the call that rested has ended
       abbrev settled : Rests v key id → View T
       settled rests = view_settled rests
 
+      -- the call is at its first stage in the view in which the last one had ended
       first_then : (rests : Rests v key id) → Stage (settled rests) (settled rests) c m
       first_then rests = (let x = settles rests in first (settled rests) c m (stays v (settled rests) c m x begins) x.idle x.fresh h.some)
 
+      -- what its first step tells of that view, it tells of the view in which the last call rested
       told_first : (rests : Rests v key id) (n : ℕ) (w : View T) → ToldStage c m (settled rests) n w → ToldRested c m v n w
       told_first rests n w told = (told.0, λ base rested. go base rested)
         where
-          go : (base : View T) → Rested base v c m → NextKnown (λ (z : View T). z.capacity) Rested RestedOver base (after c n) (kept c m n) w
+          -- what a step tells of the view in which the last call had ended, it tells of the view before that,
+          -- in each drive
+          go : (base : View T) → StandsRested base v c m → NextKnown (λ (z : View T). z.capacity) StandsRested OverRested base (after c n) (kept c m n) w
           go base (inl x) = absurd (apart x.from v c m h begins x.stage)
           go base (inr waits) =
               onward base (settled rests) (inr (subst (λ z. Settles code kind z (settled rests)) waits.is (settles rests)))
               (after c n) (kept c m n) w (told.1 (settled rests) (first_then rests))
 
+      -- the call may begin in the view in which the last one had ended, so its first step
+      -- keeps the rule there
       owed : (rests : Rests v key id)
           → OwesAsk (λ (z : View T). z.asked) (IsMachine code kind key) words slots id (ToldStage c m) ask.word ask.op (settled rests, [])
       owed rests =
           subst (λ w. Owes (λ (z : View T). z.asked) (IsMachine code kind key) words slots id (ToldStage c m) w (settled rests, []))
           word.2 (keeps (settled rests) (settled rests) c m key words slots id ok wide known (first_then rests))
 
+      -- the word is one of the table's
       below : ask.word < words
       below = omega (arith, word.1)
 
-      -- the first step of the next call keeps the rule
+      -- The first step of the next call keeps the rule: the machine is handed the answer no, and
+      -- then takes the step.
       first_keeps : OwesAsk (λ (z : View T). z.asked) (IsMachine code kind key) words slots id (ToldRested c m) ask.word ask.op (v, [])
       first_keeps = (
         below,
@@ -315,7 +360,7 @@ module _ {T : Type 0} (hearing : Hearing T) where
       )
 
     -- each step of a call that comes after one that rests keeps the rule
-    pub keeps_waiting_where : KeepsWhere code kind size_of may Rested RestedOver want after kept
+    pub keeps_waiting_where : KeepsWhere code kind size_of may StandsRested OverRested want after kept
     keeps_waiting_where base₀ v c m key words slots id ok wide known (inl x) =
         begun_keeps x.from v c m key words slots id x.stage (want c) (keeps x.from v c m key words slots id ok wide known x.stage)
     keeps_waiting_where base₀ v c m key words slots id ok wide known (inr waits) =
@@ -325,11 +370,12 @@ module _ {T : Type 0} (hearing : Hearing T) where
         (sym (word v c m key words slots id wide known resting begins ok).2)
         (first_keeps v c m key words slots id wide known resting begins ok)
 
-    -- it may begin on a pass with no call under way, or with one that rests
-    pub begins_idle : (v : View T) (c : C) (m : M) → Begins v c m → v.going ≡ None → v.other ≡ [] → 0 < v.share.part → Rested v v c m
+    -- the call may begin on a pass with no call under way
+    pub begins_idle : (v : View T) (c : C) (m : M) → Begins v c m → v.going ≡ None → v.other ≡ [] → 0 < v.share.part → StandsRested v v c m
     begins_idle = grind arith
 
-    pub begins_rested : (v : View T) (c : C) (m : M) → Begins v c m → IsResting code v → Rested v v c m
+    -- the call may begin on a pass whose last call rests, since `Begins` holds of that pass
+    pub begins_rested : (v : View T) (c : C) (m : M) → Begins v c m → IsResting code v → StandsRested v v c m
     begins_rested v c m begins resting = grind (arith, inr)
 
   -- of a call whose steps keep the rule at every stage, and which may begin in a view that has
@@ -374,6 +420,7 @@ module _ {T : Type 0} (hearing : Hearing T) where
       (Begins : ℕ → C → M → Type 0) (asks : (capacity : ℕ) (c : C) (m : M) → Begins capacity c m → AsksFor (size_of capacity) (want c))
       (first : (v : View T) (c : C) (m : M) → Begins v.capacity c m → v.going ≡ None → v.other ≡ [] → 0 < v.share.part → Stage v v c m)
       (apart : (base v : View T) (c : C) (m : M) → IsResting code v → Begins v.capacity c m → Stage base v c m → ⊥) where
+    -- a call keeps the rule, at the stages of which `may` holds, whether the one before it rests or has ended
     pub keeps_rested_where : KeepsWhere code kind size_of may (AtRested code kind Begins Stage Over) (EndsRested code kind Begins Stage Over) want after kept
     keeps_rested_where =
         keeps_waiting_where want after kept Stage Over may keeps (λ v. Begins v.capacity) (λ v. asks v.capacity)

@@ -1,4 +1,5 @@
--- That a look of a state is a call of the model: a get_state, and an update_state of the state that the pass's party has.
+-- A look of a state of a container (`get_state`, `update_state`) is a call of the model whose steps depend on
+-- the state that the machine keeps for its party; each step keeps the rule of the table.
 use Rattle.history.proofs.Names.{◌≡◌, inl, inr, ℕ, zero, suc, ◌+◌, ◌<◌, Bool, true, false, Some, None, IfSome}
 use Rattle.history.proofs.Names.{List, [], ◌++◌, slice_index, slice_set, append-nil, refl, sym, ap, subst, ◌∙◌, arith}
 use Rattle.history.proofs.Names.{written, first_look, look_want, look_after, look_kept, Numbers, Showing}
@@ -54,28 +55,33 @@ module _ {T : Type 0} (code : Coding T) (law : IsCoding code) (which : LookOf) (
   abbrev kept : Looking T → Showing T → ℕ → Showing T
   kept c m n = look_kept code.value_of code.size c m n
 
-  abbrev Stage : View T → View T → Looking T → Showing T → Type 0
-  Stage = StateLooks code which cells seen
+  -- the look is about to begin, or under way, from the state that its party has
+  abbrev LookStands : View T → View T → Looking T → Showing T → Type 0
+  LookStands = StateLooks code which cells seen
 
-  abbrev Over : View T → Bool → Showing T → View T → Type 0
-  Over = StateLooked code which cells seen
+  -- the look has ended, and its party has the state that it left
+  abbrev LookEnded : View T → Bool → Showing T → View T → Type 0
+  LookEnded = StateLooked code which cells seen
 
+  -- a value has a word, at least
   has_words : 0 < code.size
   has_words = omega (arith, law.some)
 
-  pub plain : (base v : View T) (c : Looking T) (m : Showing T) → Stage base v c m → At code kinds.Container call base v c m
+  -- a look at a stage, with the state of its party, is a call at that stage
+  pub plain : (base v : View T) (c : Looking T) (m : Showing T) → LookStands base v c m → At code kinds.Container call base v c m
   plain base v c m (size, inl h) = inl h.0
   plain base v c m (size, inr h) = inr h.0
 
-  -- ---- the state with which it begins
+  -- ---- the state with which a look begins
 
+  -- as the look begins, the machine keeps for its party the state with which it begins
   begins_with : (w : LookOf) (p : ℕ) (base : View T) (m : Showing T) (k : Registry T) (dead : List ℕ) (states : List (ℕ × ContainerState T))
       → k ≡ registries.Container dead states → (base.party ≡ Some p → state_in k p ≡ base.state) → IfSome base.party (λ q. q ≡ p)
       → BeginsWith code which cells seen w base m
       → HasState (kept_after_begin code cells (Container (look_start w)) p k) p (state_of_look cells seen m)
   begins_with = grind (arith, found_put_same, fresh, state_in)
 
-  -- ---- where it goes on, and what it has written then
+  -- ---- where a look goes on after a step, and what it has written then
 
   none_copied : (p index : ℕ) → HasCopied {T = T} p 0 index []
   none_copied p zero = refl
@@ -84,54 +90,65 @@ module _ {T : Type 0} (code : Coding T) (law : IsCoding code) (which : LookOf) (
   none_looked : (p : ℕ) (stage : LookStage) → LookedAt {T = T} p stage []
   none_looked = grind (arith, none_copied)
 
+  -- the value whose words the look has read
   abbrev value_read : Showing T → T
   value_read m = value_in code.value_of code.size m.copy
 
+  -- after a step the look stands within the container, and has written copies from the
+  -- indices that it has passed
   goes_so : (capacity p : ℕ) (c : Looking T) (m : Showing T) (n : ℕ) (es : List (Event T)) (a : After (Looking T) Bool) → (h : call.stands capacity c)
       → LookedAt p c.stage es → after c n ≡ a → LookGoes code.size has_words which capacity cells seen c h.0 p (es ++ look_effects p (value_read m) c.stage n) a
-  goes_so capacity p c m n es a h at e =
-      subst (LookGoes code.size has_words which capacity cells seen c h.0 p (es ++ look_effects p (value_read m) c.stage n)) e
-      (looks_so code.size has_words which capacity cells seen c h.0 p (value_read m) c.stage n es h.1 at)
+  goes_so capacity p c m n es a h looked_at leads =
+      subst (LookGoes code.size has_words which capacity cells seen c h.0 p (es ++ look_effects p (value_read m) c.stage n)) leads
+      (looks_so code.size has_words which capacity cells seen c h.0 p (value_read m) c.stage n es h.1 looked_at)
 
   -- ---- a step
 
+  -- the machine before the look's next step, after its begin where it has not begun
   abbrev ReadyAt : State (Unit {0}) (View T) → View T → ℕ → ℕ → Looking T → Showing T → Type 0
   ReadyAt = Ready machines call
 
-  -- a step of a look of the state, which asks for a word
+  -- a step of a look of a state, which asks for a word of the container
   pub record Asking : Type 0 where
     pub seat : Seat machines call
     pub ask : Ask
     pub low : ask.word < container_words code seat.key
     pub wants_it : want seat.c ≡ wants.Ask ask
+    -- the machine keeps for the look's party the state that the look has
     pub has : HasState seat.y.u.world.kept seat.y.p (state_of_look cells seen seat.m)
 
   module _ (asking : Asking) where
     open asking use {seat, seat.{s, v, key, id, c, m, at, known, y}, ask, low, wants_it, has}
 
+    -- the step, as one of the machine's
     abbrev step : Stepping machines call
     step = record { seat = seat; ask = Some ask; low = low; asks_it = wants_it; finds = tt }
 
+    -- the number that the word has
     abbrev n : ℕ
     n = slice_index s.words ask.word
 
+    -- what the state shows after the step
     abbrev now : Showing T
     now = kept c m n
 
+    -- the flight of the look
     abbrev its_flight : Flight T
     its_flight = call.flight c m
 
+    -- the view of the seat after the step
     abbrev view_now : View T
     view_now = view_then machines call step
 
+    -- the machine's look goes to the stage to which the driver's goes
     comes : comes_now machines call step ≡ goes call (after c n) now
     comes = look_goes_so code which cells seen y.p c m n y.u.world.kept has
 
-    -- the state that it leaves
+    -- the state that the step leaves
     abbrev left : ContainerState T
     left = settled_if (after c n) (state_of_look cells seen now)
 
-    -- the party has the state that the look leaves
+    -- the party of the view has the state that the step leaves
     state_then : view_now.state ≡ Some left
     state_then =
         let w = y.u.world in
@@ -142,10 +159,11 @@ module _ {T : Type 0} (code : Coding T) (law : IsCoding code) (which : LookOf) (
         (subst (λ st. HasState (step_of code w.words beside y.p st its_flight n w.kept).kept y.p left) (sym here.named)
         (look_keeps_so code which cells seen y.p w.words beside (look_start which) c m n w.kept has))
 
+    -- the state that the look leaves shows what the room shows
     left_shows : (a : After (Looking T) Bool) → (settled_if a (state_of_look cells seen now)).shown ≡ now
     left_shows = grind arith
 
-    -- at its end it shows what its party has copied
+    -- once the look has ended, each value that the state shows was copied by its party
     shows_copied : view_now.going ≡ None → ShowsCopied now view_now
     shows_copied idle p i value is shown =
         let u = then_trace machines call step in
@@ -158,49 +176,56 @@ module _ {T : Type 0} (code : Coding T) (law : IsCoding code) (which : LookOf) (
         let same : y.p ≡ p = cc in
         subst (λ q. WasCopied q i value u.events) same copied
 
-    -- what it writes is its own
+    -- the effects of the step are all the look's own
     its_own : (es late : List (Event T)) → late ≡ []
         → (es ++ late) ++ events_by y.p (container_effects y.u.world y.p its_flight n) ≡ es ++ look_effects y.p (value_read m) c.stage n
     its_own = grind (arith, append-nil, by_mine, effects_of_party, look_writes_so)
 
+    -- each operation was a step of the look
     steps_so : (base : View T) → At code kinds.Container call base v c m → StepsOnly base view_now
     steps_so = asked_then machines call step refl
 
     -- after its step the look stands at its next stage, or has ended, with the state that it leaves
-    known_then : (base : View T) → Stage base v c m → (a : After (Looking T) Bool) → after c n ≡ a
-        → NextKnown (λ (z : View T). z.capacity) Stage Over base a now view_now
-    known_then base stage (GoOn d) e =
+    known_then : (base : View T) → LookStands base v c m → (a : After (Looking T) Bool) → after c n ≡ a
+        → NextKnown (λ (z : View T). z.capacity) LookStands LookEnded base a now view_now
+    -- the step leads to another stage: the look is under way there, with the state that the step leaves
+    known_then base stage (GoOn d) leads =
         let there = plain base v c m stage in
         let standing = still_stands code kinds.Container call base v c m there in (
           stage.0,
           inr (
             goes_then machines call step
-                base there d now (comes ∙ ap (λ a. goes call a now) e) (goes_so base.capacity y.p c m n [] (GoOn d) standing (none_looked y.p c.stage) e).0
+                base there d now (comes ∙ ap (λ a. goes call a now) leads)
+                (goes_so base.capacity y.p c m n [] (GoOn d) standing (none_looked y.p c.stage) leads).0
                 (λ k. refl)
                 (λ es late h waits met new. subst (λ zs. LookedAt y.p d.stage zs) (sym (its_own es late waits))
-                (goes_so base.capacity y.p c m n es (GoOn d) standing (h new) e).1)
+                (goes_so base.capacity y.p c m n es (GoOn d) standing (h new) leads).1)
                 (steps_so base there) refl,
-            state_then ∙ ap (λ a. Some (settled_if a (state_of_look cells seen now))) e,
+            state_then ∙ ap (λ a. Some (settled_if a (state_of_look cells seen now))) leads,
           ),
         )
-    known_then base stage (Done changed) e =
+    -- the step ends the look: it has ended with whether the state changed, and what the
+    -- state shows was copied
+    known_then base stage (Done changed) leads =
         let there = plain base v c m stage in
         let standing = still_stands code kinds.Container call base v c m there in
         let ends =
         ends_then machines call step
-        base there changed now (comes ∙ ap (λ a. goes call a now) e)
+        base there changed now (comes ∙ ap (λ a. goes call a now) leads)
         (λ es late h waits met new. subst (λ zs. call.wrote_all base.capacity y.p None changed now zs) (sym (its_own es late waits))
-        (λ none. goes_so base.capacity y.p c m n es (Done changed) standing (h new) e) refl)
+        (λ none. goes_so base.capacity y.p c m n es (Done changed) standing (h new) leads) refl)
         (inl (steps_so base there))
-        in (ends, state_then ∙ ap (λ a. Some (settled_if a (state_of_look cells seen now))) e, shows_copied ends.idle)
+        in (ends, state_then ∙ ap (λ a. Some (settled_if a (state_of_look cells seen now))) leads, shows_copied ends.idle)
 
-    told : Told (λ (z : View T). z.capacity) Stage Over after kept c m v (answered ask.op n) view_now
+    -- what the step tells: where the look stands or how it has ended, in each drive
+    told : Told (λ (z : View T). z.capacity) LookStands LookEnded after kept c m v (answered ask.op n) view_now
     told = grind (arith, answered, look_found, known_then)
 
   -- ---- each step keeps the rule
 
-  -- each step of a look of a state keeps the rule of the table, and tells what is known after it
-  pub state_looks_keep : KeepsRule (λ (z : View T). z.asked) (λ (z : View T). z.capacity) Stage Over (λ key. container_words code key + 1) (λ key. key)
+  -- each step of a look keeps the rule of the table, and tells what is known after it
+  pub state_looks_keep : KeepsRule (λ (z : View T). z.asked) (λ (z : View T). z.capacity) LookStands LookEnded (λ key. container_words code key + 1)
+      (λ key. key)
       (λ key. IsMachine code kinds.Container key) want after kept
   state_looks_keep base₀ v c m key words slots id wide known at₀ =
       let there₀ = plain base₀ v c m at₀ in
@@ -210,12 +235,14 @@ module _ {T : Type 0} (code : Coding T) (law : IsCoding code) (which : LookOf) (
       in
       let asked : AsksFor (container_words code key) (want c) = asks_so standing same in
       let ask = asked.0 in
+      -- the word is one of the container's, before the last word of the table
       let low = asked.1 in
       let below : ask.word < words = omega arith in
       subst (λ w. Owes (λ (z : View T). z.asked) (IsMachine code kinds.Container key) words slots id
-      (Told (λ (z : View T). z.capacity) Stage Over after kept c m) w (v, []))
+      (Told (λ (z : View T). z.capacity) LookStands LookEnded after kept c m) w (v, []))
       (sym asked.2) (
         below,
+        -- the step is one of the machine, on which the look's party has the state with which it began
         λ s r long at small. (
             let y = ready machines call s v key id c m r at known base₀ there₀ in
             let asking : Asking =
@@ -240,11 +267,12 @@ module _ {T : Type 0} (code : Coding T) (law : IsCoding code) (which : LookOf) (
             )),
       )
     where
+      -- at each stage the look asks for a word of the container
       asks_so : call.stands base₀.capacity c → base₀.capacity ≡ key → AsksFor (container_words code key) (want c)
       asks_so = grind (arith, look_words)
 
-      -- on the machine at which the look stands, its party has the state with which it began
-      has_so : (s : State (Unit {0}) (View T)) (y : ReadyAt s v key id c m) → Stage base₀ v c m → base₀.capacity ≡ key
+      -- the machine on which the look stands keeps for its party the state with which it began
+      has_so : (s : State (Unit {0}) (View T)) (y : ReadyAt s v key id c m) → LookStands base₀ v c m → base₀.capacity ≡ key
           → HasState y.u.world.kept y.p (state_of_look cells seen m)
       has_so s y (size, inl h) same =
           let idle : v.going ≡ None = ap (λ (z : View T). z.going) h.0.is ∙ h.0.idle in
@@ -258,17 +286,20 @@ module _ {T : Type 0} (code : Coding T) (law : IsCoding code) (which : LookOf) (
           (y.by base₀ (inl h.0)) h.1)
       has_so s y (size, inr h) same = y.held h.0.going ∙ h.1
 
-  -- ---- it begins
+  -- ---- a look begins
 
   module _ (m : Showing T) where
     look_named : (w : LookOf) → names_owner {T = T} (look_start w) ≡ true
     look_named which_looks.GetState = refl
     look_named which_looks.UpdateState = refl
 
+    -- the first stage of the look is that of the model's call
     look_flies : (w : LookOf) (capacity : ℕ)
         → flights.Container (first_call capacity (look_start w)) ≡ (looking code w cells seen).flight (first_look capacity) m
     look_flies = grind arith
 
+    -- a look begins at its first stage, on a pass with no call under way, with the state
+    -- that `BeginsWith` names
     pub state_look_first : (v : View T) → v.capacity ≡ cells → v.going ≡ None → v.other ≡ [] → 0 < v.share.part → BeginsWith code which cells seen which v m
-        → Stage v v (first_look v.capacity) m
+        → LookStands v v (first_look v.capacity) m
     state_look_first = grind (arith, look_named, look_flies, inl, fresh, some, container_first, container_starts)

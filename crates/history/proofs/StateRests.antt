@@ -1,4 +1,4 @@
--- A look of a state on a pass whose last call may rest at a find's question.
+-- A look of a state of a container may begin on a pass whose last call rests at a `find`'s question.
 use Rattle.std.proofs.Common.{arith}
 use Rattle.history.proofs.Names.{◌≡◌, inl, inr, ℕ, ◌<◌, Bool, None, [], refl, sym, subst}
 use Rattle.history.proofs.Names.{look_want, look_after, look_kept, Numbers, Showing, After, Want}
@@ -27,44 +27,52 @@ module _ {T : Type 0} (code : Coding T) (law : IsCoding code) (which : LookOf) (
   abbrev kept : Looking T → Showing T → ℕ → Showing T
   kept c m n = look_kept code.value_of code.size c m n
 
-  abbrev Stage : View T → View T → Looking T → Showing T → Type 0
-  Stage = StateLooks code which cells seen
+  -- the look is about to begin, or under way, from the state that its party has
+  abbrev LookStands : View T → View T → Looking T → Showing T → Type 0
+  LookStands = StateLooks code which cells seen
 
-  abbrev Over : View T → Bool → Showing T → View T → Type 0
-  Over = StateLooked code which cells seen
+  -- the look has ended, and its party has the state that it left
+  abbrev LookEnded : View T → Bool → Showing T → View T → Type 0
+  LookEnded = StateLooked code which cells seen
 
-  abbrev Begins : View T → Looking T → Showing T → Type 0
-  Begins = BeginsLook code which cells seen
+  -- the look may begin: it is at its first stage, on the container of the state
+  abbrev LookBegins : View T → Looking T → Showing T → Type 0
+  LookBegins = BeginsLook code which cells seen
 
-  asks : (v : View T) (c : Looking T) (m : Showing T) → Begins v c m → AsksFor (container_words code v.capacity) (want c)
+  -- a look that may begin asks for a word of the container
+  asks : (v : View T) (c : Looking T) (m : Showing T) → LookBegins v c m → AsksFor (container_words code v.capacity) (want c)
   asks v c m begins =
       subst (λ d. AsksFor (container_words code v.capacity) (want d)) (sym begins.0) (look_words code.size v.capacity looks.LoadsChange tt)
 
-  -- the pass has its party's state still
+  -- once the last call has ended, the pass's party still has the state with which the look begins
   begins_with : (w : LookOf) (v u : View T) (m : Showing T) → Settles code kinds.Container v u → BeginsWith code which cells seen w v m
       → BeginsWith code which cells seen w u m
   begins_with = grind arith
 
-  stays : (v u : View T) (c : Looking T) (m : Showing T) → Settles code kinds.Container v u → Begins v c m → Begins u c m
+  -- once the last call has ended, the look may still begin
+  stays : (v u : View T) (c : Looking T) (m : Showing T) → Settles code kinds.Container v u → LookBegins v c m → LookBegins u c m
   stays = grind (arith, begins_with)
 
-  first : (v : View T) (c : Looking T) (m : Showing T) → Begins v c m → v.going ≡ None → v.other ≡ [] → 0 < v.share.part → Stage v v c m
+  -- a look that may begin is at its first stage, on a pass with no call under way
+  first : (v : View T) (c : Looking T) (m : Showing T) → LookBegins v c m → v.going ≡ None → v.other ≡ [] → 0 < v.share.part → LookStands v v c m
   first = grind (arith, state_look_first)
 
-  -- who rests is at a question, and a look puts none
+  -- a pass that rests is at a question, and a look puts none
   apart_at : (base v : View T) (c : Looking T) (m : Showing T) → IsResting code v → At code kinds.Container (looking code which cells seen) base v c m → ⊥
   apart_at = grind arith
 
+  -- each step of a look keeps the rule, also if the last call of the pass rests
   pub state_rests_keep : Keeps code (RestedLooks code which cells seen) (RestedLooked code which cells seen) want after kept
   state_rests_keep =
-      keeps_waiting (container_hears code) want after kept Stage Over
-      (state_looks_keep code law which cells seen) Begins asks stays first
+      keeps_waiting (container_hears code) want after kept LookStands LookEnded
+      (state_looks_keep code law which cells seen) LookBegins asks stays first
       (λ base v c m h begins stage. apart_at base v c m h (plain code law which cells seen base v c m stage))
 
-  -- it may begin on a pass with no call under way, or with one that rests
-  pub state_rests_idle : (v : View T) (c : Looking T) (m : Showing T) → Begins v c m → v.going ≡ None → v.other ≡ [] → 0 < v.share.part
+  -- a look may begin on a pass with no call under way
+  pub state_rests_idle : (v : View T) (c : Looking T) (m : Showing T) → LookBegins v c m → v.going ≡ None → v.other ≡ [] → 0 < v.share.part
       → RestedLooks code which cells seen v v c m
   state_rests_idle = grind (arith, inl, first)
 
-  pub state_rests_rested : (v : View T) (c : Looking T) (m : Showing T) → Begins v c m → IsResting code v → RestedLooks code which cells seen v v c m
+  -- a look may begin on a pass whose last call rests
+  pub state_rests_rested : (v : View T) (c : Looking T) (m : Showing T) → LookBegins v c m → IsResting code v → RestedLooks code which cells seen v v c m
   state_rests_rested v c m begins resting = inr (record { is = refl; resting = resting; first = begins })

@@ -1,4 +1,4 @@
--- What a seat knows stays where another party takes a turn.
+-- A turn of another party leaves true what a seat knows: the seat still fits the machine (`still_fits`).
 use Rattle.history.proofs.Names.{◌≡◌, ◌≢◌, ℕ, Option, Some, None, List, [], ◌++◌, refl, sym}
 use Rattle.history.proofs.Names.{ap, subst, ◌∙◌, append_assoc, append-nil, arith, sum_by, cases_eq, sum_by-append}
 use Rattle.history.proofs.Names.{Event, Kind, state_in, Trace}
@@ -8,6 +8,7 @@ use Rattle.history.specs.History.{IsBeginning, Fits, HasSeenOf, call_in, steps_i
 use Rattle.history.proofs.Known.{by_more, by_same, by_twice, by_apart, owned_none, owned_one, late_more}
 
 module _ {T : Type 0} where
+  -- a first part of the events is one with more events behind them
   pub longer : (seen events more : List (Event T)) → IsBeginning seen events → IsBeginning seen (events ++ more)
   longer = grind (arith, append_assoc)
 
@@ -21,29 +22,34 @@ module _ {T : Type 0} where
       (apart : (q : ℕ) → owner q ≡ j → call_in w.world q ≡ call_in u.world q)
       (held : (q : ℕ) → owner q ≡ j → state_in w.world.kept q ≡ state_in u.world.kept q)
       (steps : (q : ℕ) → owner q ≡ j → steps_in w.world q ≡ steps_in u.world q) where
-    -- a party with no call under way has nothing written for it
+    -- for a party without a call under way the turn wrote nothing
     quiet : (q : ℕ) → owner q ≡ j → call_in u.world q ≡ None → events_by q es ≡ []
     quiet = grind arith
 
+    -- for a party of the seat that is not its latest one the turn wrote nothing
     quiet_else : (o : Option ℕ) → v.party ≡ o → (q : ℕ) → owner q ≡ j → o ≢ Some q → events_by q es ≡ []
-    quiet_else o is q of_j ne = quiet q of_j (f.idle q of_j (λ e. ne (sym is ∙ e)))
+    quiet_else o party_is q of_j ne = quiet q of_j (f.idle q of_j (λ e. ne (sym party_is ∙ e)))
 
+    -- what the turn wrote for the seat's latest party may come late for its call
     waits_on : (o : Option ℕ) → v.party ≡ o → IsLate kind v.going (f.late ++ by_party o es)
     waits_on = grind (arith, append-nil, late_more)
 
+    -- the late events, with those of the turn, are of the seat's latest party
     of_party_on : (o : Option ℕ) → v.party ≡ o → by_party o (f.late ++ by_party o es) ≡ f.late ++ by_party o es
     of_party_on = grind (arith, by_party, append-nil, by_more, by_twice)
 
-    -- the seat is late by just what the turn wrote for one of its parties
+    -- of a party of the seat, the turn wrote just what comes late for the seat
     late_is : (o : Option ℕ) → v.party ≡ o → (q : ℕ) → owner q ≡ j → events_by q (by_party o es) ≡ events_by q es
     late_is = grind (arith, quiet_else, by_twice, by_apart, cases_eq)
 
+    -- what the seat has seen of its party, with the late events, is all that the party's events are
     own_on : (o : Option ℕ) → v.party ≡ o → (q : ℕ) → owner q ≡ j → HasSeenOf q v f.late u → HasSeenOf q v (f.late ++ by_party o es) w
     own_on = grind (arith, by_more, by_party, late_is, append_assoc, by_same, quiet)
 
+    -- what the turn wrote counts for the seat just as it comes late
     sums_on : (o : Option ℕ) → v.party ≡ o → (g : Event T → ℕ) → sum_by g (by_party o es) ≡ sum_by (owned owner j g) es
-    sums_on None is g = grind (arith, owned_none, quiet_else)
-    sums_on (Some r) is g = grind (arith, owned_one, quiet_else)
+    sums_on None party_is g = grind (arith, owned_none, quiet_else)
+    sums_on (Some r) party_is g = grind (arith, owned_one, quiet_else)
 
     -- the seat still fits the machine after the turn
     pub still_fits : Fits owner w j v

@@ -1,4 +1,5 @@
--- What a begin and a step of a reached machine leave, where a table stands at its words.
+-- What a begin, a step, and an answer to a question of a call make of a reached machine, where a table stands
+-- at the machine's words (`Between`).
 use Rattle.history.proofs.Names.{Bool, false, ◌≡◌, ◌≢◌, ℕ, ◌+◌, ◌<◌, ◌≤◌, Option, Some, None, IfSome, List, [], ◌∷◌}
 use Rattle.history.proofs.Names.{◌++◌, length, slice_index, refl, sym, ap, subst, ◌∙◌, arith, sum_by}
 use Rattle.history.proofs.Names.{sum_by-append, written, Ask, After, Want, Answer, Event, Begun, Start, Flight}
@@ -50,30 +51,37 @@ module _ {T : Type 0} where
   ending_of_own p start (Some answer) = (refl, tt)
 
   pub both_own : (p : ℕ) (xs ys : List (Event T)) → AreOf p xs → AreOf p ys → AreOf p (xs ++ ys)
-  both_own p [] ys a b = b
-  both_own p (x ∷ xs) ys a b = (a.0, both_own p xs ys a.1 b)
+  both_own p [] ys first_are_of second_are_of = second_are_of
+  both_own p (x ∷ xs) ys first_are_of second_are_of = (first_are_of.0, both_own p xs ys first_are_of.1 second_are_of)
 
   module _ (code : Coding T) (kind : Kind) (capacity : ℕ) where
-    -- the machine stands at the table's words, every other seat at its place in it, and this one has gained these events
-    -- as its party p
+    -- The machine u has the table's words and every other seat fits it. The seat `id` fits it too, but for
+    -- the events `gained` of its party p, which the seat has still to add to its view.
     pub record Between (owner : ℕ → ℕ) (s : State (Unit {0}) (View T)) (id p : ℕ) (gained : List (Event T)) (u : Trace T) : Type 0 where
+      -- the machine is a run, with the words of the table
       pub run : IsRun code kind capacity u
       pub words : s.words ≡ u.world.words ++ 0 ∷ []
+      -- what every other seat knows holds of it
       pub others : (j : ℕ) (v : View T) → j ≢ id → get_elem? s.views j ≡ some v → Fits owner u j v
+      -- the party p is this seat's, and no other party of the seat has a call under way
       pub mine : owner p ≡ id
       pub self : owner id ≡ id
       pub idle : (q : ℕ) → owner q ≡ id → q ≢ p → call_in u.world q ≡ None
+      -- what the seat made, with what it gained, are the events of its parties
       pub made_own : (v : View T) → get_elem? s.views id ≡ some v → (f : Event T → ℕ) → sum_by f v.made + sum_by f gained ≡ sum_by (owned owner id f) u.events
+      -- a party with the number of a seat belongs to a seat; one without a seat has done nothing, but for p
       pub inside : (q : ℕ) → q < length s.views → owner q < length s.views
       pub fresh : (q : ℕ) → length s.views ≤ q → owner q ≡ q
       pub further : (j : ℕ) → j ≢ p → length s.views ≤ j → call_in u.world j ≡ None
       pub made_none : (j : ℕ) → j ≢ p → length s.views ≤ j → events_by j u.events ≡ []
+      -- the shares make the whole, each event is of a party, and a seat without a share has made nothing
       pub shares : Shares (λ (v : View T). v.share) s.views
       pub someone : sum_by (λ e. of_none (whose e)) u.events ≡ 0
       pub spent : (j : ℕ) (v : View T) → get_elem? s.views j ≡ some v → v.share.part ≡ 0 → (v.made ≡ []) × (v.going ≡ None)
+      -- the table has one run, which leads to this machine
       pub one : OneRun code kind capacity s.views u
 
-    -- what the seat had still to see is gained
+    -- at first the seat has gained just what it had still to see, and the machine is that of the table
     abbrev pub at_first : (s : State (Unit {0}) (View T)) (id p : ℕ) (m : IsMachine code kind capacity s) (gained : List (Event T))
         → m.owner p ≡ id → m.owner id ≡ id → ((q : ℕ) → m.owner q ≡ id → q ≢ p → call_in m.trace.world q ≡ None)
         → ((v : View T) → get_elem? s.views id ≡ some v → (f : Event T → ℕ)
@@ -98,13 +106,14 @@ module _ {T : Type 0} where
           one = m.one;
         }
 
+    -- a turn that takes n steps adds n to the steps of a run
     pub more_steps : (turns : List (Turn T)) (u : Trace T) (turn : Turn T) (n : ℕ) → u ≡ run_of code kind capacity turns → turn_steps u.world turn ≡ n
         → steps_of_run code kind capacity (turns ++ turn ∷ []) ≡ steps_of_run code kind capacity turns + n
-    more_steps turns u turn n is one =
+    more_steps turns u turn n u_is one =
         steps_more (opening code kind capacity 0) turns turn
-        ∙ ap (λ k. steps_of_run code kind capacity turns + k) (ap (λ (t : Trace T). turn_steps t.world turn) (sym is) ∙ one)
+        ∙ ap (λ k. steps_of_run code kind capacity turns + k) (ap (λ (t : Trace T). turn_steps t.world turn) (sym u_is) ∙ one)
 
-    -- who has the whole has made all
+    -- a pass with the whole share has made all events of the machine, with those that it gained
     pub made_between : (owner : ℕ → ℕ) (id p : ℕ) (gained : List (Event T)) (u : Trace T) (s : State (Unit {0}) (View T))
         → Between owner s id p gained u → (v : View T) → get_elem? s.views id ≡ some v → IsAll v.share
         → (f : Event T → ℕ) → sum_by f u.events ≡ sum_by f (v.made ++ gained)
@@ -115,14 +124,16 @@ module _ {T : Type 0} where
         → IsRun code kind capacity (after_turn t turn)
     run_more = grind (arith, turn_making, reached_as_more, fresh_as_more)
 
--- a party of a seat that takes the next turn of a machine
+-- a party of a seat that is to take the next turn of a machine
 pub record Turning (T : Type 0) : Type 0 where
+  -- machines of this coding, kind and capacity; the steps of their calls write what `effects` says
   pub code : Coding T
   pub kind : Kind
   pub capacity : ℕ
   pub words : ℕ  -- so many has the machine
   pub effects : World T → ℕ → Flight T → ℕ → List (Event T)
   pub laws : KeptLaws code kind capacity words effects
+  -- the table, the seat, its party, what the seat has gained, and the machine at which the table stands
   pub owner : ℕ → ℕ  -- the seat of each party
   pub s : State (Unit {0}) (View T)
   pub id : ℕ  -- of the seat
@@ -134,7 +145,7 @@ pub record Turning (T : Type 0) : Type 0 where
 module _ {T : Type 0} {code : Coding T} {kind : Kind} {capacity words : ℕ} {effects : World T → ℕ → Flight T → ℕ → List (Event T)}
     (laws : KeptLaws code kind capacity words effects) {owner : ℕ → ℕ} {s : State (Unit {0}) (View T)} {id p : ℕ}
     {gained : List (Event T)} {u : Trace T} (b : Between code kind capacity owner s id p gained u) where
-  -- the machine, the table and the seat of a party that takes a turn
+  -- the party, from what `Between` says of the machine, the table and the seat
   abbrev pub turning_at : Turning T
   turning_at =
       record {
@@ -156,11 +167,12 @@ module _ {T : Type 0} {code : Coding T} {kind : Kind} {capacity words : ℕ} {ef
 module _ {T : Type 0} (turning : Turning T) where
   open turning use {code, kind, capacity, words, effects, laws, owner, s, id, p, gained, u, b}
 
-  -- a party of another seat is another
+  -- a party of another seat is not this party
   not_mine : (j q : ℕ) → j ≢ id → owner q ≡ j → q ≢ p
   not_mine j q ne own e = ne (sym own ∙ (ap owner e ∙ b.mine))
 
-  -- a turn of this party that leaves these words and writes these events
+  -- A turn that is not refused, leaves these words, writes events of parties alone, and changes nothing of
+  -- another party's call but for what may come late: after it the machine stands at the table's words again.
   turned : (words' : List ℕ) (turn : Turn T) → refusal_as kind u.world turn ≡ None → IsFreshTurn u turn
       → words' ≡ (after_turn u turn).world.words ++ 0 ∷ [] → sum_by (λ e. of_none (whose e)) (events_of u.world turn) ≡ 0
       → ((q : ℕ) → q ≢ p → IsLate kind (call_in u.world q) (events_by q (events_of u.world turn)))
@@ -175,6 +187,7 @@ module _ {T : Type 0} (turning : Turning T) where
       record {
         run = run;
         words = same;
+        -- each other seat still fits the machine, for whose parties the turn changed nothing
         others =
             λ j v ne at. still_fits kind owner u (after_turn u turn) es j v (b.others j v ne at) b.run.of_kind
             run.of_kind refl (λ q of_j. beside q (not_mine j q ne of_j)) (λ q of_j. apart q (not_mine j q ne of_j))
@@ -183,6 +196,7 @@ module _ {T : Type 0} (turning : Turning T) where
         mine = b.mine;
         self = b.self;
         idle = λ q of_id ne. apart q ne ∙ b.idle q of_id ne;
+        -- what the seat made, with what it gained and the party's events of the turn, are its parties' events
         made_own = λ v at f. (
             omega (
               arith,
@@ -209,11 +223,12 @@ module _ {T : Type 0} (turning : Turning T) where
 
 -- ---- a call begins
 
--- its party begins a call
+-- a party without a call under way that is to begin this call, which the machine does not refuse
 pub record Beginning (T : Type 0) : Type 0 where
   pub turning : Turning T
   pub start : Start T
   pub flight : Flight T
+  -- the party has no call under way, and the machine has this call and does not refuse its begin
   pub idle : call_in turning.u.world turning.p ≡ None
   pub first : first_of turning.kind turning.capacity start turning.u.world.kept ≡ Some flight
   pub may : first_row (rows_as turning.kind turning.capacity turning.u.world.kept turning.p start) ≡ None
@@ -221,6 +236,7 @@ pub record Beginning (T : Type 0) : Type 0 where
 module _ {T : Type 0} (beginning : Beginning T) where
   open beginning use {turning, turning.{code, kind, capacity, words, effects, laws, owner, s, id, p, gained, u, b}, start, flight, idle, first, may}
 
+  -- the machine has this call, at its first stage
   first_here : first_of u.world.kind u.world.capacity start u.world.kept ≡ Some flight
   first_here = grind arith
 
@@ -278,14 +294,16 @@ module _ {T : Type 0} (beginning : Beginning T) where
   pub begun_kept : (after_turn u (Begin p start)).world.kept ≡ kept_after_begin code capacity start p u.world.kept
   begun_kept = grind arith
 
--- ---- it goes on, at a word or at none
+-- ---- a call goes on with a step, at a word or at none
 
--- its call under way takes a step
+-- a party whose call under way is to take a step, at a word of the table (`ask`) or at none; no push finds
+-- the last position then, and no store the last version
 pub record Going (T : Type 0) : Type 0 where
   pub turning : Turning T
   pub start : Start T
   pub flight : Flight T
   pub ask : Option Ask
+  -- the word is one of the structure, and the call stands at this flight, which asks for that word
   pub low : IfSome ask (λ a. a.word < turning.words)
   pub at : call_in turning.u.world turning.p ≡ Some (start, flight)
   pub asks : want_of turning.code flight ≡ want_for ask
@@ -294,6 +312,7 @@ pub record Going (T : Type 0) : Type 0 where
 module _ {T : Type 0} (going : Going T) where
   open going use {turning, turning.{code, kind, capacity, words, effects, laws, owner, s, id, p, gained, u, b}, start, flight, ask, low, at, asks, finds}
 
+  -- what the laws of the kind say of the step of this call
   mine : StepsOn code kind capacity words effects u p flight
   mine = laws.steps_on u b.run p start flight at
 
@@ -312,6 +331,7 @@ module _ {T : Type 0} (going : Going T) where
   pub found_old : old_of u.world.words (ask_of (want_of u.world.coding flight)) ≡ at_ask s.words ask
   found_old = ap (old_of u.world.words) asked_of ∙ go ask low
     where
+      -- whether the call asks for a word or for none, it is handed what the table has there
       go : (o : Option Ask) → IfSome o (λ a. a.word < words) → old_of u.world.words o ≡ at_ask s.words o
       go None below = refl
       go (Some a) below =
@@ -321,20 +341,23 @@ module _ {T : Type 0} (going : Going T) where
   abbrev found : ℕ
   found = at_ask s.words ask
 
+  -- the step of the call: the effects that it writes, and where it leads
   its_step : Moved u.world p start flight (old_of u.world.words (ask_of (want_of u.world.coding flight)))
       (effects u.world p flight (old_of u.world.words (ask_of (want_of u.world.coding flight))))
   its_step = moved u.world p start flight (effects u.world p flight) (stands u.world p start flight at) mine.goes mine.writes
 
-  -- what it comes to, from the word that the table had
+  -- where the step leads the call, from the word that the table had
   abbrev goes_then : ℕ → After (Flight T) (Answer T)
   goes_then n = goes_of code p flight n u.world.kept
 
+  -- after the step the party's call stands where the step leads it, or has ended
   pub goes_to : call_in (after_turn u (Next p)).world p ≡ call_then start (goes_then found)
   goes_to = grind (arith, its_step, call_then, goes_of, old_of, ask_of, want_of, found_old)
 
   abbrev pub tells : List (Event T)
   tells = effects u.world p flight found ++ ending_of p start (answer_in (goes_then found))
 
+  -- the turn writes just what `tells` says
   pub told : events_of u.world (Next p) ≡ tells
   told = grind (arith, its_step, old_of, ask_of, want_of, ending_of, answer_in, goes_of, found_old)
 
@@ -355,39 +378,49 @@ module _ {T : Type 0} (going : Going T) where
       let one = sum_by-append (λ e. of_none (whose e)) (effects u.world p flight found) (ending_of p start (answer_in (goes_then found))) in
       omega (arith, mine.someone found, all_someone p (ending_of p start (answer_in (goes_then found))) ends_own)
 
+  -- what the step writes of another party may come late for that party's call
   beside : (q : ℕ) → q ≢ p → IsLate kind (call_in u.world q) (events_by q (events_of u.world (Next p)))
   beside = grind (arith, call_in, events_by, told, by_same, ending_of, answer_in, by_other, ends_own, mine)
 
-  -- what it writes of its own
+  -- of the events of the step those of its own party are the effects of the call, and its end
+  -- where the step ends it
   pub own_told : events_by p (events_of u.world (Next p))
       ≡ events_by p (effects u.world p flight found) ++ ending_of p start (answer_in (goes_then found))
   own_told = grind (arith, told, by_more, by_mine, ends_own)
 
+  -- after the step the table's words are those of the machine
   words_then : words_after s.words ask ≡ (after_turn u (Next p)).world.words ++ 0 ∷ []
   words_then = go ask low asked
     where
+      -- whether the call asks for a word or for none, the table's words after the step are
+      -- those of the machine
       go : (o : Option Ask) → IfSome o (λ a. a.word < words) → ask_in u.world (Next p) ≡ o
           → words_after s.words o ≡ (after_turn u (Next p)).world.words ++ 0 ∷ []
-      go None below e = grind (arith, writes_one_word)
-      go (Some a) below e = grind (arith, length, get_left, after_turn, written, writes_one_word, set_left)
+      go None below ask_is = grind (arith, writes_one_word)
+      go (Some a) below ask_is = grind (arith, length, get_left, after_turn, written, writes_one_word, set_left)
 
+  -- the step is of no push that finds the last position, and of no store that finds the last version
   pub fresh_now : IsFreshTurn u (Next p)
   fresh_now = grind (arith, here, found_old)
 
+  -- after the step the machine stands at the table's words, and the seat has gained the
+  -- party's events of the step
   pub gone : Between code kind capacity owner (record { words = words_after s.words ask; homes = s.homes; views = s.views }) id p
       (gained ++ events_by p (events_of u.world (Next p))) (after_turn u (Next p))
   gone = turned turning (words_after s.words ask) (Next p) (next_as kind u.world p goes_free) fresh_now words_then someone beside
       (λ j ne. next_other u.world p j ne (party_of p u.world.latest)) (λ q ne. look_next u.world p q ne)
       (λ q ne. steps_next_other u.world p q ne (party_of p u.world.latest))
 
+  -- the run takes one step more where the call asks for a word, and none else
   pub gone_took : steps_of_run code kind capacity gone.one.turns ≡ steps_of_run code kind capacity b.one.turns + step_count ask
   unfolding gone turned
   gone_took = more_steps code kind capacity b.one.turns u (Next p) (step_count ask) b.one.is (ap step_count asked)
 
+  -- after the step the party's latest call is still this one
   pub gone_named : started (party_of p (after_turn u (Next p)).world.latest) ≡ Some start
   gone_named = started_next_own u.world p start flight (stands u.world p start flight at)
 
-  -- no other has changed a word meanwhile
+  -- no other party has changed a word during the party's own step
   pub gone_others : others_in (after_turn u (Next p)).world p ≡ others_in u.world p
   gone_others = others_next_own u.world p start flight (stands u.world p start flight at)
 
@@ -397,15 +430,18 @@ module _ {T : Type 0} (going : Going T) where
       steps_next_own u.world p start flight (stands u.world p start flight at)
       ∙ ap (λ o. steps_in u.world p + step_count o) asked_of
 
--- ---- it is handed an answer to its question, and goes on without a word, or ends
+-- ---- a call is handed an answer to its question, and goes on without a word, or ends
 
--- its call under way is handed an answer
+-- a party whose call under way stands at a question, and is to be handed the answer `said`, which the machine
+-- does not refuse
 pub record Answering (T : Type 0) : Type 0 where
   pub turning : Turning T
   pub start : Start T
   pub flight : Flight T
   pub next : After (Flight T) (Answer T)
   pub said : Bool
+  -- the call stands at this flight, the answer is not refused, and with it the call goes on,
+  -- or ends, as `next` says
   pub at : call_in turning.u.world turning.p ≡ Some (start, flight)
   pub free : refusal_as turning.kind turning.u.world (Decide turning.p said) ≡ None
   pub comes : goes_of turning.code turning.p flight (number_of said) turning.u.world.kept ≡ next
@@ -413,6 +449,7 @@ pub record Answering (T : Type 0) : Type 0 where
 module _ {T : Type 0} (answering : Answering T) where
   open answering use {turning, turning.{code, kind, capacity, words, effects, laws, owner, s, id, p, gained, u, b}, start, flight, next, said, at, free, comes}
 
+  -- what the laws of the kind say of the answer to this call
   steps_so : StepsOn code kind capacity words effects u p flight
   steps_so = laws.steps_on u b.run p start flight at
 
@@ -428,7 +465,8 @@ module _ {T : Type 0} (answering : Answering T) where
   pub heard : events_of u.world (Decide p said) ≡ hears ++ ends_so
   heard = grind (arith, heard_events, stands, steps_so, ending_of, answer_in, comes_here)
 
-  -- what it writes of its own
+  -- of the events of the answer those of its own party are the effects of the call, and its end where the
+  -- answer ends it
   pub own_heard : events_by p (events_of u.world (Decide p said)) ≡ events_by p hears ++ ends_so
   own_heard = grind (arith, heard, by_more, by_mine, ending_of_own)
 
@@ -438,12 +476,15 @@ module _ {T : Type 0} (answering : Answering T) where
   heard_beside : (q : ℕ) → q ≢ p → IsLate kind (call_in u.world q) (events_by q (events_of u.world (Decide p said)))
   heard_beside = grind (arith, call_in, events_by, heard, by_same, by_other, ending_of_own, answer_in, steps_so, number_of)
 
+  -- after the answer the machine stands at the table's words, and the seat has gained the
+  -- party's events of it
   pub decided : Between code kind capacity owner s id p (gained ++ events_by p (events_of u.world (Decide p said))) (after_turn u (Decide p said))
   decided =
       turned turning s.words (Decide p said) free tt (b.words ∙ ap (λ ws. ws ++ 0 ∷ []) (sym (writes_one_word u.world (Decide p said))))
       heard_someone heard_beside (λ j ne. decision_other u.world p j said ne (party_of p u.world.latest)) (λ q ne. refl)
       (λ q ne. steps_decision_other u.world p q said ne (party_of p u.world.latest))
 
+  -- an answer is no step, so the run takes no step more
   pub decided_took : steps_of_run code kind capacity decided.one.turns ≡ steps_of_run code kind capacity b.one.turns + 0
   unfolding decided turned
   decided_took = more_steps code kind capacity b.one.turns u (Decide p said) 0 b.one.is refl
@@ -451,6 +492,7 @@ module _ {T : Type 0} (answering : Answering T) where
   pub decided_steps : steps_in (after_turn u (Decide p said)).world p ≡ steps_in u.world p + 0
   decided_steps = steps_decision_own u.world p start flight said (stands u.world p start flight at)
 
+  -- after the answer the party's call stands where the answer leads it, or has ended
   pub decided_at : call_in (after_turn u (Decide p said)).world p ≡ call_then start next
   decided_at =
       heard_going u.world p start flight (effects u.world p flight) (stands u.world p start flight at) steps_so.goes steps_so.writes said

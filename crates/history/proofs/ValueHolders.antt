@@ -18,13 +18,15 @@ use Rattle.history.proofs.EachEvent.{each_event}
 use Rattle.history.proofs.OneHolder.{RoleEvents, HasOneHolder}
 
 module _ {T : Type 0} where
-  abbrev Right : List (Event T) → List (Event T) → Type 0
-  Right before es = AreRight ByProducer before es
+  -- each act of a store among the events is of the party that holds the producer's role then
+  abbrev AreByProducer : List (Event T) → List (Event T) → Type 0
+  AreByProducer before es = AreRight ByProducer before es
 
   -- t is a trace, of which s says that it is sound
   module _ (en : Coding T) (c : ℕ) (t : Trace T) (s : frame.Sound (family en c) t) where
+    -- what a step of any call writes is right in this sense
     step_right : (p n : ℕ) (x : Party T) (flight : Flight T) (since : ℕ) → party_of p t.world.latest ≡ Some x
-        → x.doing ≡ Going flight since → Right t.events (step_in t.world p x flight n).wrote
+        → x.doing ≡ Going flight since → AreByProducer t.events (step_in t.world p x flight n).wrote
     step_right = grind arith
 
 module _ {T : Type 0} (code : Coding T) (capacity : ℕ) where
@@ -42,25 +44,30 @@ module _ {T : Type 0} (code : Coding T) (capacity : ℕ) where
       (λ t s p n x flight since found doing handed. step_right world_now.coding world_now.capacity t s p n x flight since found doing)
       run.fresh.turns first run.fresh.fresh sound (Each-nil ByProducer))
 
+  -- in each history of a single value only the holder of the producer's role stores
   pub history_by_producers : (events : List (Event T)) → IsHistory code kinds.Atomic capacity events → Each ByProducer events
   history_by_producers events history = subst (Each ByProducer) (sym history.is) (by_producers history.trace history.run)
 
--- ---- a role that one party at a time holds
+-- ---- one party at a time holds the producer's role
 
 module _ {T : Type 0} (p : ℕ) where
+  -- before an event of another party that leaves the role with the party, the party held it, and
+  -- the event stores nothing
   back_from : (before : List (Event T)) (e : Event T) → ByProducer before e → is_party p (whose e) ≡ false
       → holder_after (holder_of before) e ≡ Some p → (holder_of before ≡ Some p) × (stores e ≡ [])
   back_from = grind arith
 
+  -- while the party holds the role, an event of another party leaves it there and stores nothing
   forth_from : (before : List (Event T)) (e : Event T) → ByProducer before e → GrantsRight before e
       → is_party p (whose e) ≡ false → holder_of before ≡ Some p → (stores e ≡ []) × (holder_after (Some p) e ≡ Some p)
   forth_from = grind arith
 
 module _ {T : Type 0} where
+  -- the producer's role, with the values that its holder stores
   abbrev pub value_role : RoleEvents T T
   value_role = record { holder_after = holder_after; marks = stores; ByItsHolder = ByProducer; Grants = GrantsRight }
 
-  -- the producer's role is held by one party at a time
+  -- the producer's role of a single value has one holder at a time
   pub one_holder : HasOneHolder value_role
   one_holder =
       record {

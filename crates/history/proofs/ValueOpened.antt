@@ -1,4 +1,5 @@
--- How the table of a single value opens: one party has stored it so many times.
+-- A table of a single value opens with a history in which party 0 has stored the value as often as its
+-- version says (`value_opens`).
 use Rattle.history.proofs.Names.{◌≡◌, ℕ, zero, suc, ◌+◌, ◌-◌, ◌*◌, ◌%◌, ◌^◌, ◌<◌, ◌≤◌, ◌==◌, nat_lt, true, false}
 use Rattle.history.proofs.Names.{Option, Some, None, List, [], ◌∷◌, ◌++◌, length, drop, set, get_or, replicate}
 use Rattle.history.proofs.Names.{slice_set, refl, sym, ap, subst, ◌∙◌, append_assoc, arith, sum_by, nat_tests}
@@ -33,69 +34,76 @@ use Rattle.history.proofs.Values.{value_effects, value_owes, plain_starts, produ
 
 -- ---- lists of words
 
+-- a word set behind the first list is set in the second
 pub set_right : (xs ys : List ℕ) (i n : ℕ) → set (xs ++ ys) (length xs + i) n ≡ xs ++ set ys i n
 set_right [] ys i n = grind (arith, set)
 set_right (x ∷ xs) ys i n = let same : suc (length xs) + i ≡ suc (length xs + i) = omega arith in
     ap (λ k. set (x ∷ (xs ++ ys)) k n) same ∙ ap (λ zs. x ∷ zs) (set_right xs ys i n)
 
--- the first words of the one list, and the rest of the other
+-- a list in which the first `at` words are those of ws, and the rest those of xs
 abbrev pub mix : ℕ → List ℕ → List ℕ → List ℕ
 mix at ws xs = take at ws ++ drop at xs
 
+-- with one word more of ws set, the mixed list has one word more of ws
 pub mix_step : (at : ℕ) (ws xs : List ℕ) → at < length ws → at < length xs → set (mix at ws xs) at (get_or ws at 0) ≡ mix (suc at) ws xs
 mix_step at [] xs first_at_below second_at_below = absurd (omega arith)
 mix_step at (w ∷ ws) [] first_at_below second_at_below = absurd (omega arith)
 mix_step zero (w ∷ ws) (x ∷ xs) first_at_below second_at_below = refl
 mix_step (suc at) (w ∷ ws) (x ∷ xs) first_at_below second_at_below = ap (λ zs. w ∷ zs) (mix_step at ws xs (omega arith) (omega arith))
 
+-- the mixed list is as long as xs
 pub mix_length : (at : ℕ) (ws xs : List ℕ) → at ≤ length ws → at ≤ length xs → length (mix at ws xs) ≡ length xs
-mix_length zero ws xs a b = refl
-mix_length (suc at) [] xs a b = absurd (omega arith)
-mix_length (suc at) (w ∷ ws) [] a b = absurd (omega arith)
-mix_length (suc at) (w ∷ ws) (x ∷ xs) a b = ap suc (mix_length at ws xs (omega arith) (omega arith))
+mix_length zero ws xs first_at_most second_at_most = refl
+mix_length (suc at) [] xs first_at_most second_at_most = absurd (omega arith)
+mix_length (suc at) (w ∷ ws) [] first_at_most second_at_most = absurd (omega arith)
+mix_length (suc at) (w ∷ ws) (x ∷ xs) first_at_most second_at_most = ap suc (mix_length at ws xs (omega arith) (omega arith))
 
--- with all words of the one list put over the other, the list is the first
+-- with all words of ws put over xs, the list is ws
 pub mix_all : (n : ℕ) (ws xs : List ℕ) → length ws ≡ n → length xs ≡ n → mix n ws xs ≡ ws
-mix_all zero [] [] a b = refl
-mix_all zero (w ∷ ws) xs a b = absurd (omega arith)
-mix_all zero [] (x ∷ xs) a b = absurd (omega arith)
-mix_all (suc n) [] xs a b = absurd (omega arith)
-mix_all (suc n) (w ∷ ws) [] a b = absurd (omega arith)
-mix_all (suc n) (w ∷ ws) (x ∷ xs) a b = ap (λ zs. w ∷ zs) (mix_all n ws xs (omega arith) (omega arith))
+mix_all zero [] [] first_length_is second_length_is = refl
+mix_all zero (w ∷ ws) xs first_length_is second_length_is = absurd (omega arith)
+mix_all zero [] (x ∷ xs) first_length_is second_length_is = absurd (omega arith)
+mix_all (suc n) [] xs first_length_is second_length_is = absurd (omega arith)
+mix_all (suc n) (w ∷ ws) [] first_length_is second_length_is = absurd (omega arith)
+mix_all (suc n) (w ∷ ws) (x ∷ xs) first_length_is second_length_is = ap (λ zs. w ∷ zs) (mix_all n ws xs (omega arith) (omega arith))
 
--- two cells, of which the one with this number has the first words
+-- two cells: the one of this number, where any but 0 counts as 1, has the words xs, the other one ys
 abbrev two : ℕ → List ℕ → List ℕ → List ℕ
 two zero xs ys = xs ++ ys
 two (suc n) xs ys = ys ++ xs
 
+-- two equal cells, whichever the number
 two_same : (p : ℕ) (xs : List ℕ) → two p xs xs ≡ xs ++ xs
 two_same zero xs = refl
 two_same (suc p) xs = refl
 
+-- the two cells are twice as long as one
 two_length : (p size : ℕ) (xs ys : List ℕ) → length xs ≡ size → length ys ≡ size → length (two p xs ys) ≡ size * 2
 two_length = grind (arith, length-append)
 
--- a word that is set in the cell of this number is set in this cell, and the other stays
+-- a word set in the cell of number p is set in its words, and the other cell stays
 two_set : (p size : ℕ) (xs ys : List ℕ) (at n : ℕ) → p < 2 → length xs ≡ size → length ys ≡ size → at < size
     → set (two p xs ys) (size * p + at) n ≡ two p (set xs at n) ys
-two_set zero size xs ys at n low a b below = grind (arith, set, set_left)
-two_set (suc zero) size xs ys at n low a b below = let same : size * 1 + at ≡ length ys + at = omega arith in
+two_set zero size xs ys at n low first_length_is second_length_is below = grind (arith, set, set_left)
+two_set (suc zero) size xs ys at n low first_length_is second_length_is below = let same : size * 1 + at ≡ length ys + at = omega arith in
     ap (λ k. set (ys ++ xs) k n) same ∙ set_right ys xs at n
-two_set (suc (suc p)) size xs ys at n low a b below = absurd (omega arith)
+two_set (suc (suc p)) size xs ys at n low first_length_is second_length_is below = absurd (omega arith)
 
 -- ---- the calls of the one party
 
 module _ {T : Type 0} (code : Coding T) (law : IsCoding code) (value : T) where
+  -- how many words a value takes
   abbrev size : ℕ
   size = code.size
 
+  -- the words of the value
   abbrev ws : List ℕ
   ws = code.words_of value
 
   abbrev effects : World T → ℕ → Flight T → ℕ → List (Event T)
   effects w = value_effects code
 
-  -- the machine of the single value that one party has to itself
+  -- machines of a single value, of which party 0 makes all calls
   abbrev machine : alone.OneMachine T
   machine =
       record {
@@ -107,44 +115,55 @@ module _ {T : Type 0} (code : Coding T) (law : IsCoding code) (value : T) where
         laws = machine_laws code kinds.Atomic 1 (2 + code.size * 2) (value_effects code) (value_owes code 1);
       }
 
+  -- these turns lead from the opening to a single value with these words and events, where party 0 has this
+  -- call under way
   abbrev Here : List ℕ → List (Turn T) → List (Event T) → Option (Start T × Flight T) → Type 0
   Here = alone.Here machine
 
+  -- the view of the only pass, with these turns and events
   abbrev maker : List (Turn T) → List (Event T) → View T
   maker = alone.maker machine
 
+  -- by every measure, the events so far are those of the only seat's parties
   sums : (words : List ℕ) (ts : List (Turn T)) (es : List (Event T)) → (h : Here words ts es None)
       → (f : Event T → ℕ) → sum_by f es ≡ sum_by (owned same_seat 0 f) h.u.events
   sums words ts es h = alone.sums machine words ts es None h
 
-  -- the version, the role, and the two cells
+  -- the words of a single value: the version, the role's word, and the two cells
   abbrev words_at : ℕ → ℕ → List ℕ → List ℕ
   words_at version role cells = version ∷ role ∷ (cells ++ 0 ∷ [])
 
+  -- the store at this stage
   abbrev flight_at : StoreStage → Flight T
   flight_at stage = (stores_value code value).flight (at_store first_store stage) tt
 
+  -- the start of the store
   abbrev name : Start T
   name = Atomic (Store value)
 
   -- v is the version, x and y are the words of the two cells, where the next store goes into that of x
   module _ (v : ℕ) (small : v < 2 ^ 64 - 1) (x y : List ℕ) (x_long : length x ≡ code.size) (y_long : length y ≡ code.size) where
+    -- the two cells, after the first `at` words of the value were stored
     abbrev cells : ℕ → List ℕ
     cells at = two (v % 2) (mix at ws x) y
 
+    -- the words of the table, after the first `at` words of the value were stored
     abbrev now : ℕ → List ℕ
     now at = words_at v 0 (cells at)
 
+    -- the cell into which the store writes
     abbrev cell : ℕ
     cell = cell_word code.size v
 
+    -- the store as it is to store word `at`
     abbrev storing : ℕ → Flight T
     storing at = flight_at (stores.StoresCell cell at)
 
+    -- the version's parity is 0 or 1
     half : v % 2 < 2
     half = omega arith
 
-    -- a word is stored
+    -- a word of the value is stored to its place in the cell
     put : (at : ℕ) → at < code.size → slice_set (now at) (word_at cell at) (get_or ws at 0) ≡ now (suc at)
     put at below =
         let long = law.sized value in
@@ -156,10 +175,11 @@ module _ {T : Type 0} (code : Coding T) (law : IsCoding code) (value : T) where
         ∙ ap (λ zs. zs ++ 0 ∷ []) (two_set (v % 2) code.size (mix at ws x) y at (get_or ws at 0) half (mixed ∙ x_long) y_long below
         ∙ ap (λ zs. two (v % 2) zs y) (mix_step at ws x (omega arith) (omega arith))))
 
+    -- each word of the cell is one of the table's
     word_low : (at : ℕ) → at < code.size → word_at cell at < 2 + code.size * 2
     word_low = grind arith
 
-    -- the store of a word that is not the last leads on to the next word
+    -- after a word that is not the last one the store stands at the next word
     next : (ts : List (Turn T)) (es : List (Event T)) (at : ℕ) → at + 1 < code.size → Here (now at) ts es (Some (name, storing at))
         → Here (now (suc at)) (ts ++ Next 0 ∷ []) es (Some (name, storing (at + 1)))
     next ts es at more here =
@@ -168,7 +188,7 @@ module _ {T : Type 0} (code : Coding T) (law : IsCoding code) (value : T) where
         (record { word = word_at cell at; op = ops.Store (get_or ws at 0) }) (word_low at (omega arith)) refl tt
         (now (suc at)) (storing (at + 1)) (put at (omega arith)) (rw tests_below refl) (rw tests_below refl)
 
-    -- the store of the last word leads on to the version
+    -- after the last word the store stands at the version
     last : (ts : List (Turn T)) (es : List (Event T)) (at : ℕ) → at + 1 ≡ code.size → Here (now at) ts es (Some (name, storing at))
         → Here (now (suc at)) (ts ++ Next 0 ∷ []) es (Some (name, flight_at stores.AddsVersion))
     last ts es at all here =
@@ -190,7 +210,7 @@ module _ {T : Type 0} (code : Coding T) (law : IsCoding code) (value : T) where
         (fills (ts ++ Next 0 ∷ []) es rest (suc at) (omega arith)
         (subst (λ n. Here (now (suc at)) (ts ++ Next 0 ∷ []) es (Some (name, storing n))) same (next ts es at (omega arith) here)))
 
-    -- the value is stored once more
+    -- one store more adds 1 to the version, and puts the value into the cell of the old version's parity
     stores_it : (ts : List (Turn T)) (es : List (Event T)) → HasProducer es → Here (words_at v 0 (two (v % 2) x y)) ts es None
         → Here (words_at (v + 1) 0 (two (v % 2) ws y)) (ts ++ store_turns value code.size) (es ++ stored_once value) None
     stores_it ts es has here =
@@ -200,16 +220,20 @@ module _ {T : Type 0} (code : Coding T) (law : IsCoding code) (value : T) where
         let ts2 = ts1 ++ Next 0 ∷ [] in
         let filling : List (Turn T) = replicate (suc (code.size - 1)) (Next 0) in
         let ended : List (Event T) = Acted 0 name (Truth true) ∷ Finished 0 name (Truth true) ∷ [] in
+        -- the store begins, by the party that has the producer's role
         let begun_so = alone.begins machine (stores_value code value) first_store tt (now 0) ts es here
         (producer_starts code (maker ts es) (stores_value code value) (Store value) first_store tt refl (λ kept. refl)
         (λ o p. tt) (λ holder p is. holds_it holder p is) has here.u same_seat 0 here.between.run refl refl
         (sums (now 0) ts es here)) in
+        -- it loads the version, which is not the last one
         let b =
         alone.goes_on machine (now 0) ts1 xs name
         (flight_at stores.LoadsVersion) begun_so (record { word = 0; op = ops.Load }) (omega arith) refl small
         (now 0) (storing 0) refl (rw not_last refl) (rw not_last refl) in
+        -- it stores the words of the value
         let c = fills ts2 xs (code.size - 1) 0 (omega (arith, law.some)) b in
         let one : (v + 1) % 2 ^ 64 ≡ v + 1 = omega arith in
+        -- it adds 1 to the version, and ends with true
         let d =
         alone.ends machine (now code.size) (ts2 ++ filling) xs name
         (flight_at stores.AddsVersion) c (record { word = 0; op = ops.Add 1 }) (omega arith) refl tt
@@ -224,9 +248,9 @@ module _ {T : Type 0} (code : Coding T) (law : IsCoding code) (value : T) where
         (subst (λ zs. Here (words_at (v + 1) 0 (cells code.size)) zs (es ++ stored_once value) None) order
         (subst (λ zs. Here (words_at (v + 1) 0 (cells code.size)) ((ts2 ++ filling) ++ Next 0 ∷ []) zs None) (append_assoc es (Begun 0 name ∷ []) ended) d))
 
-  -- ---- so many stores
+  -- ---- any number of stores
 
-  -- the party has the role after any number of stores
+  -- party 0 has the producer's role after any number of stores
   has_it : (n : ℕ) → HasProducer (stored_times value n)
   has_it zero = refl
   has_it (suc n) =
@@ -237,13 +261,15 @@ module _ {T : Type 0} (code : Coding T) (law : IsCoding code) (value : T) where
         has_it n,
       )
 
+  -- the words of a cell that was never written
   abbrev zeros : List ℕ
   zeros = replicate code.size 0
 
+  -- a cell has as many words as a value
   zeros_long : length zeros ≡ code.size
   zeros_long = length-replicate code.size 0
 
-  -- the role is taken
+  -- after the acquire the role is taken, and both cells are zeros
   taken : Here (words_at 1 0 (opened_cells code value 0)) (stored_turns value code.size 0) (stored_times value 0) None
   taken =
       let all : code.size + code.size ≡ code.size * 2 = omega arith in
@@ -263,10 +289,11 @@ module _ {T : Type 0} (code : Coding T) (law : IsCoding code) (value : T) where
       (record { word = producer_word; op = ops.Exchange 1 0 }) (omega arith) refl tt (words_at 1 0 (zeros ++ zeros))
       (Truth true) [] refl refl refl tt
 
+  -- after the first store the version is 2, and the second cell has the value
   once : Here (words_at 2 0 (opened_cells code value 1)) (stored_turns value code.size 1) (stored_times value 1) None
   once = stores_it 1 (omega arith) zeros zeros zeros_long zeros_long (stored_turns value code.size 0) (stored_times value 0) (has_it 0) taken
 
-  -- after n stores the version is n + 1, and the cells have the value
+  -- after n stores the version is n + 1, and the cells have the value as `opened_cells` says
   stored : (n : ℕ) → n < 2 ^ 64 - 1 → Here (words_at (n + 1) 0 (opened_cells code value n)) (stored_turns value code.size n) (stored_times value n) None
   stored zero low = taken
   stored (suc zero) low = once
@@ -285,7 +312,7 @@ module _ {T : Type 0} (code : Coding T) (law : IsCoding code) (value : T) where
       (two_same (v % 2) ws)
       (stores_it v (omega arith) ws ws long long (stored_turns value code.size (suc (suc n))) (stored_times value (suc (suc n))) (has_it (suc (suc n))) before))
 
-  -- the role is given back
+  -- after the release nobody has the role, and the run is the one with which a value opens
   given : (n : ℕ) → n < 2 ^ 64 - 1 → Here (words_at (n + 1) 1 (opened_cells code value n)) (opened_turns value code.size n) (opened value n) None
   given n low =
       let start = Atomic ReleaseProducer in
@@ -306,10 +333,11 @@ module _ {T : Type 0} (code : Coding T) (law : IsCoding code) (value : T) where
       (subst (λ zs. Here (words_at (n + 1) 1 (opened_cells code value n)) ((ts ++ Begin 0 start ∷ []) ++ Next 0 ∷ []) zs None)
       (append_assoc es (Begun 0 start ∷ []) (Finished 0 start answers.Done ∷ [])) b)
 
+  -- a value at any version opens with fewer than 2^64 - 1 stores
   few : (version : ℕ) → version < 2 ^ 64 → first_stores version < 2 ^ 64 - 1
   few = grind arith
 
-  -- a table opens so, at any version
+  -- a table with these words, and the view of the only pass, holds the rule, at any version
   pub value_opens : (version : ℕ) → version < 2 ^ 64 → (words : List ℕ)
       → words ≡ (first_stores version + 1) ∷ 1 ∷ (opened_cells code value (first_stores version) ++ 0 ∷ [])
       → IsMachine code kinds.Atomic 1 (opening words [] (opened_view value code.size version))
@@ -321,7 +349,7 @@ module _ {T : Type 0} (code : Coding T) (law : IsCoding code) (value : T) where
       (opened_turns value code.size stores_first) (opened value stores_first)
       (given stores_first (few version low)))
 
-  -- the first pass of the table knows the run that led there
+  -- the first pass of the table knows the run with which the value opens
   pub value_knows : (version : ℕ) → version < 2 ^ 64 → Knows code kinds.Atomic 1 (opened_view value code.size version)
   value_knows version low =
       let stores_first = first_stores version in

@@ -1,4 +1,5 @@
--- What the single value owes, from its laws, and which party may begin a call on it.
+-- The single value as a table that is a machine: what its calls write (`value_effects`), where each step
+-- leads, and how a call begins.
 use Rattle.history.proofs.Names.{◌≡◌, ℕ, ◌+◌, ◌*◌, ◌≤◌, false, Option, Some, None, IfSome, List, [], length}
 use Rattle.history.proofs.Names.{sum_by, refl, sym, ap, subst, ◌∙◌, arith, Event, Start}
 use Rattle.history.proofs.Names.{Flight, Registry, AtomicStart, AtomicFlight, Party, Coding, first_of, step_of}
@@ -31,7 +32,7 @@ use Rattle.history.proofs.Paid.{Pays, progress_kept, pays_run}
 use Rattle.history.proofs.Turns.{CallGoesOn, KindLaws, LoneMachines}
 
 module _ {T : Type 0} where
-  -- the name of a call under way
+  -- the start of a call under way, by its flight
   abbrev start_of : AtomicFlight T → AtomicStart T
   start_of (calls.Acquire run) = AcquireProducer
   start_of (calls.Release run) = ReleaseProducer
@@ -45,48 +46,54 @@ module _ {T : Type 0} where
   value_effects code p (flights.Atomic flight) found = acted p (start_of flight) (answer_in (after code flight found))
   value_effects code p flight found = []
 
+  -- the effects of a step are events of its party
   effects_own : (code : Coding T) (p : ℕ) (flight : Flight T) (n : ℕ) → AreOf p (value_effects code p flight n)
   effects_own = grind arith
 
-  -- the step of a call that stands so, whatever its name
-  record Facts (z : Coding T) (words : List ℕ) (waits : Option (ℕ × ℕ)) (p n : ℕ) (start : Start T) (flight : Flight T) (kept : Registry T) : Type 0 where
+  -- where a step leads a call of the value, and what it writes, whatever the call
+  record StepFacts (z : Coding T) (words : List ℕ) (waits : Option (ℕ × ℕ)) (p n : ℕ) (start : Start T) (flight : Flight T) (kept : Registry T) : Type 0 where
+    -- nothing refuses the step; its effects are `value_effects`, and it leads where the call's flight says
     pub may : first_row (going_rows z kept (Some flight) None) ≡ None
     pub writes : (step_of z words waits p start flight n kept).wrote ≡ value_effects z p flight n
     pub goes : (step_of z words waits p start flight n kept).after ≡ after_of z flight n
 
+  -- these facts hold of each call that the value's laws have under way
   facts : (z : Coding T) (words : List ℕ) (waits : Option (ℕ × ℕ)) (c p n : ℕ) (s : Value) (start : Start T)
       (flight : Flight T) (kept : Registry T)
       → kept ≡ registries.Atomic s.holder → (family z c).At s p start flight
-      → Facts z words waits p n start flight kept
+      → StepFacts z words waits p n start flight kept
   facts = grind arith
 
--- ---- what the kind owes
+-- ---- the laws of single values
 
 module _ {T : Type 0} (code : Coding T) (capacity : ℕ) where
-  abbrev IsOn : Trace T → Type 0
-  IsOn t = IsRun code kinds.Atomic capacity t
+  -- the machine is one of a run of a single value
+  abbrev IsValueRun : Trace T → Type 0
+  IsValueRun t = IsRun code kinds.Atomic capacity t
 
-  pub value_sound : (t : Trace T) → IsOn t → frame.Sound (family t.world.coding t.world.capacity) t
+  -- a run of a single value keeps the invariant of its laws
+  pub value_sound : (t : Trace T) → IsValueRun t → frame.Sound (family t.world.coding t.world.capacity) t
   value_sound t is_on = sound_on t is_on.of_kind is_on.reached.coded is_on.fresh
 
-  size : (t : Trace T) → IsOn t → length t.world.words ≡ 2 + code.size * 2
+  -- a reached value has a version, a role and two cells
+  size : (t : Trace T) → IsValueRun t → length t.world.words ≡ 2 + code.size * 2
   size t is_on =
       let is_sound = value_sound t is_on in
       let cells : length is_sound.state.core.cells ≡ code.size * 2 = is_sound.holds.good.cells ∙ ap (λ (z : Coding T). z.size * 2) is_on.coded in
       ap length is_sound.fit.words ∙ omega arith
 
   -- a step of a call under way may be taken, writes events of its own party alone, and goes on as the call does
-  goes_on : (t : Trace T) → IsOn t → (p : ℕ) (start : Start T) (flight : Flight T)
+  goes_on : (t : Trace T) → IsValueRun t → (p : ℕ) (start : Start T) (flight : Flight T)
       → call_in t.world p ≡ Some (start, flight)
       → CallGoesOn code kinds.Atomic capacity (2 + code.size * 2) (value_effects code) t p flight
-  goes_on t is_on p start flight at =
+  goes_on t is_on p start flight call_is =
       let is_sound = value_sound t is_on in
-      let here = stands t.world p start flight at in
+      let here = stands t.world p start flight call_is in
       let there = stands_there (family t.world.coding t.world.capacity) t is_sound p here.x here.since flight here.found here.doing in
       let waits = beside_of t.world.words t.world.kept t.world.latest p in
       let fact = λ (x : Party T) (n : ℕ) (found : party_of p t.world.latest ≡ Some x).
       (let same : here.x ≡ x = (let both : Some here.x ≡ Some x = sym here.found ∙ found in cc) in
-      subst (λ (st : Start T). Facts t.world.coding t.world.words waits p n st flight t.world.kept) (ap (λ (y : Party T). y.start) same)
+      subst (λ (st : Start T). StepFacts t.world.coding t.world.words waits p n st flight t.world.kept) (ap (λ (y : Party T). y.start) same)
       (facts t.world.coding t.world.words waits t.world.capacity p n is_sound.state here.x.start flight t.world.kept is_sound.fit.kept there.at))
       in
       record {
@@ -96,7 +103,7 @@ module _ {T : Type 0} (code : Coding T) (capacity : ℕ) where
         goes = λ x n found. (fact x n found).goes;
       }
 
-  -- the single value owes what its kind has to
+  -- single values keep the laws of a kind: what their steps write, and where they lead
   pub value_owes : KindLaws code kinds.Atomic capacity (2 + code.size * 2) (value_effects code)
   value_owes = record {
     size = size;
@@ -105,11 +112,11 @@ module _ {T : Type 0} (code : Coding T) (capacity : ℕ) where
     stateless = λ t r. (let is_sound = value_sound t r in subst IsStateless (sym is_sound.fit.kept) tt);
   }
 
-  -- what the model promises of each run
-  pub value_goes_on : (t : Trace T) → IsOn t → IsValue t
+  -- a run of a single value is a reached one, as the value's laws have it
+  pub value_goes_on : (t : Trace T) → IsValueRun t → IsValue t
   value_goes_on t is_on = (subst (λ P. IsKeptBy P t) (ap (promise_of {T = T}) is_on.of_kind) (kept_on t is_on.of_kind is_on.reached.coded is_on.fresh)).promised
 
-  -- the steps of each call are within what the model promises
+  -- each call takes at most the steps that the model promises of a single value
   pub value_pays : Pays code kinds.Atomic capacity
   value_pays t r =
       (let is_sound = value_sound t r in
@@ -117,24 +124,29 @@ module _ {T : Type 0} (code : Coding T) (capacity : ℕ) where
       pays_run code kinds.Atomic capacity t r F refl is_sound
       (progress_kept code kinds.Atomic capacity t r F refl is_sound (kept_on t r.of_kind r.reached.coded r.fresh)))
 
--- ---- which party holds the role that a pass holds: one of its own
+-- ---- a pass that holds the role has a party that holds it
 
 module _ {T : Type 0} (owner : ℕ → ℕ) (j : ℕ) where
+  -- the event moves the producer's role as it is counted: acquired where nobody holds it,
+  -- given back by its holder
   abbrev MovesIt : List (Event T) → Event T → Type 0
   MovesIt = Moves takes_producer gives_producer holder_after owner j
 
+  -- an event that grants the role rightly moves the role as it is counted
   moves : (before : List (Event T)) (e : Event T) → GrantsRight before e → MovesIt before e
   moves = grind arith
 
+  -- each event of a history in which the role is granted rightly moves it as it is counted
   all_move : (all : List (Event T)) → Each GrantsRight all → Each MovesIt all
   all_move all each before after e is = moves before e (each before after e is)
 
+  -- a pass that made an acquire more than it gave back has the party that holds the role
   pub producer_by : (all made : List (Event T)) → Each GrantsRight all
       → ((f : Event T → ℕ) → sum_by f made ≡ sum_by (owned owner j f) all) → HasProducer made
       → (p : ℕ) × (owner p ≡ j) × (holder_of all ≡ Some p)
   producer_by all made each sums has = held_by_one takes_producer gives_producer holder_after owner j all made (all_move all each) sums has
 
--- a pass gave back what it had acquired, or has it once
+-- a pass has given back each acquire of the role that it made, or holds the role now
 pub producer_once : {T : Type 0} (v : View T) → Each GrantsRight v.seen → IsOfParties v
     → (sum_by gives_producer v.made ≤ sum_by takes_producer v.made) × (sum_by takes_producer v.made ≤ sum_by gives_producer v.made + 1)
 producer_once v each of_parties =
@@ -146,21 +158,24 @@ producer_once v each of_parties =
 module _ {T C M E : Type 0} (code : Coding T) (base : View T) (call : Calling T C M E) (start : AtomicStart T)
     (c : C) (m : M) (is_named : call.start ≡ Atomic start)
     (first_is : (kept : Registry T) → first_of kinds.Atomic base.capacity (Atomic start) kept ≡ Some (call.flight c m)) where
-  abbrev IsAt : Trace T → Type 0
-  IsAt t = IsRun code kinds.Atomic base.capacity t
+  -- the machine is one of a run of a single value, of the pass's capacity
+  abbrev IsPassRun : Trace T → Type 0
+  IsPassRun t = IsRun code kinds.Atomic base.capacity t
 
-  abbrev AllOf : Trace T → (ℕ → ℕ) → ℕ → Type 0
-  AllOf t owner j = (f : Event T → ℕ) → sum_by f base.made ≡ sum_by (owned owner j f) t.events
+  -- by every measure, what the pass has made is what its parties wrote
+  abbrev MadeByParties : Trace T → (ℕ → ℕ) → ℕ → Type 0
+  MadeByParties t owner j = (f : Event T → ℕ) → sum_by f base.made ≡ sum_by (owned owner j f) t.events
 
-  kept_there : (t : Trace T) → IsAt t → (holder : Option ℕ) × (t.world.kept ≡ registries.Atomic holder)
-  kept_there t r = let is_sound = value_sound code base.capacity t r in (is_sound.state.holder, is_sound.fit.kept)
+  -- a machine of a single value keeps who holds the producer's role
+  kept_there : (t : Trace T) → IsPassRun t → (holder : Option ℕ) × (t.world.kept ≡ registries.Atomic holder)
+  kept_there t is_pass_run = let is_sound = value_sound code base.capacity t is_pass_run in (is_sound.state.holder, is_sound.fit.kept)
 
-  -- a party that lacks no role for it may begin
-  as_party : (t : Trace T) (owner : ℕ → ℕ) (j p : ℕ) → IsAt t → owner p ≡ j → call.by base.party p
+  -- the call may begin as that of party p, whom the machine finds without a call under way
+  as_party : (t : Trace T) (owner : ℕ → ℕ) (j p : ℕ) → IsPassRun t → owner p ≡ j → call.by base.party p
       → (holder : Option ℕ) → t.world.kept ≡ registries.Atomic holder → lacks_role holder p start ≡ false
       → Starts code kinds.Atomic call base c m t owner j
-  as_party t owner j p run mine by holder is lacks =
-      let free : first_row (kept_rows start t.world.kept p) ≡ None = subst (λ k. first_row (kept_rows start k p) ≡ None) (sym is) (rw lacks refl) in
+  as_party t owner j p run mine by holder kept_is lacks =
+      let free : first_row (kept_rows start t.world.kept p) ≡ None = subst (λ k. first_row (kept_rows start k p) ≡ None) (sym kept_is) (rw lacks refl) in
       record {
         party = p;
         mine = mine;
@@ -169,31 +184,32 @@ module _ {T C M E : Type 0} (code : Coding T) (base : View T) (call : Calling T 
         may = rw is_named free;
       }
 
-  -- a call that needs no role, as the party that the pass was last
+  -- a call that needs no role begins as that of the party that the pass was last, or of the pass's own number
   pub plain_starts : ((o : Option ℕ) (p : ℕ) → IfSome o (λ q. q ≡ p) → call.by o p) → ((holder : Option ℕ) (p : ℕ) → lacks_role holder p start ≡ false)
-      → (t : Trace T) (owner : ℕ → ℕ) (j : ℕ) → IsAt t → owner j ≡ j → IfSome base.party (λ p. owner p ≡ j)
-      → AllOf t owner j → Starts code kinds.Atomic call base c m t owner j
+      → (t : Trace T) (owner : ℕ → ℕ) (j : ℕ) → IsPassRun t → owner j ≡ j → IfSome base.party (λ p. owner p ≡ j)
+      → MadeByParties t owner j → Starts code kinds.Atomic call base c m t owner j
   plain_starts by_last free t owner j run self party sums = go base.party refl party
     where
+      -- the machine keeps who holds the producer's role
       kept : (holder : Option ℕ) × (t.world.kept ≡ registries.Atomic holder)
       kept = kept_there t run
 
       -- whether the pass was a party last or not, the call begins, as that party or as the one of the pass's own number
       go : (o : Option ℕ) → base.party ≡ o → IfSome o (λ p. owner p ≡ j) → Starts code kinds.Atomic call base c m t owner j
-      go None e h =
+      go None party_is if_some =
           as_party t owner j j run self
-          (by_last base.party j (subst (λ (z : Option ℕ). IfSome z (λ q. q ≡ j)) (sym e) tt)) kept.0 kept.1
+          (by_last base.party j (subst (λ (z : Option ℕ). IfSome z (λ q. q ≡ j)) (sym party_is) tt)) kept.0 kept.1
           (free kept.0 j)
-      go (Some p) e h =
-          as_party t owner j p run h
-          (by_last base.party p (subst (λ (z : Option ℕ). IfSome z (λ q. q ≡ p)) (sym e) refl)) kept.0 kept.1
+      go (Some p) party_is if_some =
+          as_party t owner j p run if_some
+          (by_last base.party p (subst (λ (z : Option ℕ). IfSome z (λ q. q ≡ p)) (sym party_is) refl)) kept.0 kept.1
           (free kept.0 p)
 
-  -- a call of the producer, as that of the pass's parties which holds the role
+  -- a call that needs the producer's role begins as that of the pass's party which holds the role
   pub producer_starts : ((o : Option ℕ) (p : ℕ) → call.by o p)
       → ((holder : Option ℕ) (p : ℕ) → holder ≡ Some p → lacks_role holder p start ≡ false) → HasProducer base.made
-      → (t : Trace T) (owner : ℕ → ℕ) (j : ℕ) → IsAt t → owner j ≡ j → IfSome base.party (λ p. owner p ≡ j)
-      → AllOf t owner j → Starts code kinds.Atomic call base c m t owner j
+      → (t : Trace T) (owner : ℕ → ℕ) (j : ℕ) → IsPassRun t → owner j ≡ j → IfSome base.party (λ p. owner p ≡ j)
+      → MadeByParties t owner j → Starts code kinds.Atomic call base c m t owner j
   producer_starts by_any free has t owner j run self party sums =
       let value = value_goes_on code base.capacity t run in
       let kept = kept_there t run in
@@ -202,6 +218,7 @@ module _ {T C M E : Type 0} (code : Coding T) (base : View T) (call : Calling T 
       as_party t owner j by_this_party.0 run by_this_party.1 (by_any base.party by_this_party.0) kept.0 kept.1
       (free kept.0 by_this_party.0 (keeps ∙ by_this_party.2))
 
+-- the machines of single values
 abbrev pub value_machines : {T : Type 0} → Coding T → LoneMachines T
 value_machines code =
     record { code = code; kind = kinds.Atomic; effects = value_effects code; size_of = λ capacity. 2 + code.size * 2; laws = value_owes code }

@@ -7,11 +7,13 @@ use Rattle.history.specs.Stages.{Calling, opened, IsUnderWay}
 use Rattle.history.proofs.CallsIn.{span_since}
 
 module _ {T C M E : Type 0} (code : Coding T) (kind : Kind) (call : Calling T C M E) where
+  -- the span of a party whose call had not begun in `base`, by what the call has written
   pub written_since : (base v : View T) (c : C) (m : M) → base.going ≡ None → (under : IsUnderWay code kind call base v c m)
       → span_of under.party v.seen ≡ fold own_after (Open call.start []) under.wrote
   written_since = grind (arith, opened, span_since, fold, append-nil)
 
-  -- two tellings of a call that begin with it are one
+  -- two accounts of a call under way, each from a view in which it had not begun, have one party and one list
+  -- of what it wrote
   pub same_written : (base other v : View T) (c d : C) (m k : M) → base.going ≡ None → other.going ≡ None
       → (a : IsUnderWay code kind call base v c m) (b : IsUnderWay code kind call other v d k)
       → fold own_after (Open call.start []) a.wrote ≡ Open call.start a.wrote → fold own_after (Open call.start []) b.wrote ≡ Open call.start b.wrote

@@ -13,24 +13,25 @@ use Rattle.model.specs.declared.turn.Kind.{Kind}
 use Rattle.model.specs.declared.turn.Kind.TheVariants as kinds
 use Rattle.model.specs.Families.Bits.Reading.{counts}
 
--- What stands in a history to which the silent acts are added: an event, or that a call of this party has acted on this
--- place and left it as it found it.
+-- What stands in a history to which the silent acts are added: an event, or that a call of this party has
+-- acted on this place and left its number as it was.
 pub data Mark (T : Type 0) : Type 0 where
   Happens : (e : Event T) → Mark T
   Leaves : (party place : ℕ) → Mark T
 
 -- ---- the object: a number for each place, 0 at first
 
--- what a set makes of the number: 1 where it is a flag, one more where it is a count, which wraps
+-- what a set makes of the number of its place: 1 where it is a flag, one more (modulo
+-- 2^64) where it is a count
 abbrev pub after_set : Kind → ℕ → ℕ
 after_set kinds.Counts n = (n + 1) % 2 ^ 64
 after_set kind n = 1
 
--- a party's call under way, and what it found at one place once it has acted there
+-- a party's call under way, and, once it has acted on one given place, the number that it found there
 abbrev pub Way : Type 0 → Type 0
 Way T = Option (Start T × Option ℕ)
 
--- it has acted there, and P holds of what it found
+-- the call has acted on the place, and P holds of the number that it found
 abbrev pub Found : (ℕ → Type 0) → Option ℕ → Type 0
 Found P None = ⊥
 Found P (Some n) = P n
@@ -51,7 +52,7 @@ module _ {T : Type 0} where
   told (Happens e ∷ ms) = e ∷ told ms
   told (Leaves p b ∷ ms) = told ms
 
-  -- the party acts on the place
+  -- whether the event is an act of party p on place b
   abbrev pub does : ℕ → ℕ → Event T → Bool
   does p b (events.Set q c) = q == p && c == b
   does p b (Cleared q c) = q == p && c == b
@@ -77,7 +78,8 @@ module _ {T : Type 0} where
 
   -- ---- one party's call and one place
 
-  -- a set acts on its own place alone, and so does a look
+  -- the call may act on place b: a set and a look act on their own place alone, a reset of the next place and
+  -- one of all on any
   abbrev pub MayAct : ℕ → Start T → Type 0
   MayAct b (Bits (Set place)) = place ≡ b
   MayAct b (Bits ResetNext) = Unit {0}
@@ -110,8 +112,8 @@ module _ {T : Type 0} where
       place ≡ b → Found (λ n. number ≡ n) found
   Answers capacity Sure b start answer found = ⊥
 
-  -- How a call that ends has found the place:
-  -- it is the call that the party began, and what it found there fits its answer.
+  -- A call of the party may end with this answer: it is the call that the party began, and what it found at
+  -- place b fits the answer.
   abbrev pub Ends : ℕ → Type 0 → ℕ → Start T → Answer T → Way T → Type 0
   Ends capacity Sure b start answer None = ⊥
   Ends capacity Sure b start answer (Some call) =
@@ -124,15 +126,15 @@ module _ {T : Type 0} where
   found_now n None = None
   found_now n (Some call) = Some (call.0, Some n)
 
-  -- What the party's call has found at the place, after an event:
-  -- a begin opens the call, an act of the party there finds the number.
+  -- Where party p's call stands at place b after an event: a begin opens the call, its end closes it, and an
+  -- act of the party on the place finds the number n.
   abbrev pub way_after : ℕ → ℕ → ℕ → Way T → Event T → Way T
   way_after p b n way (Begun q start) = if q == p then Some (start, None) else way
   way_after p b n way (Finished q start answer) = if q == p then None else way
   way_after p b n way e = if does p b e then found_now n way else way
 
-  -- Whether an event of the party is right at the place where it has this number: it begins one call at a time, ends
-  -- with an answer that fits what it found, and acts there at most once.
+  -- The event may come where place b has the number n and party p's call stands there at `way`: the party
+  -- begins one call at a time, ends it with an answer that fits what it found, and acts there at most once.
   abbrev pub IsRightEvent : Kind → ℕ → Type 0 → ℕ → ℕ → ℕ → Way T → Event T → Type 0
   IsRightEvent kind capacity Sure p b n way (Begun q start) = q ≡ p → way ≡ None
   IsRightEvent kind capacity Sure p b n way (Finished q start answer) =
@@ -140,7 +142,8 @@ module _ {T : Type 0} where
   IsRightEvent kind capacity Sure p b n way e =
       does p b e ≡ true → Tells n e × Acts kind b n (number_after b n e) way
 
-  -- the marks are right from here on, where the place has this number and the party's call has come so far
+  -- From here on each mark is right for party p and place b, where the place has the number n and the party's
+  -- call stands there at `way`.
   abbrev pub IsRight : Kind → ℕ → Type 0 → ℕ → ℕ → ℕ → Way T → List (Mark T) → Type 0
   IsRight kind capacity Sure p b n way [] = Unit {0}
   IsRight kind capacity Sure p b n way (Happens e ∷ ms) =
@@ -150,15 +153,18 @@ module _ {T : Type 0} where
       ((q == p && c == b) ≡ true → Acts kind b n n way)
       × IsRight kind capacity Sure p b n (if q == p && c == b then found_now n way else way) ms
 
--- The silent acts can be put between the events of the history, so that for each party and each place all is right:
--- each call acts on single places, on each at most once, between its begin and its end, and in the order of these acts
--- it has found what it answers. A reset of all counts may pass over a place that was counted 2^64 times.
+-- The silent acts can be put between the events of the history, so that the marks are right for each party
+-- and each place: each call acts on single places, on each at most once, between its begin and its end, and
+-- in the order of these acts it has found what it answers. A reset of all counts may pass over a place that
+-- was counted 2^64 times.
 pub record ActsByPlace {T : Type 0} (kind : Kind) (capacity : ℕ) (history : List (Event T)) : Type 0 where
+  -- the history with the silent acts in it
   pub marks : List (Mark T)
   pub is : told marks ≡ history
+  -- at first each place has the number 0 and no party has a call under way
   pub right : (p b : ℕ) → IsRight kind capacity (counts b history < 2 ^ 64) p b 0 None marks
 
--- the kinds of which this is said: bit sets and counting bit sets
+-- the kinds whose calls act by place: bit sets and counting bit sets
 abbrev pub IsSet : Kind → Type 0
 IsSet kinds.Bits = Unit {0}
 IsSet kinds.Counts = Unit {0}

@@ -1,4 +1,5 @@
--- The calls on containers as calls of the model: where each stands, and what it has written there.
+-- The calls on containers as calls of the model: which indices and words each may be at, by its stage, and
+-- which events it has written there (`Calling`, in `Stages`).
 use Rattle.std.specs.Prelude.{◌≡◌, ◌⊎◌, ℕ, ◌<◌, Bool, false, None, IfSome, Ok, Err, List, [], ◌∷◌, ◌++◌, if◌then◌else◌}
 use Rattle.steps.specs.Container.Add.{Added}
 use Rattle.steps.specs.Container.Remove.{Removed}
@@ -37,16 +38,17 @@ use Rattle.history.specs.Stages.{Calling}
 -- ---- what a call does to the element at an index
 
 module _ {T : Type 0} where
-  -- the event, if it came
+  -- this event alone, where it came, else no event
   abbrev pub when : Bool → Event T → List (Event T)
   when did e = if did then e ∷ [] else []
 
-  -- after these first events the call has hidden what stood at the index, or found nothing to hide
+  -- the events are `before`, and then that the call has hidden what stood at the index, unless it found
+  -- nothing to hide
   abbrev pub HasCleared : (p index : ℕ) → List (Event T) → List (Event T) → Type 0
   HasCleared p index before es = (hid : Bool) × (es ≡ before ++ when hid (Hidden p index))
 
-  -- After these first events it has hidden what still showed at the index,
-  -- and placed its value, unless something stood there by then.
+  -- The events are `before`, then that the call has hidden what still showed at the index, if it did, and
+  -- then that it placed its value, unless something stood there by then.
   abbrev pub HasPut : (p index : ℕ) → T → List (Event T) → List (Event T) → Type 0
   HasPut p index value before es =
       (hid : Bool) × (put : Bool)
@@ -64,7 +66,7 @@ AddIn size capacity (adds.AddsCount index) = index < capacity
 AddIn size capacity (adds.AddsChange index) = index < capacity
 
 module _ {T : Type 0} where
-  -- what an add has written that has acquired the index
+  -- what an add has written once it has acquired the index for the owner
   abbrev pub taken : (p index owner : ℕ) → List (Event T)
   taken p index owner = Filled p index owner ∷ Granted p index owner ∷ []
 
@@ -80,8 +82,8 @@ module _ {T : Type 0} where
   AddedAt p given (adds.AddsChange index) es =
       HasPut p index given.value (taken p index given.owner) es
 
-  -- What an add with this answer has written in all:
-  -- one that met the lock may have filled an index, which keeps its owner.
+  -- What an add with this answer has written in all. One that answers that the container is locked may have
+  -- filled an index, which keeps its owner.
   abbrev pub HasAdded : (capacity p : ℕ) → Owned T → Added → List (Event T) → Type 0
   HasAdded capacity p given (Ok index) es =
       (index < capacity) × HasPut p index given.value (taken p index given.owner) es
@@ -95,7 +97,9 @@ module _ {T : Type 0} where
   adds_value size given =
       record {
         start = Container (Add given.value given.owner);
+        -- the party that the pass was last makes the call, if the pass has been a party
         by = λ was p. IfSome was (λ q. q ≡ p);
+        -- what holds of the call between two steps, and which call of the model is then under way
         stands = λ capacity c. (c.capacity ≡ capacity) × AddIn size capacity c.stage;
         flight = λ c m.
             flights.Container
@@ -145,7 +149,9 @@ module _ {T : Type 0} where
   removes_value given =
       record {
         start = Container (Remove given.index given.owner given.mode);
+        -- the party that the pass was last makes the call, if the pass has been a party
         by = λ was p. IfSome was (λ q. q ≡ p);
+        -- what holds of the call between two steps, and which call of the model is then under way
         stands = λ capacity c.
             (c.capacity ≡ capacity) × (given.index < capacity) × RemoveIn capacity given.mode c.stage;
         flight = λ c m.
@@ -194,7 +200,9 @@ module _ {T : Type 0} where
   replaces_value size given =
       record {
         start = Container (Replace given.index given.value given.owner);
+        -- the party that the pass was last makes the call, if the pass has been a party
         by = λ was p. IfSome was (λ q. q ≡ p);
+        -- what holds of the call between two steps, and which call of the model is then under way
         stands = λ capacity c.
             (c.capacity ≡ capacity) × (given.index < capacity) × ReplaceIn size c.stage;
         flight = λ c m.
@@ -223,7 +231,9 @@ module _ {T : Type 0} where
   counts_values which =
       record {
         start = Container (count_start which);
+        -- the party that the pass was last makes the call, if the pass has been a party
         by = λ was p. IfSome was (λ q. q ≡ p);
+        -- what holds of the call between two steps, and which call of the model is then under way
         stands = λ capacity c. (c.capacity ≡ capacity) × CountIn capacity c.count;
         flight = λ c m.
             flights.Container
@@ -242,7 +252,9 @@ module _ {T : Type 0} where
   sees_lock =
       record {
         start = Container IsLocked;
+        -- the party that the pass was last makes the call, if the pass has been a party
         by = λ was p. IfSome was (λ q. q ≡ p);
+        -- what holds of the call between two steps, and which call of the model is then under way
         stands = λ capacity c. Unit {0};
         flight = λ c m.
             flights.Container

@@ -1,4 +1,5 @@
--- A find on containers as a call of the model. An answer may end it, and then it rests at its question.
+-- A `find` on containers as a call of the model. The answer of its closure may end it, and then it rests at
+-- its question (`IsResting`, in `Settled`).
 use Rattle.std.specs.Prelude.{◌≡◌, ◌⊎◌, ℕ, zero, suc, ◌+◌, ◌<◌, ◌==◌, if◌then◌else◌, false, None, IfSome, List, [], ◌∷◌, ◌++◌, map}
 use Rattle.steps.specs.Container.Find.{find_kept}
 use Rattle.steps.specs.declared.container.find.Find.{Find as Finding}
@@ -24,10 +25,11 @@ FindIn size capacity (finds.LoadsWord index found count at) = (index < capacity)
 FindIn size capacity (finds.ChecksCount index found count) = index < capacity
 FindIn size capacity (finds.Asks index found) = index < capacity
 
--- ---- what it has copied: values at indices
+-- ---- what a find has copied: values at indices
 
 module _ {T : Type 0} where
-  -- of so many indices from this one on the find has copied some, each once, ascending
+  -- the events are copies of values, by this party, from some of the `number` indices from `from` on, each
+  -- index at most once, in ascending order
   abbrev pub HasCopied : ℕ → ℕ → ℕ → List (Event T) → Type 0
   HasCopied p from zero es = es ≡ []
   HasCopied p from (suc number) es =
@@ -35,12 +37,12 @@ module _ {T : Type 0} where
       ⊎ ((before : List (Event T)) × (value : T) × HasCopied p from number before
       × (es ≡ before ++ Copied p (from + number) value ∷ []))
 
-  -- the events by which a party's find tells these copies
+  -- the events by which a party's find tells of these copies
   abbrev pub copies_of : ℕ → List (ℕ × T) → List (Event T)
   copies_of p copies = map (λ (c : ℕ × T). Copied p c.0 c.1) copies
 
-  -- The copies after a step at this stage:
-  -- one more where the element's number is the same still, of the value in the room.
+  -- The copies after a step at this stage that was handed this old value: one more, of the value in the room,
+  -- where the element's number is still what it was before the words were loaded.
   abbrev pub copies_after : FindStage → ℕ → T → List (ℕ × T) → List (ℕ × T)
   copies_after (finds.ChecksCount index found count) old value copies =
       if old == count then copies ++ (index, value) ∷ [] else copies
@@ -65,7 +67,9 @@ module _ {T R : Type 0} (code : Coding T) (words_in : R → List ℕ) where
   finds_values owner =
       record {
         start = Container (Find owner);
+        -- the party that the pass was last makes the call, if the pass has been a party
         by = λ was p. IfSome was (λ q. q ≡ p);
+        -- what holds of the call between two steps, and which call of the model is then under way
         stands = λ capacity c. (c.capacity ≡ capacity) × FindIn code.size capacity c.stage;
         flight = λ c m.
             flights.Container

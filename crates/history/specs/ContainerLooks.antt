@@ -1,5 +1,6 @@
--- A look of a state at its container as a call of the model: where it stands, and what it has written there. It goes on
--- from the state that its party has in the machine.
+-- A look of a state at its container (`get_state`, `update_state`) as a call of the model: which indices
+-- and words it may be at, and which events it has written there. It goes on from the state that its
+-- party has in the machine.
 use Rattle.std.specs.Prelude.{◌≡◌, ◌⊎◌, ℕ, ◌<◌, Bool, true, false, Some, None, IfSome, List, []}
 use Rattle.steps.specs.Container.Look.{first_look}
 use Rattle.steps.specs.Container.State.{Numbers, Showing, no_numbers, shows_nothing, shown_at}
@@ -48,14 +49,15 @@ module _ {T : Type 0} where
   abbrev pub HasState : Registry T → ℕ → ContainerState T → Type 0
   HasState kept p state = state_in kept p ≡ Some state
 
-  -- which events a look has written at this stage
+  -- which events a look has written at this stage: copies of values from indices below the one that it is at
   abbrev pub LookedAt : ℕ → LookStage → List (Event T) → Type 0
   LookedAt p looks.LoadsChange es = es ≡ []
   LookedAt p (looks.LoadsCount index) es = HasCopied p 0 index es
   LookedAt p (looks.LoadsWord index count at) es = HasCopied p 0 index es
   LookedAt p (looks.ChecksCount index count) es = HasCopied p 0 index es
 
-  -- what a look with this answer has written in all: copies, and nothing where nothing had changed
+  -- what a look with this answer has written in all: copies of values, and nothing where it answers that
+  -- nothing had changed
   abbrev pub HasLookedAll : (capacity p : ℕ) → Bool → List (Event T) → Type 0
   HasLookedAll capacity p true es = HasCopied p 0 capacity es
   HasLookedAll capacity p false es = es ≡ []
@@ -66,7 +68,9 @@ module _ {T : Type 0} where
   looks_at size which cells seen =
       record {
         start = Container (look_start which);
+        -- the party that the pass was last makes the call, if the pass has been a party
         by = λ was p. IfSome was (λ q. q ≡ p);
+        -- what holds of the call between two steps, and which call of the model is then under way
         stands = λ capacity c. (c.capacity ≡ capacity) × LookIn size capacity c.stage;
         flight = λ c m. flights.Container (calls.Look which c);
         answer = λ changed m. looked which (state_of_look cells seen m) changed;
@@ -82,12 +86,12 @@ module _ {T : Type 0} where
   abbrev pub KeepsState : (old new : View T) → Type 0
   KeepsState old new = (p : ℕ) → old.party ≡ Some p → (new.party ≡ Some p) × (new.state ≡ old.state)
 
-  -- each value that is shown was copied by the party of the view, from its index
+  -- each value that the state shows was copied by the party of the view, from the index at which it is shown
   abbrev pub ShowsCopied : Showing T → View T → Type 0
   ShowsCopied m v =
       (p i : ℕ) (value : T) → v.party ≡ Some p → shown_at m.elements i ≡ Some value → WasCopied p i value v.seen
 
--- ---- what is known of it
+-- ---- what is known of a look at each stage
 
 module _ {T : Type 0} (code : Coding T) (which : LookOf) (cells : ℕ) (seen : Numbers) where
   -- the look that the pass makes, as a call of the model
@@ -122,10 +126,11 @@ module _ {T : Type 0} (code : Coding T) (which : LookOf) (cells : ℕ) (seen : N
   abbrev pub BeginsLook : View T → Looking T → Showing T → Type 0
   BeginsLook base c m = (c ≡ first_look base.capacity) × (base.capacity ≡ cells) × BeginsWith which base m
 
-  -- the look waits to begin, or is under way, once the call before it had ended
+  -- the look is about to begin, or under way, counted from the view in which the last call
+  -- of the pass had ended
   abbrev pub RestedLooks : View T → View T → Looking T → Showing T → Type 0
   RestedLooks = AtWaiting code kinds.Container BeginsLook StateLooks
 
-  -- the look has ended, once the call before it had ended
+  -- the look has ended, counted from the view in which the last call of the pass had ended
   abbrev pub RestedLooked : View T → Bool → Showing T → View T → Type 0
   RestedLooked = EndsSettled code kinds.Container StateLooked

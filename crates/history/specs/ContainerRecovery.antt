@@ -1,4 +1,5 @@
--- A recovery of containers as a call of the model: where it stands, and what it has written there.
+-- A recovery of containers as a call of the model: which indices and words it may be at, by its stage, and
+-- which events it has written there, by its visits of the owner's indices.
 use Rattle.std.specs.Prelude.{◌≡◌, ℕ, ◌<◌, ◌==◌, if◌then◌else◌, Bool, true, false, Option, Some, None, IfSome, List, [], ◌∷◌, ◌++◌}
 use Rattle.steps.specs.Container.Layout.{is_even}
 use Rattle.steps.specs.Container.Recover.{recover_kept}
@@ -54,19 +55,21 @@ pub data Came (T : Type 0) : Type 0 where
   HasFreed : Option T → (hid locked : Bool) → Came T
 
 module _ {T : Type 0} where
-  -- a recovery hides nothing where nothing stood, and locks in the mode that locks alone
+  -- a visit may have hidden a value only where one was found, and locked the container only
+  -- in the mode that locks
   abbrev pub MayCome : ReleaseMode → Came T → Type 0
   MayCome mode (HasAsked value) = Unit {0}
   MayCome mode (HasFound found) = Unit {0}
   MayCome mode (HasFreed found hid locked) = (found ≡ None → hid ≡ false) × (locked ≡ true → mode ≡ LockIfLastIndex)
 
-  -- what a recovery writes of an index up to its answer: the value there, copied and asked about, or that there is none
+  -- what a recovery writes of an index up to the answer to its question: that nothing stands there, or a copy
+  -- of the value, the question and the answer yes
   abbrev pub wrote_found : (p owner index : ℕ) → Option T → List (Event T)
   wrote_found p owner index None = Shown p index ∷ []
   wrote_found p owner index (Some value) =
       Copied p index value ∷ Asked p index owner ∷ Told p index owner ∷ []
 
-  -- what a recovery wrote of an index with which it came so far
+  -- what a recovery wrote of an index, by how far it came with it
   abbrev pub wrote_of : (p owner index : ℕ) → Came T → List (Event T)
   wrote_of p owner index (HasAsked value) = Copied p index value ∷ Asked p index owner ∷ []
   wrote_of p owner index (HasFound found) = wrote_found p owner index found
@@ -74,47 +77,51 @@ module _ {T : Type 0} where
       wrote_found p owner index found
       ++ FreedOf p index owner ∷ (when hid (Hidden p index) ++ when locked (Locked p))
 
-  -- what a recovery wrote of these indices, of which the last comes first
+  -- what a recovery wrote at these visits, of which the last one comes first in the list
   abbrev pub wrote_visits : (p owner : ℕ) → List (ℕ × Came T) → List (Event T)
   wrote_visits p owner [] = []
   wrote_visits p owner (visit ∷ before) = wrote_visits p owner before ++ wrote_of p owner visit.0 visit.1
 
-  -- ---- how they go on with a step: it comes further with the last of them
+  -- ---- how the visits change with a step: the recovery comes further with the last one, or begins another
 
   -- the visits with the last one changed
   abbrev pub with_last : (Came T → Came T) → List (ℕ × Came T) → List (ℕ × Came T)
   with_last on [] = []
   with_last on (visit ∷ before) = (visit.0, on visit.1) ∷ before
 
-  -- the visit after a yes to its question: it has found the value that it asked about
+  -- the visit after the answer yes to its question: the recovery has found the value that it asked about
   abbrev pub told : Came T → Came T
   told (HasAsked value) = HasFound (Some value)
   told (HasFound found) = HasFound found
   told (HasFreed found hid locked) = HasFreed found hid locked
 
-  -- the visit after its cell was emptied: nothing is hidden or locked yet
+  -- the visit after the recovery emptied the index's cell: it has not hidden the value, nor
+  -- locked the container
   abbrev pub freed : Came T → Came T
   freed (HasAsked value) = HasFreed (Some value) false false
   freed (HasFound found) = HasFreed found false false
   freed (HasFreed found hid locked) = HasFreed found hid locked
 
-  -- whether the visit, once its cell is empty, has also hidden the value
+  -- the visit after the step that hides the value, if it has emptied the cell: `now` says
+  -- whether that step hid it
   abbrev pub hides : Bool → Came T → Came T
   hides now (HasAsked value) = HasAsked value
   hides now (HasFound found) = HasFound found
   hides now (HasFreed found hid locked) = HasFreed found now locked
 
-  -- the visit after its lock, once its cell is empty
+  -- the visit after the recovery locked the container, if it has emptied the cell
   abbrev pub came_locked : Came T → Came T
   came_locked (HasAsked value) = HasAsked value
   came_locked (HasFound found) = HasFound found
   came_locked (HasFreed found hid locked) = HasFreed found hid true
 
-  -- the visits once the number of an element was loaded: under an even number nothing stands
+  -- the visits once the number of the element at the index was loaded: under an even number nothing stands
+  -- there, which is a visit
   abbrev pub seen_under : (index count : ℕ) → List (ℕ × Came T) → List (ℕ × Came T)
   seen_under index count visits = if is_even count then (index, HasFound None) ∷ visits else visits
 
-  -- the visits after a step of the lock: where the counter was exchanged, the last visit has locked the container
+  -- the visits after a step of the lock that was handed this old value: where the counter was exchanged, the
+  -- last visit has locked the container
   abbrev pub locked_with : Lock → ℕ → List (ℕ × Came T) → List (ℕ × Came T)
   locked_with (locks.Counts count) old visits = visits
   locked_with (locks.ExchangesCounter counter) old visits =
@@ -137,9 +144,10 @@ module _ {T : Type 0} where
   visits_after owner recovers.LoadsCounterAgain old value visits = visits
   visits_after owner (recovers.AddsChange state) old value visits = visits
 
-  -- ---- which they are at a stage
+  -- ---- which visits a recovery may have at a stage
 
-  -- the index is to be freed under this number: of a yes only the call knows as yet
+  -- A visit whose cell the recovery is about to empty: it asked about a value, under an odd number of the
+  -- element, or it found that nothing stood there, under an even one.
   abbrev pub IsToFree : ℕ → Came T → Type 0
   IsToFree count (HasAsked value) = is_even count ≡ false
   IsToFree count (HasFound None) = is_even count ≡ true
@@ -170,7 +178,8 @@ module _ {T : Type 0} where
   VisitsAt recovers.LoadsCounterAgain value visits = Unit {0}
   VisitsAt (recovers.AddsChange state) value visits = Unit {0}
 
-  -- the event of a yes that the recovery has heard, and that its next step writes
+  -- the event of an answer yes that the recovery has heard, of which its visits tell after the next step;
+  -- none at other stages
   abbrev pub told_yet : (p owner : ℕ) → RecoverStage → List (Event T)
   told_yet p owner recovers.LoadsCounter = []
   told_yet p owner (recovers.LoadsCell index) = []
@@ -202,7 +211,9 @@ module _ {T R : Type 0} (code : Coding T) (words_in : R → List ℕ) where
   recovers_values given =
       record {
         start = Container (Recover given.owner given.mode);
+        -- the party that the pass was last makes the call, if the pass has been a party
         by = λ was p. IfSome was (λ q. q ≡ p);
+        -- what holds of the call between two steps, and which call of the model is then under way
         stands = λ capacity c.
             (c.capacity ≡ capacity) × RecoverIn code.size capacity given.mode c.stage;
         flight = λ c m. flights.Container

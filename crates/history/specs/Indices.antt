@@ -45,7 +45,9 @@ module _ {T : Type 0} where
   takes_index =
       record {
         start = Indices Acquire;
+        -- the party that the pass was last makes the call, if the pass has been a party
         by = λ was p. IfSome was (λ q. q ≡ p);
+        -- what holds of the call between two steps, and which call of the model is then under way
         stands = λ capacity c. (c.capacity ≡ capacity) × (0 < capacity) × StandsIn capacity c.stage;
         flight = λ c m.
             flights.Indices
@@ -70,7 +72,9 @@ module _ {T : Type 0} where
   gives_index index =
       record {
         start = Indices (Release index modes.Default);
+        -- any party may make the call, whichever party the pass was last
         by = λ was p. Unit {0};
+        -- what holds of the call between two steps, and which call of the model is then under way
         stands = λ capacity c. (c.capacity ≡ capacity) × (index < capacity);
         flight = λ c m.
             flights.Indices
@@ -95,7 +99,9 @@ module _ {T : Type 0} where
   gives_or_locks index =
       record {
         start = Indices (Release index modes.LockIfLastIndex);
+        -- any party may make the call, whichever party the pass was last
         by = λ was p. Unit {0};
+        -- what holds of the call between two steps, and which call of the model is then under way
         stands = λ capacity c. (c.capacity ≡ capacity) × (index < capacity);
         flight = λ c m.
             flights.Indices
@@ -114,7 +120,9 @@ module _ {T : Type 0} where
   counts_out =
       record {
         start = Indices BorrowedIndices;
+        -- the party that the pass was last makes the call, if the pass has been a party
         by = λ was p. IfSome was (λ q. q ≡ p);
+        -- what holds of the call between two steps, and which call of the model is then under way
         stands = λ capacity c. Unit {0};
         flight = λ c m.
             flights.Indices
@@ -133,7 +141,9 @@ module _ {T : Type 0} where
   looks_locked =
       record {
         start = Indices IsLocked;
+        -- the party that the pass was last makes the call, if the pass has been a party
         by = λ was p. IfSome was (λ q. q ≡ p);
+        -- what holds of the call between two steps, and which call of the model is then under way
         stands = λ capacity c. Unit {0};
         flight = λ c m.
             flights.Indices

@@ -1,4 +1,5 @@
--- Which events are whose, and who has seen all of them.
+-- Which events are a party's, which are those of a seat's parties, and that some seat with a share has seen
+-- all events (`Known`).
 use Rattle.std.specs.Prelude.{◌≡◌, ◌<◌, ◌⊎◌, ℕ, ◌==◌, Option, Some, None, List, [], ◌∷◌, ◌++◌, sum_by, if◌then◌else◌}
 use mathlib.Core.Option.{some}
 use lib.ListN.{get_elem?}
@@ -7,7 +8,7 @@ use Rattle.model.specs.declared.event.Event.{Event}
 use Rattle.model.specs.Reading.{whose, is_party}
 use Rattle.history.specs.declared.view.View.{View}
 
--- a number, where the party is one of this seat's
+-- the number n where there is a party and seat j acts for it, else 0
 abbrev pub if_owned : (ℕ → ℕ) → ℕ → Option ℕ → ℕ → ℕ
 if_owned owner j None n = 0
 if_owned owner j (Some p) n = if owner p == j then n else 0
@@ -32,25 +33,26 @@ module _ {T : Type 0} where
   by_party None events = []
   by_party (Some p) events = events_by p events
 
-  -- what a measure gives to an event of a party of this seat
+  -- the measure `f` of an event, where it is of a party for which seat j acts, else 0
   abbrev pub owned : (ℕ → ℕ) → ℕ → (Event T → ℕ) → Event T → ℕ
   owned owner j f e = if_owned owner j (whose e) (f e)
 
-  -- the pass knows these events: as what it has seen itself, or as what the pass had seen that it took over
+  -- the pass knows just these events: it has seen them, or a pass that it took in had seen them
   abbrev pub HasSeen : View T → List (Event T) → Type 0
   HasSeen v events = (v.seen ≡ events) ⊎ (v.other ≡ events)
 
-  -- the shares make the whole, some seat with a share has seen all, and each event is some party's
+  -- The shares of all seats make the whole, some seat with a share has seen all events, and each
+  -- event is some party's.
   pub record Known (views : List (View T)) (events : List (Event T)) : Type 0 where
     pub shares : Shares (λ (v : View T). v.share) views
-    -- the number of a seat with a share
+    -- a seat with a share, and its view
     pub by : ℕ
     pub last : View T
     pub at : get_elem? views by ≡ some last
     pub any : 0 < last.share.part
     -- that seat has seen all events
     pub all : HasSeen last events
-    -- each event is some party's
+    -- each event is of a party
     pub someone : sum_by (λ e. of_none (whose e)) events ≡ 0
     -- a seat without a share made nothing and has no call under way
     pub spent : (j : ℕ) (v : View T) → get_elem? views j ≡ some v → v.share.part ≡ 0

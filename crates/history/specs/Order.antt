@@ -9,10 +9,11 @@ use Rattle.model.specs.Linearizable.{Call, calls_of}
 use Rattle.history.specs.declared.view.View.{View}
 
 module _ {T : Type 0} where
-  -- a call of this party stands in the history with this answer: behind all that its pass had seen, and its end is in
-  -- what its pass has seen now
+  -- The call that led a pass from the view `old` to the view `new` stands in the history with this answer: it
+  -- begins behind all that the pass had seen, and its end is among what the pass has seen now.
   pub record StandsIn (p : ℕ) (start : Start T) (answer : Answer T) (old new : View T)
       (history : List (Event T)) : Type 0 where
+    -- the call in the history: this party's, begun as `start`
     pub call : Call T
     pub there : Contains (calls_of history) call
     pub party : call.party ≡ p
@@ -25,7 +26,7 @@ module _ {T : Type 0} where
     -- its end is in what is seen now
     pub before : ends < length new.seen
 
-  -- none of these events ends a call of this party
+  -- no event of the list ends a call of this party
   abbrev pub EndsNone : ℕ → List (Event T) → Type 0
   EndsNone p [] = Unit {0}
   EndsNone p (Finished q start answer ∷ es) = (q ≢ p) × EndsNone p es

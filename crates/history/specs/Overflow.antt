@@ -1,4 +1,5 @@
--- The calls on the overflowing queue as calls of the model; those on its roles and its lengths are any queue's.
+-- The calls of an overflowing queue that push and pop, as calls of the model. The calls on its roles and its
+-- lengths are those of any queue (`Queues`).
 use Rattle.std.specs.Prelude.{◌≡◌, ◌⊎◌, ℕ, ◌-◌, ◌^◌, ◌<◌, ◌==◌, Bool, false, Some, None, List, [], ◌∷◌}
 use Rattle.std.specs.List.{AllByRecursion}
 use Rattle.steps.specs.declared.copied.OneWord.{OneWord}
@@ -31,12 +32,13 @@ abbrev pub over_push_skips : PushStage → ℕ → Bool
 over_push_skips pushes.LoadsWrite n = n == 2 ^ 64 - 1
 over_push_skips stage n = false
 
--- the push has a word to ask for at this stage: without capacity it has none, and no such push is driven
+-- the push has a word to ask for at this stage; without capacity it has none, and the
+-- driver makes no such push
 abbrev pub HasPushWord : PushStage → Type 0
 HasPushWord pushes.HandsBack = ⊥
 HasPushWord stage = Unit {0}
 
--- a push that ended so is a call of the history; one whose own number comes back is none
+-- a push that ended in this way is a call of the history; one that hands back its own index is none
 abbrev pub HasActed : PushEnd → Type 0
 HasActed Own = ⊥
 HasActed end = Unit {0}
@@ -68,7 +70,9 @@ module _ {T : Type 0} where
   pushes_over v =
       record {
         start = Queues (PushIndex v);
+        -- any party may make the call, whichever party the pass was last
         by = λ was p. Unit {0};
+        -- what holds of the call between two steps, and which call of the model is then under way
         stands = λ capacity c. (capacity < 2 ^ 32) × (c.capacity ≡ capacity) × HasPushWord c.stage;
         flight = λ c m. flights.Queues (Overflow (overflows.Push
             (record { call = c; given = v; room = m })));
@@ -87,7 +91,9 @@ module _ {T : Type 0} where
   pops_over =
       record {
         start = Queues Pop;
+        -- any party may make the call, whichever party the pass was last
         by = λ was p. Unit {0};
+        -- what holds of the call between two steps, and which call of the model is then under way
         stands = λ capacity c. (capacity < 2 ^ 32) × (c.capacity ≡ capacity) × HasPopWord c.stage;
         flight = λ c m. flights.Queues (Overflow (overflows.Pop
             (record { call = c; given = tt; room = m })));

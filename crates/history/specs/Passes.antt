@@ -6,12 +6,13 @@ use Rattle.history.specs.declared.view.View.{View}
 use Rattle.history.specs.History.{IsBeginning, AreFirst}
 
 module _ {T : Type 0} where
-  -- with the whole share, the history is what it made: every measure of the events says so
+  -- A pass with the whole share has made its whole history: by every measure, what it has
+  -- seen is what it made.
   abbrev pub MissesNothing : View T → Type 0
   MissesNothing v = IsAll v.share → (f : Event T → ℕ) → sum_by f v.seen ≡ sum_by f v.made
 
-  -- The share as it was, and a history and a run that go on from those that were known. That they are a run of the
-  -- machine of its kind is a law of each pass. Who has the whole share misses nothing.
+  -- The pass kept its share, and its history and its run go on from those that it knew. With the whole share
+  -- it misses nothing. That the history is one of a run of the structure's kind is a law of each pass.
   pub record Goes (old new : View T) : Type 0 where
     pub share : new.share ≡ old.share
     -- what had been seen is a beginning of what is seen
@@ -21,14 +22,18 @@ module _ {T : Type 0} where
     -- with the whole share nothing is missing
     pub all : MissesNothing new
 
-  -- a new pass has seen the same, made nothing and is no party yet; the share is halved
+  -- The pass `old` was split into `left`, which goes on as it was, and `right`, a new one that has seen the
+  -- same, has made nothing and is no party yet. Each has half of the share.
   pub record HasSplit (old left right : View T) : Type 0 where
+    -- the pass that was split has seen, has made and is what it was
     pub seen : left.seen ≡ old.seen
     pub made : left.made ≡ old.made
     pub party : left.party ≡ old.party
+    -- the new pass has seen the same, and has made nothing, as no party
     pub right_seen : right.seen ≡ old.seen
     pub right_made : right.made ≡ []
     pub right_party : right.party ≡ None
+    -- both know the run that was known; the count of changes by others stays with the first
     pub turns : left.turns ≡ old.turns
     pub right_turns : right.turns ≡ old.turns
     pub others : left.others ≡ old.others
@@ -38,18 +43,25 @@ module _ {T : Type 0} where
     pub aside : left.aside ≡ old.aside + 1
     pub right_asked : right.asked ≡ 0
     pub right_aside : right.aside ≡ 0
+    -- each has half of the share
     pub share : left.share ≡ half_of old.share
     pub right_share : right.share ≡ half_of old.share
 
-  -- what both had seen are beginnings of one history; if both shares together are the whole, one of them had seen all of it
+  -- The pass `theirs` was joined into `mine`. The joined pass knows one history, of which what
+  -- each of the two had seen is a beginning, and one run. With the whole share it has seen just
+  -- what one of the two had seen.
   pub record HasJoined (mine theirs new : View T) : Type 0 where
+    -- it made what both made, is the party that `mine` was, and has both shares
     pub made : new.made ≡ mine.made ++ theirs.made
     pub party : new.party ≡ mine.party
     pub share : new.share ≡ both_of mine.share theirs.share
+    -- what each of the two had seen is a beginning of what it has seen, and their turns are
+    -- first turns of its own
     pub ours : IsBeginning mine.seen new.seen
     pub others : IsBeginning theirs.seen new.seen
     pub ours_ran : AreFirst mine.turns new.turns
     pub theirs_ran : AreFirst theirs.turns new.turns
-    -- each operation of the join is no step of a call
+    -- each operation of the join is aside: no step of a call
     pub aside : new.asked + (mine.aside + theirs.aside) ≡ (mine.asked + theirs.asked) + new.aside
+    -- with the whole share, one of the two had seen all that it has seen
     pub whole : IsAll new.share → (new.seen ≡ mine.seen) ⊎ (new.seen ≡ theirs.seen)

@@ -1,4 +1,5 @@
--- The calls on queues of indices as calls of the model.
+-- The calls on queues of indices as calls of the model: where each may stand, and which events it writes
+-- (`Calling`, in `Stages`).
 use Rattle.std.specs.Prelude.{◌≡◌, ℕ, ◌-◌, ◌^◌, ◌<◌, ◌==◌, Bool, true, false, IfSome, List, [], ◌∷◌}
 use Rattle.history.specs.Stages.{Calling}
 use Rattle.model.specs.Families.Queues.Calls.{popped, length_answer}
@@ -37,7 +38,7 @@ abbrev pub push_skips : pushes.PushStage → ℕ → Bool
 push_skips pushes.TheVariants.LoadsWrite n = n == 2 ^ 64 - 1
 push_skips stage n = false
 
--- where a push stores its word, it is in the cell of the write position
+-- a push that stores its index stores it to the cell of the write position
 abbrev pub PushStage : ℕ → pushes.PushStage → Type 0
 PushStage capacity (pushes.TheVariants.StoresCell write cell at) = (0 < capacity) × (cell ≡ cell_word capacity 1 write) × (at ≡ 0)
 PushStage capacity stage = Unit {0}
@@ -58,7 +59,9 @@ module _ {T : Type 0} where
   pushes_index v =
       record {
         start = Queues (PushIndex v);
+        -- any party may make the call, whichever party the pass was last
         by = λ was p. Unit {0};
+        -- what holds of the call between two steps, and which call of the model is then under way
         stands = PushStands;
         -- loading the last position or version ends it outside the history
         skips = λ c n. push_skips c.stage n;
@@ -74,7 +77,7 @@ module _ {T : Type 0} where
 abbrev pub Taking : Type 0
 Taking = pop_calls.Pop ℕ OneWord
 
--- where a pop loads a word, it is in the cell of the read position
+-- a pop that loads an index loads it from the cell of the read position
 abbrev pub PopStage : ℕ → pops.PopStage → Type 0
 PopStage capacity (pops.TheVariants.LoadsCell read cell at) = (0 < capacity) × (cell ≡ cell_word capacity 1 read) × (at ≡ 0)
 PopStage capacity stage = Unit {0}
@@ -87,7 +90,7 @@ PopStands capacity c = (capacity < 2 ^ 32) × (c.capacity ≡ capacity) × PopSt
 abbrev pub Peeking : Type 0
 Peeking = peek_calls.Peek ℕ OneWord
 
--- where a pop or a peek loads a word, it is that of a position's cell
+-- a peek that loads an index loads it from the cell of some position
 abbrev pub PeekStage : ℕ → peeks.PeekStage → Type 0
 PeekStage capacity (peeks.TheVariants.LoadsCell cell at) =
     (position : ℕ) × (0 < capacity) × (cell ≡ cell_word capacity 1 position) × (at ≡ 0)
@@ -109,7 +112,9 @@ module _ {T : Type 0} where
   pops_index =
       record {
         start = Queues Pop;
+        -- any party may make the call, whichever party the pass was last
         by = λ was p. Unit {0};
+        -- what holds of the call between two steps, and which call of the model is then under way
         stands = PopStands;
         -- no word that it loads ends it outside the history
         skips = λ c n. false;
@@ -121,13 +126,15 @@ module _ {T : Type 0} where
         wrote_all = λ capacity p from e m es. es ≡ pop_wrote p m.0 e;
       }
 
-  -- A peek at an index, by the party that the pass has been, if it has been one. It ends with whether there was one,
-  -- which is then in its room, and writes nothing between its begin and its end.
+  -- A peek at an index, by any party. It ends with whether there was one, which is then in its room, and
+  -- writes nothing between its begin and its end.
   abbrev pub peeks_index : Calling T Peeking OneWord Bool
   peeks_index =
       record {
         start = Queues Peek;
+        -- any party may make the call, whichever party the pass was last
         by = λ was p. Unit {0};
+        -- what holds of the call between two steps, and which call of the model is then under way
         stands = PeekStands;
         -- no word that it loads ends it outside the history
         skips = λ c n. false;
@@ -147,7 +154,9 @@ module _ {T : Type 0} where
   takes_role role =
       record {
         start = Queues (acquire_start role);
+        -- the party that the pass was last makes the call, if the pass has been a party
         by = λ was p. IfSome was (λ q. q ≡ p);
+        -- what holds of the call between two steps, and which call of the model is then under way
         stands = λ capacity c. c.word ≡ role_word role;
         flight = λ c m. flights.Queues (flying.Role (roles.Acquire (record { call = c; given = tt; room = m })));
         answer = λ b m. Truth b;
@@ -164,7 +173,9 @@ module _ {T : Type 0} where
   gives_role role =
       record {
         start = Queues (release_start role);
+        -- any party may make the call, whichever party the pass was last
         by = λ was p. Unit {0};
+        -- what holds of the call between two steps, and which call of the model is then under way
         stands = λ capacity c. c.word ≡ role_word role;
         flight = λ c m. flights.Queues (flying.Role (roles.Release (record { call = c; given = tt; room = m })));
         answer = λ e m. answers.Done;
@@ -181,7 +192,9 @@ module _ {T : Type 0} where
   looks_role role =
       record {
         start = Queues (look_start role);
+        -- the party that the pass was last makes the call, if the pass has been a party
         by = λ was p. IfSome was (λ q. q ≡ p);
+        -- what holds of the call between two steps, and which call of the model is then under way
         stands = λ capacity c. c.word ≡ role_word role;
         flight = λ c m. flights.Queues (flying.Role (roles.Look (record { call = c; given = tt; room = m })));
         answer = λ b m. Truth b;
@@ -193,7 +206,7 @@ module _ {T : Type 0} where
         wrote_all = λ capacity p from b m es. es ≡ [];
       }
 
-  -- ---- how many wait
+  -- ---- the calls on lengths
 
   -- the model's call that tells the length, or only whether it is 0 or the capacity
   abbrev pub length_start : LengthOf → QueueStart T
@@ -207,7 +220,9 @@ module _ {T : Type 0} where
   counts_waiting which size =
       record {
         start = Queues (length_start which);
+        -- the party that the pass was last makes the call, if the pass has been a party
         by = λ was p. IfSome was (λ q. q ≡ p);
+        -- what holds of the call between two steps, and which call of the model is then under way
         stands = λ capacity c. (c.capacity ≡ capacity) × (c.capacity ≡ size);
         flight = λ c m. flights.Queues (flying.Length which (record { call = c; given = tt; room = m }));
         answer = λ n m. length_answer which size n;

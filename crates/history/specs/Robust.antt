@@ -1,4 +1,5 @@
--- The calls on robust index sets as calls of the model: where each stands, and what it has written there.
+-- The calls on robust index sets as calls of the model: which indices each may be at, by its stage, and which
+-- events it has written there (`Calling`, in `Stages`).
 use Rattle.std.specs.Prelude.{◌≡◌, ◌⊎◌, ℕ, ◌<◌, ◌==◌, Bool, false, None, IfSome, Ok, Err, List, [], ◌∷◌, ◌++◌, flat_map, All, AllPairs, if◌then◌else◌}
 use Rattle.steps.specs.Indices.Robust.Acquire.{Acquired}
 use Rattle.steps.specs.Indices.Robust.Release.{Released}
@@ -35,28 +36,28 @@ use Rattle.history.specs.Stages.{Calling}
 
 -- ---- where a call stands in a set of this capacity: each index that it is at is one of the set
 
--- where a count stands at an index, that is one of the set's
+-- a count that loads a cell is at the cell of an index of the set
 abbrev pub CountIn : ℕ → Count → Type 0
 CountIn capacity (counts.LoadsCell counter index filled) = index < capacity
 CountIn capacity count = Unit {0}
 
--- where a lock counts, its index is one of the set's
+-- a lock that counts is at an index of the set
 abbrev pub LockIn : ℕ → Lock → Type 0
 LockIn capacity (locks.Counts count) = CountIn capacity count
 LockIn capacity lock = Unit {0}
 
--- where an acquire stands at an index, that index is one of the set's
+-- an acquire that fills a cell, or raises the counter after that, is at an index of the set
 abbrev pub AcquireIn : ℕ → AcquireStage → Type 0
 AcquireIn capacity (acquires.FillsCell counter index) = index < capacity
 AcquireIn capacity (acquires.Raises index raise) = index < capacity
 AcquireIn capacity stage = Unit {0}
 
--- where a release stands: it locks in the mode that locks alone
+-- a release locks only in the mode that locks, and its count is at an index of the set
 abbrev pub ReleaseIn : ℕ → ReleaseMode → ReleaseStage → Type 0
 ReleaseIn capacity mode (releases.Locks lock) = (mode ≡ LockIfLastIndex) × LockIn capacity lock
 ReleaseIn capacity mode stage = Unit {0}
 
--- where a recovery stands at an index, that index is one of the set's, and it locks only in the mode that locks
+-- a recovery is at an index of the set at each stage that has one, and it locks only in the mode that locks
 abbrev pub RecoverIn : ℕ → ReleaseMode → RecoverStage → Type 0
 RecoverIn capacity mode (recovers.LoadsCell index) = index < capacity
 RecoverIn capacity mode (recovers.Asks index owner) = index < capacity
@@ -74,8 +75,8 @@ module _ {T : Type 0} where
   filled_at p owner (acquires.Raises index raise) = Filled p index owner ∷ []
   filled_at p owner stage = []
 
-  -- What an acquire with this answer has written in all:
-  -- one that met the lock may have filled an index, which keeps its owner.
+  -- What an acquire with this answer has written in all. One that answers that the set is locked may have
+  -- filled an index, which keeps its owner.
   abbrev pub AcquireWrote : (capacity p owner : ℕ) → Acquired → List (Event T) → Type 0
   AcquireWrote capacity p owner (Ok index) es =
       (index < capacity) × (es ≡ Filled p index owner ∷ Granted p index owner ∷ [])
@@ -89,7 +90,9 @@ module _ {T : Type 0} where
   takes_owned owner =
       record {
         start = Robust (Acquire owner);
+        -- the party that the pass was last makes the call, if the pass has been a party
         by = λ was p. IfSome was (λ q. q ≡ p);
+        -- what holds of the call between two steps, and which call of the model is then under way
         stands = λ capacity c. (c.capacity ≡ capacity) × AcquireIn capacity c.stage;
         flight = λ c m.
             flights.Robust
@@ -105,13 +108,13 @@ module _ {T : Type 0} where
 
   -- ---- release
 
-  -- what a release has written at this stage
+  -- what a release has written at this stage: once the cell is empty, that the index is free
   abbrev pub freed_at : ℕ → GiveBack → ReleaseStage → List (Event T)
   freed_at p given releases.EmptiesCell = []
   freed_at p given stage = FreedOf p given.index given.owner ∷ []
 
-  -- What a release with this answer has written in all: nothing where the index was not its owner's, that the index is
-  -- free, and, where it locked the set, that too.
+  -- What a release with this answer has written in all: nothing where it failed, since the index was not its
+  -- owner's; else that the index is free, and that it locked the set, where it did.
   abbrev pub ReleaseWrote : ℕ → GiveBack → Released → List (Event T) → Type 0
   ReleaseWrote p given (Err failure) es = es ≡ []
   ReleaseWrote p given (Ok states.Unlocked) es = es ≡ FreedOf p given.index given.owner ∷ []
@@ -126,7 +129,9 @@ module _ {T : Type 0} where
   gives_owned given =
       record {
         start = Robust (Release given.index given.owner given.mode);
+        -- the party that the pass was last makes the call, if the pass has been a party
         by = λ was p. IfSome was (λ q. q ≡ p);
+        -- what holds of the call between two steps, and which call of the model is then under way
         stands = λ capacity c.
             (c.capacity ≡ capacity) × (given.index < capacity) × ReleaseIn capacity given.mode c.stage;
         flight = λ c m.
@@ -168,23 +173,25 @@ AreVisits mode bound visits =
     AllPairs (λ (x y : Visit). x.index < y.index) visits
     × All (λ (v : Visit). (v.index < bound) × MayCome mode v.came) visits
 
--- a visit of an index of this owner that has come so far
+-- a visit of this index with this owner, with how far the recovery came there
 abbrev pub visit : (index owner : ℕ) → Came → Visit
 visit index owner came = record { index = index; owner = owner; came = came }
 
--- the visits, of which the last has come so far
+-- the visits, with `came` for how far the recovery came with the last of them
 abbrev pub came_to : Came → List Visit → List Visit
 came_to came [] = []
 came_to came (v ∷ []) = visit v.index v.owner came ∷ []
 came_to came (v ∷ w ∷ visits) = v ∷ came_to came (w ∷ visits)
 
--- the last visit is of this index, and the recovery came so far with it
+-- the last visit is of this index with this owner, with which the recovery came as far as `came`, and those
+-- before are of smaller indices
 pub record HasCome (mode : ReleaseMode) (index : ℕ) (came : Came) (owner : ℕ) (visits : List Visit) : Type 0 where
   pub before : List Visit
   pub passed : AreVisits mode index before
   pub is : visits ≡ before ++ visit index owner came ∷ []
 
--- the visits of a recovery at this stage: the index that it asks about is one of them once it has the answer
+-- The visits of a recovery at this stage. An index with an owner is among them once the question
+-- about it is answered.
 abbrev pub VisitsAt : ℕ → ReleaseMode → RecoverStage → List Visit → Type 0
 VisitsAt capacity mode recovers.LoadsCounter visits = visits ≡ []
 VisitsAt capacity mode (recovers.LoadsCell index) visits = AreVisits mode index visits
@@ -219,7 +226,7 @@ abbrev pub visits_after : Recovering → List Visit → ℕ → List Visit
 visits_after call visits old = visits_taken call.stage visits old
 
 module _ {T : Type 0} where
-  -- what a recovery writes of an index with which it came so far
+  -- what a recovery writes of an index, by how far it came with it
   abbrev pub wrote_to : (p index owner : ℕ) → Came → List (Event T)
   wrote_to p index owner HasAsked = Asked p index owner ∷ []
   wrote_to p index owner WasTold = Asked p index owner ∷ Told p index owner ∷ []
@@ -232,11 +239,12 @@ module _ {T : Type 0} where
   abbrev pub wrote_of : ℕ → Visit → List (Event T)
   wrote_of p v = wrote_to p v.index v.owner v.came
 
-  -- what a recovery has written at these visits, in turn
+  -- what a recovery has written at these visits, one visit after another
   abbrev pub wrote_by : ℕ → List Visit → List (Event T)
   wrote_by p visits = flat_map (wrote_of p) visits
 
-  -- what a recovery has written at this stage beside that: its question, or a yes, which its next step tells
+  -- what a recovery has written at this stage beside that: its question, or the answer yes, of which its
+  -- visits tell after the next step
   abbrev pub wrote_now : ℕ → RecoverStage → List (Event T)
   wrote_now p recovers.LoadsCounter = []
   wrote_now p (recovers.LoadsCell index) = []
@@ -252,7 +260,9 @@ module _ {T : Type 0} where
   recovers_owned mode =
       record {
         start = Robust (Recover mode);
+        -- the party that the pass was last makes the call, if the pass has been a party
         by = λ was p. IfSome was (λ q. q ≡ p);
+        -- what holds of the call between two steps, and which call of the model is then under way
         stands = λ capacity c. (c.capacity ≡ capacity) × RecoverIn capacity mode c.stage;
         flight = λ c visits.
             flights.Robust
@@ -276,7 +286,9 @@ module _ {T : Type 0} where
   counts_owned =
       record {
         start = Robust BorrowedIndices;
+        -- the party that the pass was last makes the call, if the pass has been a party
         by = λ was p. IfSome was (λ q. q ≡ p);
+        -- what holds of the call between two steps, and which call of the model is then under way
         stands = λ capacity c. (c.capacity ≡ capacity) × CountIn capacity c.count;
         flight = λ c m.
             flights.Robust
@@ -295,7 +307,9 @@ module _ {T : Type 0} where
   looks_owned =
       record {
         start = Robust IsLocked;
+        -- the party that the pass was last makes the call, if the pass has been a party
         by = λ was p. IfSome was (λ q. q ≡ p);
+        -- what holds of the call between two steps, and which call of the model is then under way
         stands = λ capacity c. Unit {0};
         flight = λ c m.
             flights.Robust

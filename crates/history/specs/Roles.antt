@@ -14,12 +14,12 @@ use Rattle.model.specs.declared.families.queues.QueueStart.TheVariants.{Push, Po
 use Rattle.model.specs.declared.families.queues.Roles.{Roles}
 use Rattle.model.specs.Families.Queues.Reading.{publishes, hands_out, producer_after, consumer_after, producer_of, consumer_of}
 
--- the place of the word of a role, which is 1 while the role is free
+-- the place of the role's word among the words of a queue; the word is 1 while the role is free
 abbrev pub role_word : Role → ℕ
 role_word Producer = 2
 role_word Consumer = 3
 
--- who holds the role, by what a machine keeps
+-- which party holds the role, if one does, by the record of roles that a machine keeps
 abbrev pub holder : Role → Roles → Option ℕ
 holder Producer roles = roles.producer
 holder Consumer roles = roles.consumer
@@ -62,7 +62,8 @@ module _ {T : Type 0} where
   holder_by Producer events = producer_of events
   holder_by Consumer events = consumer_of events
 
-  -- the item that the event publishes or hands out, which the holder of the role alone writes
+  -- the item that the event publishes (producer) or hands out (consumer); only the holder of the role writes
+  -- such an event
   abbrev pub marks : Role → Event T → List (Item T)
   marks Producer = publishes
   marks Consumer = hands_out
@@ -71,7 +72,8 @@ module _ {T : Type 0} where
   abbrev pub HasRole : Role → List (Event T) → Type 0
   HasRole role made = sum_by (takes role) made ≡ sum_by (gives role) made + 1
 
-  -- what the holder of this role alone writes is of its holder
+  -- an event that publishes (producer) or hands out (consumer) an item is of the party
+  -- that holds the role then
   abbrev pub ByHolderOf : Role → List (Event T) → Event T → Type 0
   ByHolderOf Producer before (Published p item) = producer_of before ≡ Some p
   ByHolderOf Consumer before (HandedOut p item) = consumer_of before ≡ Some p

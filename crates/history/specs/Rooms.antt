@@ -2,7 +2,8 @@
 use Rattle.std.specs.Prelude.{ℕ, ◌-◌, List, ◌++◌, length, replicate, nat_lt, if◌then◌else◌}
 use Rattle.steps.specs.declared.copied.Buffer as buffers
 
--- zeros come after the words of a room in which a value of so many words fits
+-- the words of a room, with zeros behind them up to 128, where a value of `size` words fits;
+-- else the words alone
 abbrev pub room_of : ℕ → List ℕ → buffers.Buffer 128
 room_of size words =
     if nat_lt (length words) size

@@ -8,16 +8,16 @@ use Rattle.history.specs.declared.view.View.{View}
 use Rattle.history.specs.History.{run_of}
 
 module _ {T : Type 0} where
-  -- between the two views the pass has asked for at most so many operations
+  -- between the two views the pass has asked for at most `most` operations
   abbrev pub TakesAtMost : ℕ → (old new : View T) → Type 0
   TakesAtMost most old new = new.asked ≤ old.asked + most
 
-  -- a join asks for at most so many operations beside those that both passes had asked for
+  -- a join asks for at most `most` operations beside those that both passes had asked for
   abbrev pub JoinsWithin : ℕ → (mine other new : View T) → Type 0
   JoinsWithin most mine other new = new.asked ≤ mine.asked + other.asked + most
 
-  -- The call asked for at most so many operations alone, and so many more for each change of a word that other parties
-  -- made while it was under way.
+  -- The call asked for at most `alone` operations, and `retry` more for each change of a word that other
+  -- parties made while it was under way.
   abbrev pub TakesAlone : (alone retry : ℕ) → (old new : View T) → Type 0
   TakesAlone alone retry old new = new.asked ≤ old.asked + (alone + new.others * retry)
 

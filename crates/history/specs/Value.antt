@@ -55,7 +55,9 @@ module _ {T : Type 0} where
   acquires_producer =
       record {
         start = Atomic AcquireProducer;
+        -- the party that the pass was last makes the call, if the pass has been a party
         by = λ was p. IfSome was (λ q. q ≡ p);
+        -- what holds of the call between two steps, and which call of the model is then under way
         stands = λ capacity c. c.word ≡ producer_word;
         flight = λ c m. flights.Atomic (calls.Acquire (record { call = c; given = tt; room = m }));
         answer = λ b m. Truth b;
@@ -72,7 +74,9 @@ module _ {T : Type 0} where
   releases_producer =
       record {
         start = Atomic ReleaseProducer;
+        -- any party may make the call, whichever party the pass was last
         by = λ was p. Unit {0};
+        -- what holds of the call between two steps, and which call of the model is then under way
         stands = λ capacity c. c.word ≡ producer_word;
         flight = λ c m. flights.Atomic (calls.Release (record { call = c; given = tt; room = m }));
         answer = λ e m. answers.Done;
@@ -89,7 +93,9 @@ module _ {T : Type 0} where
   looks_at_producer =
       record {
         start = Atomic starts.HasProducer;
+        -- the party that the pass was last makes the call, if the pass has been a party
         by = λ was p. IfSome was (λ q. q ≡ p);
+        -- what holds of the call between two steps, and which call of the model is then under way
         stands = λ capacity c. c.word ≡ producer_word;
         flight = λ c m. flights.Atomic (calls.Look (record { call = c; given = tt; room = m }));
         answer = λ b m. Truth b;
@@ -121,7 +127,9 @@ module _ {T : Type 0} (code : Coding T) where
   stores_value value =
       record {
         start = Atomic (Store value);
+        -- any party may make the call, whichever party the pass was last
         by = λ was p. Unit {0};
+        -- what holds of the call between two steps, and which call of the model is then under way
         stands = λ capacity c. StoreStands code.size c.stage;
         flight = λ c m. flights.Atomic (calls.Store (record { call = c; given = value; room = m }));
         answer = λ e m. Truth e;
@@ -136,7 +144,7 @@ module _ {T : Type 0} (code : Coding T) where
 
 -- ---- loads, by way of a room that has these words
 
--- a load of a word is from the cell that was written last, and within that cell
+-- a load of a word is at the cell that was written last by the version that it has read, and within that cell
 abbrev pub LoadStands : ℕ → LoadStage → Type 0
 LoadStands size (loads.LoadsCell version cell at) =
     (cell ≡ cell_word size (before_version version)) × (at < size)
@@ -153,7 +161,9 @@ module _ {T R : Type 0} (code : Coding T) (words_in : R → List ℕ) where
   loads_value =
       record {
         start = Atomic Load;
+        -- the party that the pass was last makes the call, if the pass has been a party
         by = λ was p. IfSome was (λ q. q ≡ p);
+        -- what holds of the call between two steps, and which call of the model is then under way
         stands = λ capacity c. LoadStands code.size c.stage;
         flight = λ c m. flights.Atomic (calls.Load
             (record {
@@ -179,7 +189,9 @@ module _ {T : Type 0} where
   looks_at_version =
       record {
         start = Atomic starts.Version;
+        -- the party that the pass was last makes the call, if the pass has been a party
         by = λ was p. IfSome was (λ q. q ≡ p);
+        -- what holds of the call between two steps, and which call of the model is then under way
         stands = λ capacity c. Unit {0};
         flight = λ c m. flights.Atomic (calls.Version (record { call = c; given = tt; room = m }));
         answer = λ n m. answers.Number n;
@@ -193,7 +205,7 @@ module _ {T : Type 0} where
 
 -- ---- the values that were stored
 
--- the last of these, or the first value where there is none
+-- the last value of the list, or `first` where the list is empty
 abbrev pub last_or : {A : Type 0} → A → List A → A
 last_or first [] = first
 last_or first (x ∷ xs) = last_or x xs

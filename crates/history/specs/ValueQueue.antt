@@ -1,4 +1,5 @@
--- The calls on a queue of values as calls of the model; those on its roles and its lengths are any queue's.
+-- The calls of a queue of values that push, pop and peek, as calls of the model. The calls on its roles and
+-- its lengths are those of any queue (`Queues`).
 use Rattle.std.specs.Prelude.{◌≡◌, ℕ, ◌^◌, ◌<◌, Bool, true, false, List, [], ◌∷◌}
 use Rattle.steps.specs.declared.queues.peek.Peek.{Peek as Peeking}
 use Rattle.steps.specs.declared.queues.peek.PeekStage.{PeekStage}
@@ -26,7 +27,7 @@ use Rattle.history.specs.Queues.{push_skips}
 use Rattle.history.specs.Rooms.{room_of}
 use Rattle.history.specs.Stages.{Calling}
 
--- the place `at` of this cell is that of a word of the position's cell
+-- the place `at` of this cell is that of a word of a value, and the cell is that of the position
 abbrev pub IsWordOf : (size capacity position cell at : ℕ) → Type 0
 IsWordOf size capacity position cell at =
     (0 < capacity) × (cell ≡ cell_word capacity size position) × (at < size)
@@ -67,7 +68,9 @@ module _ {T : Type 0} (code : Coding T) where
   pushes_value v =
       record {
         start = Queues (Push v);
+        -- any party may make the call, whichever party the pass was last
         by = λ was p. Unit {0};
+        -- what holds of the call between two steps, and which call of the model is then under way
         stands = λ capacity c.
             (capacity < 2 ^ 32) × (c.capacity ≡ capacity) × PushPlace code.size capacity c.stage;
         -- loading the last position or version ends it outside the history
@@ -93,7 +96,9 @@ module _ {T R : Type 0} (code : Coding T) (words_in : R → List ℕ) where
   pops_value =
       record {
         start = Queues Pop;
+        -- any party may make the call, whichever party the pass was last
         by = λ was p. Unit {0};
+        -- what holds of the call between two steps, and which call of the model is then under way
         stands = λ capacity c.
             (capacity < 2 ^ 32) × (c.capacity ≡ capacity) × PopPlace code.size capacity c.stage;
         -- no word that it loads ends it outside the history
@@ -112,13 +117,15 @@ module _ {T R : Type 0} (code : Coding T) (words_in : R → List ℕ) where
         wrote_all = λ capacity p from e m es. es ≡ value_pop_wrote p (value_there m) e;
       }
 
-  -- A peek at a value, by the party that the pass has been, if it has been one. It ends with whether there was one,
-  -- whose words are then in its room, and writes nothing between its begin and its end.
+  -- A peek at a value, by any party. It ends with whether there was one, whose words are then in its room,
+  -- and writes nothing between its begin and its end.
   abbrev pub peeks_value : Calling T (Peeking T R) R Bool
   peeks_value =
       record {
         start = Queues Peek;
+        -- any party may make the call, whichever party the pass was last
         by = λ was p. Unit {0};
+        -- what holds of the call between two steps, and which call of the model is then under way
         stands = λ capacity c.
             (capacity < 2 ^ 32) × (c.capacity ≡ capacity) × PeekPlace code.size capacity c.stage;
         -- no word that it loads ends it outside the history

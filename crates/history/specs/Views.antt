@@ -1,4 +1,5 @@
--- The views of passes as they are made, cut, put together and looked through.
+-- The views of passes as a table opens, as a pass is split and as two are joined, and what a look through the
+-- history leaves of a view (`Looks`).
 use Rattle.std.specs.Prelude.{◌≡◌, ◌⊎◌, ℕ, Option, Some, None, [], ◌++◌, ◌<◌, ◌+◌, sum_by, length, slice_index}
 use Rattle.model.specs.declared.event.Event.{Event}
 use Rattle.model.specs.declared.event.Start.{Start}
@@ -55,13 +56,13 @@ module _ {T : Type 0} where
         others = 0;
       }
 
-  -- The view of a pass that was cut: half of its share is left,
-  -- and it asked for one word more, which is no step of a call.
+  -- The view of a pass that was split: half of its share is left, and it asked for one operation more, which
+  -- is aside: no step of a call.
   abbrev pub left_view : View T → View T
   left_view v = record v { share = half_of v.share; asked = v.asked + 1; aside = v.aside + 1 }
 
-  -- The view of a pass into which another is put: its share is both shares together, it made what both made, and it
-  -- goes on as the first. The join itself asked for one word, which is no step of a call.
+  -- The view of the pass v after it took in w: it has both shares, made what both made, and goes on as the
+  -- party that v was. The join asked for one operation, which is aside: no step of a call.
   abbrev pub joined_view : View T → View T → View T
   joined_view v w =
       record {
@@ -81,7 +82,7 @@ module _ {T : Type 0} where
         others = v.others;
       }
 
-  -- the view of the pass that was put into another: it has no share, and knows nothing
+  -- the view of a pass that was taken in: it has no share and knows nothing
   abbrev pub spent_view : View T
   spent_view =
       record {
@@ -101,8 +102,11 @@ module _ {T : Type 0} where
         others = 0;
       }
 
-  -- a look sees all of the history, of which both were beginnings
+  -- From the view v to the view w the pass has looked through the history: it has seen all events up to then.
+  -- What it had seen, and what a pass that it took in had seen, are beginnings of them.
   pub record Looks (code : Coding T) (kind : Kind) (size : ℕ) (v w : View T) : Type 0 where
+    -- the look changes neither party, call under way, state, share nor what the pass made; the pass
+    -- knows one history alone
     pub capacity : w.capacity ≡ v.capacity
     pub party : w.party ≡ v.party
     pub going : w.going ≡ v.going
@@ -110,19 +114,22 @@ module _ {T : Type 0} where
     pub share : w.share ≡ v.share
     pub other : w.other ≡ []
     pub made : w.made ≡ v.made
-    -- what was asked for since is no step of a call
+    -- each operation asked for since is aside: no step of a call
     pub aside : w.asked + v.aside ≡ v.asked + w.aside
+    -- what it had seen, and what the pass that it took in had seen, are beginnings of what it has seen
     pub mine : IsBeginning v.seen w.seen
     pub theirs : IsBeginning v.other w.seen
-    -- who has the whole had seen all of it, and each event in it is its own or of who was taken in
+    -- with the whole share it had seen all of it, and has made all of it
     pub whole : IsAll v.share → (w.seen ≡ v.seen) ⊎ (w.seen ≡ v.other)
     pub all : IsAll v.share → (f : Event T → ℕ) → sum_by f w.seen ≡ sum_by f w.made
+    -- what it has seen is a history; the run that it knew goes on to the one that it knows now, and the turns
+    -- that the pass which it took in knew are first turns of that
     pub history : IsHistory code kind size w.seen
-    -- the run that each of both knew goes on to this one
     pub ran : Continues code kind size v w
     pub theirs_ran : AreFirst v.other_turns w.turns
+    -- it made just the events of its parties among those that it has seen
     pub parties : IsOfParties w
-    -- what it had not seen is of other parties
+    -- a pass with a share that knew one history alone finds no new event of its own parties
     pub apart : v.other ≡ [] → 0 < v.share.part → (p : ℕ) → parties.owner p ≡ parties.seat
         → events_by p mine.rest ≡ []
 
@@ -130,18 +137,18 @@ module _ {T : Type 0} where
   abbrev pub LooksOnce : Coding T → Kind → ℕ → View T → View T → Type 0
   LooksOnce code kind size v w = Looks code kind size v w × (w.asked ≡ v.asked + 1)
 
-  -- a look at this word, and what the machine had there
+  -- the pass looked through the history by a look at this word of the table, in which it found `found`
   pub record LooksAt (code : Coding T) (kind : Kind) (size word : ℕ) (v : View T) (found : ℕ) (w : View T) : Type 0 where
     pub looks : Looks code kind size v w
-    -- the machine that it looked at
+    -- the machine that it looked at, whose events are all that it has seen then
     pub trace : Trace T
     pub run : IsRun code kind size trace
     pub seen : w.seen ≡ trace.events
     -- its word had this value
     pub word_is : word < length trace.world.words → found ≡ slice_index trace.world.words word
 
-  -- Where another may write for a call under way, of which the look would not know that it has seen it, nothing is
-  -- promised of a look while one is under way.
+  -- What is told of a look. In an overflowing queue another party may write an event for the pass's call
+  -- under way, so nothing is told there while the pass has one.
   abbrev pub WhenIdle : Kind → Option (Start T × Flight T) → Type 0 → Type 0
   WhenIdle kinds.Overflow going Told = going ≡ None → Told
   WhenIdle kind going Told = Told

@@ -20,21 +20,23 @@ ghost use Rattle.history.specs.Acts.{ActsByPlace, IsSet};
 ghost use Rattle.history.specs.Order.{StandsIn, EndsNone};
 ghost use Rattle.history.specs.Steps.{TakesAlone, TakesInRun};
 
-/// In a history of a bit set or of a counting bit set the calls act place by place: a set, and a reset of the next place
-/// that answers one, at one moment; a reset of all, and one that answers none, once at each place (but for a count that
-/// was raised 2^64 times in all). In the order of these acts they answer as the set does. The lemma is `histories_act`
-/// of `proofs/Acts/Laws.antt`.
+/// In a history of a bit set or of a counting bit set the calls act place by place: a set, and a reset of the next
+/// place that answers one, at one moment; a reset of all, and one that answers none, once at each place (but for a
+/// count that was raised 2^64 times in all). In the order of these acts each call answers what the bit set, or the
+/// counting bit set, answers when calls come one by one. The lemma is `histories_act` of `proofs/Acts/Laws.antt`.
 pub fn histories_act<T>()
     ensures { (code : Coding T) (kind : Kind) (capacity : ℕ) (events : List (Event T)) → IsSet kind
         → IsHistory code kind capacity events → ActsByPlace kind capacity events }
 {}
 
-/// The same of every run of a machine, with no bound of turns or parties. The lemma is `runs_act` there.
+/// In every run of a machine of a bit set or a counting bit set, without a bound on turns or parties, the calls act
+/// place by place as in `histories_act`. The lemma is `runs_act` of `proofs/Acts/Laws.antt`.
 pub fn runs_act<T>()
     ensures { (t : Trace T) → IsReachedOn t → IsSet t.world.kind → ActsByPlace t.world.kind t.world.capacity t.events }
 {}
 
-/// The same of every machine, whatever turns it was given. The lemma is `machines_act` of `proofs/Acts/Machines.antt`.
+/// On every machine of a bit set or a counting bit set, whatever turns it was given (refused ones change nothing), the
+/// calls act place by place as in `histories_act`. The lemma is `machines_act` of `proofs/Acts/Machines.antt`.
 pub fn machines_act<T>()
     ensures { (t : Trace T) → IsReached t → IsSet t.world.kind → ActsByPlace t.world.kind t.world.capacity t.events }
 {}
@@ -47,21 +49,22 @@ pub fn calls_stand<T>()
         → (history : List (Event T)) → IsBeginning new.seen history → StandsIn p start answer old new history }
 {}
 
-/// Of two such calls the one ended before the other began, where what the pass of the other had seen by then goes on from
-/// what the pass of the one had seen as it ended: of one pass, or of one that took the other in. The lemma is `in_order`
-/// there.
+/// Of two calls that passes made, the first ended before the second began, if what the second's pass had seen before
+/// its call goes on from what the first's pass had seen after its own. This holds where one pass made both, or the
+/// second's pass had taken in the first's. The lemma is `in_order` of `proofs/Acts/Order.antt`.
 pub fn calls_are_in_order<T>()
     ensures { (p q : ℕ) (s t : Start T) (a b : Answer T) (old new later last : View T) (history : List (Event T))
         → (x : StandsIn p s a old new history) → (y : StandsIn q t b later last history)
         → IsBeginning new.seen later.seen → Precedes x.call y.call }
 {}
 
-/// One run of the model is the whole life of a table. From call to call the run that a pass knew goes on to the one that it
-/// knows: turns, none refused, lead from the one to the other (`calls`). So it is over splits and joins: a pass that is split
-/// off knows the run of the other, and what two passes knew are beginnings of what the joined one knows. The first pass of a
-/// table that opens empty knows the run in which nothing has happened (`first`). A value, or a queue at a later position,
-/// opens with a run that led there, which its first pass knows. Of any two seats of a table, at any moment, the run that the
-/// one knows goes on to the run that the other knows (`tables`). The lemmas are in `proofs/OneRun.antt`.
+/// One run of the model is the whole life of a table. From call to call the run that a pass knew goes on to the one
+/// that it knows: turns, none refused, lead from the one to the other (`calls`). Over splits and joins too: a pass that
+/// is split off knows the run of the pass that was split (`splits`), and the runs that two passes knew are beginnings
+/// of the one that the joined pass knows (`joins`). The first pass of a table that opens empty knows the run in which
+/// nothing has happened (`first`). A value, or a queue at a later position, opens with a run that led there, which its
+/// first pass knows. Of any two seats of a table, at any moment, the run that the one knows goes on to the run that the
+/// other knows (`tables`). The lemmas are in `proofs/OneRun.antt`.
 pub fn runs_go_on<T>()
     ensures calls { (code : Coding T) (kind : Kind) (capacity : ℕ) (a b c : View T) → Continues code kind capacity a b
         → Continues code kind capacity b c → Continues code kind capacity a c }
@@ -75,10 +78,11 @@ pub fn runs_go_on<T>()
         → IsMachine code kind capacity s → SeatsKnowOneRun s }
 {}
 
-/// What the steps of a call say of the run that the pass knows after it. `TakesAlone` bounds them by a count of the pass:
-/// of the changes of words that others made while the call was under way. In the run that the pass knows, its party's
-/// latest call is this one, and the run counts as many changes by others while it was under way. So the bound is the one
-/// that the model promises of that call. The lemma is `takes_in_run` of `proofs/Latest.antt`.
+/// A bound on the operations of a call, said of the run that the pass knows after it. `TakesAlone` bounds
+/// them by a number that the pass keeps: of the changes of words that others made while the call was under
+/// way. In the run that the pass knows, its party's latest call is this one, and the run counts as many
+/// changes by others while it was under way. So the bound is the one that the model promises of that call.
+/// The lemma is `takes_in_run` of `proofs/Latest.antt`.
 pub fn steps_are_bounded<T>()
     ensures { (code : Coding T) (kind : Kind) (capacity alone retry p : ℕ) (start : Start T) (answer : Answer T) (wrote : List (Event T))
         (old new : View T) → Called p start answer wrote old new → new.party ≡ Some p → Knows code kind capacity new

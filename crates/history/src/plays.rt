@@ -1,10 +1,10 @@
-//! How seats are made of one another. These types are for the proofs alone.
+//! How a split makes two seats of one (`Cut`), and a join one of two (`Both`). These types are for the proofs alone.
 
 use super::view::View;
 use atomic_table::{Join, Split};
 use steps::words::Words;
 
-/// A new seat of the same table.
+/// A split: it makes a new seat of the same table, with half of the share.
 pub struct Cut;
 
 impl<T: Words> Split<View<T>> for Cut {
@@ -15,7 +15,7 @@ impl<T: Words> Split<View<T>> for Cut {
     ghost right = { right_view };
 }
 
-/// One seat in place of two.
+/// A join: one seat takes in another, whose seat keeps nothing.
 pub struct Both;
 
 impl<T: Words> Join<View<T>> for Both {

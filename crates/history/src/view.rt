@@ -1,6 +1,6 @@
-//! What a seat knows. No value of this type is made: it is for contracts and proofs. What a view holds is data of proofs:
-//! as Rust types, events and calls under way would be written out in the proof of each function above, once for each
-//! type that a view is part of.
+//! What the seat of a pass knows (`View`). No value of this type is made: it is for contracts and proofs. What a view
+//! holds is data of proofs: as Rust types, events and calls under way would be written out in the proof of each
+//! function above, once for each type that a view is part of.
 ghost use Rattle.std.specs.Prelude.{List};
 ghost use base.Fml.{ftrue};
 ghost use Rattle.model.specs.declared.event.Event.{Event};
@@ -80,9 +80,9 @@ pub struct View<T> {
     pub seen: Events<T>,
     /// What a seat that was taken in has seen: a beginning of the history too.
     pub other: Events<T>,
-    /// The turns of the table's run of which `seen` are the events: its first ones.
+    /// The turns of which `seen` are the events: the first turns of the table's run.
     pub turns: Turns<T>,
-    /// Those of which `other` are the events: its first ones too.
+    /// The turns of which `other` are the events: first turns of the table's run too.
     pub other_turns: Turns<T>,
     /// The events of its own calls, and those of the seats that were taken in.
     pub made: Events<T>,
@@ -93,10 +93,10 @@ pub struct View<T> {
     /// How many operations on words it and the seats that were taken in have asked for, and how many steps the run took by which
     /// the structure opened.
     pub asked: u64,
-    /// How many of them were no steps of a call in the run that its turns make: those of splits, joins and calls that are not in
-    /// the history.
+    /// How many of these operations were no steps of a call in the run that its turns make: those of splits, joins and
+    /// calls that are not in the history.
     pub aside: u64,
-    /// How many of those that it has asked for its latest call has taken, where that is under way: the steps of the call in the machine.
+    /// How many operations its latest call has taken, where that is under way: the steps of the call in the machine.
     pub taken: u64,
     /// How many changes of words other parties made while the latest call of its party was under way, in the run that
     /// its turns make.

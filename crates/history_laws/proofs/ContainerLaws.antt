@@ -8,6 +8,7 @@ use Rattle.history_laws.specs.Containers.{IsOrderly, IsContained}
 use Rattle.history_laws.proofs.ContainerFew.{reached_contained}
 pub use Rattle.history_laws.proofs.ContainerPlain.{none_recovers, none_frees}
 
+-- an orderly history of a container says what `IsContained` has of it
 pub contained_history : {T : Type 0} (code : Coding T) (capacity : ℕ) (events : List (Event T)) → IsHistory code kinds.Container capacity events
     → IsOrderly events → IsContained events
 contained_history code capacity events history kept =

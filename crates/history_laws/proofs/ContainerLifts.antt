@@ -82,16 +82,19 @@ use Rattle.history_laws.specs.Containers.{rise, rises}
 
 -- ---- what a call may still add
 
+-- by how much an add may still raise a number: by 2, or by 1 once only the count of changes is left
 abbrev pub add_lifts : AddStage → ℕ
 add_lifts (adds.AddsChange index) = 1
 add_lifts stage = 2
 
+-- by how much a replace may still raise a number: by 2, or by 1 once only the count of changes is left
 abbrev pub replace_lifts : ReplaceStage → ℕ
 replace_lifts replaces.AddsChange = 1
 replace_lifts stage = 2
 
 module _ {T : Type 0} where
-  -- this is by how much a call of a container may still raise such a number
+  -- By how much a call of a container may still raise a word that counts an element's changes or all changes:
+  -- such numbers go up by its steps alone.
   abbrev pub container_lifts : ContainerFlight T → ℕ
   container_lifts (Add run) = add_lifts run.call.stage
   container_lifts (Replace run) = replace_lifts run.call.stage
@@ -99,38 +102,44 @@ module _ {T : Type 0} where
   container_lifts (Recover run) = 1
   container_lifts flight = 0
 
+  -- by how much the call may still raise a number after a step: not at all once it has ended
   abbrev pub lifts_left : After (ContainerFlight T) (Answer T) → ℕ
   lifts_left (GoOn flight) = container_lifts flight
   lifts_left (Done answer) = 0
 
--- ---- what its step adds
+-- ---- what a step of a call adds
 
 abbrev hides : ℕ → ℕ → ℕ
 hides count old = if old == count then 1 else 0
 
+-- by how much a step of an add raises a number, where it finds the word `old`
 abbrev add_adds : AddStage → ℕ → ℕ
 add_adds (adds.Hides index count) old = hides count old
 add_adds (adds.AddsCount index) old = 1
 add_adds (adds.AddsChange index) old = 1
 add_adds stage old = 0
 
+-- by how much a step of a replace raises a number, where it finds the word `old`
 abbrev replace_adds : ReplaceStage → ℕ → ℕ
 replace_adds (replaces.Hides count) old = hides count old
 replace_adds replaces.AddsCount old = 1
 replace_adds replaces.AddsChange old = 1
 replace_adds stage old = 0
 
+-- by how much a step of a remove raises a number, where it finds the word `old`
 abbrev remove_adds : RemoveStage → ℕ → ℕ
 remove_adds (removes.Hides count state) old = hides count old
 remove_adds (removes.AddsChange state) old = 1
 remove_adds stage old = 0
 
+-- by how much a step of a recovery raises a number, where it finds the word `old`
 abbrev recover_adds : RecoverStage → ℕ → ℕ
 recover_adds (recovers.Hides index count) old = hides count old
 recover_adds (recovers.AddsChange state) old = 1
 recover_adds stage old = 0
 
--- this is by how much the step of a call of a container raises such a number, where it finds this word
+-- by how much a step of a container's call raises the number of an element or of changes, where
+-- it finds the word `old`
 abbrev pub container_adds : {T : Type 0} → ContainerFlight T → ℕ → ℕ
 container_adds (Add run) old = add_adds run.call.stage old
 container_adds (Replace run) old = replace_adds run.call.stage old
@@ -138,20 +147,24 @@ container_adds (Remove run) old = remove_adds run.call.stage old
 container_adds (Recover run) old = recover_adds run.call.stage old
 container_adds flight old = 0
 
--- ---- the cells that it writes are cells of the set
+-- ---- the cells that a call writes are cells of the set
 
+-- the cell that an acquire fills is one of the set's
 abbrev AcquireWithin : ℕ → AcquireStage → Type 0
 AcquireWithin c (acquires.FillsCell counter index) = index < c
 AcquireWithin c stage = Unit {0}
 
+-- the cell that an add fills is one of the set's
 abbrev AddWithin : ℕ → AddStage → Type 0
 AddWithin c (adds.Acquires stage) = AcquireWithin c stage
 AddWithin c stage = Unit {0}
 
+-- the cell that a remove empties is one of the set's
 abbrev RemoveWithin : ℕ → GiveBack → RemoveStage → Type 0
 RemoveWithin c given (removes.Releases count stage) = given.index < c
 RemoveWithin c given stage = Unit {0}
 
+-- the cell that a recovery empties is one of the set's
 abbrev RecoverWithin : ℕ → RecoverStage → Type 0
 RecoverWithin c (recovers.EmptiesCell index count) = index < c
 RecoverWithin c stage = Unit {0}
@@ -171,14 +184,17 @@ module _ {T : Type 0} (c z : ℕ) (all : List SetAct) (done : List (Act T)) wher
   add_within : (owner : ℕ) (value : T) (run : _) → At c z all done (starts.Add value owner) (Add run) → IsWithin c (Add run)
   add_within owner value run at = grind arith
 
+  -- a remove that stands as the container's laws say is within the container
   remove_within : (index owner : ℕ) (mode : _) (run : _) → At c z all done (starts.Remove index owner mode) (Remove run)
       → IsWithin {T = T} c (Remove run)
   remove_within index owner mode run at = let placed = place_is c index in grind arith
 
+  -- a recovery that stands as the container's laws say is within the container
   recover_within : (owner : ℕ) (mode : _) (run : _) → At c z all done (starts.Recover owner mode) (Recover run)
       → IsWithin {T = T} c (Recover run)
   recover_within owner mode run at = grind arith
 
+  -- a call that stands as the container's laws say is within the container
   pub is_within : (start : ContainerStart T) (flight : ContainerFlight T) → At c z all done start flight → IsWithin c flight
   is_within (starts.Add value owner) (Add run) at = add_within owner value run at
   is_within (starts.Remove index owner mode) (Remove run) at = remove_within index owner mode run at
@@ -198,6 +214,7 @@ check_keeps count old = grind arith
 
 -- the word stands behind those of the set and before those of values
 module _ (words : List ℕ) (n : ℕ) (inside : n < length words) where
+  -- the step raises word n by at most k
   abbrev pub Lifts : Option Ask → ℕ → Type 0
   Lifts ask k = get_or (words_after words ask) n 0 ≤ get_or words n 0 + k
 
@@ -255,12 +272,14 @@ module _ (words : List ℕ) (n : ℕ) (inside : n < length words) where
     lock_keeps (locks.Counts count) = count_keeps count
     lock_keeps (locks.ExchangesCounter k) = counter_op (Exchange k locked)
 
+    -- a step of an acquire leaves word n
     acquire_keeps : (stage : AcquireStage) (owner : ℕ) → AcquireWithin c stage → Lifts (ask_of (acquire_asks stage owner)) 0
     acquire_keeps acquires.LoadsCounter owner within = counter_op Load
     acquire_keeps (acquires.FillsCell counter index) owner within = cell_op index (Exchange empty owner) within
     acquire_keeps (acquires.ChecksCounter k) owner within = counter_op (Exchange k k)
     acquire_keeps (acquires.Raises index raise) owner within = raise_keeps raise
 
+    -- a step of a release leaves word n
     release_keeps : (stage : ReleaseStage) (given : GiveBack) → given.index < c → Lifts (ask_of (release_asks stage given)) 0
     release_keeps releases.EmptiesCell given within = cell_op given.index (Exchange given.owner empty) within
     release_keeps (releases.Raises raise) given within = raise_keeps raise
@@ -268,6 +287,7 @@ module _ (words : List ℕ) (n : ℕ) (inside : n < length words) where
 
     -- the container's
 
+    -- the step raises word n by at most what the call's step adds, where it finds the word
     abbrev LiftsBy : Option Ask → (ℕ → ℕ) → Type 0
     LiftsBy ask adds = Lifts ask (adds (old_of words ask))
 
@@ -304,6 +324,7 @@ module _ (words : List ℕ) (n : ℕ) (inside : n < length words) where
     find_keeps size (finds.ChecksCount index found count) = checked (count_word c index) count
     find_keeps size (finds.Asks index found) = omega arith
 
+    -- a step of a look does not raise word n
     look_keeps : (size : ℕ) (stage : LookStage) → Lifts (ask_of (look_asks size c stage)) 0
     look_keeps size looks.LoadsChange = loaded (change_word c)
     look_keeps size (looks.LoadsCount index) = loaded (count_word c index)
@@ -361,10 +382,12 @@ module _ (words : List ℕ) (n : ℕ) (inside : n < length words) where
 
 -- ---- where the step leads
 
+-- an add may still raise a number by at most 2
 add_most : (stage : AddStage) → add_lifts stage ≤ 2
 add_most (adds.AddsChange index) = omega arith
 add_most stage = omega arith
 
+-- a replace may still raise a number by at most 2
 replace_most : (stage : ReplaceStage) → replace_lifts stage ≤ 2
 replace_most replaces.AddsChange = omega arith
 replace_most stage = omega arith
@@ -406,17 +429,20 @@ module _ {T : Type 0} where
   find_leads given room (GoOn run) = omega arith
   find_leads given room (Done number) = omega arith
 
+  -- after a step of a look the call raises no number
   look_leads : (which : LookOf) (state : ContainerState T) (a : After (looking.Look T) Bool) → lifts_left (look_came which state a) ≤ 0
   look_leads which state (GoOn call) = omega arith
   look_leads which state (Done changed) = omega arith
 
+  -- a look raises no number after a step, whatever state its party has
   looks_lead : (code : Coding T) (which : LookOf) (call : looking.Look T) (state : Option (ContainerState T)) (old : ℕ)
       → lifts_left (look_goes code which call state old) ≤ 0
   looks_lead code which call None old = omega arith
   looks_lead code which call (Some state) old = look_leads which (look_shows code call state old) (look_after code.size call state.seen old)
 
   module _ (code : Coding T) (p : ℕ) (state : Option (ContainerState T)) where
-    -- what it adds and what it may still add
+    -- What a step adds and what the call may still add after it is at most what it could add before, with the
+    -- rises that the step writes.
     abbrev pub Keeps : ContainerFlight T → ℕ → Type 0
     Keeps flight old =
         container_adds flight old + lifts_left (after code state flight old) ≤ container_lifts flight + rises (effects code p state flight old)
@@ -468,6 +494,7 @@ module _ {T : Type 0} where
 
   -- ---- a begin
 
+  -- a call may raise a number by at most what its begin lets it rise
   pub begins : (c p : ℕ) (start : ContainerStart T) → container_lifts (first c start) ≤ rise (Begun p (Container start))
   begins c p (starts.Replace index value owner) = replace_most _
   begins c p start = omega arith

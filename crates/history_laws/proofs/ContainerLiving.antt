@@ -38,54 +38,62 @@ use Rattle.lock_free_owners.proofs.Worn.ContainerWorn.{Sound, terms}
 use Rattle.laws_robust.proofs.Counter.{tested}
 use Rattle.laws_robust.proofs.Cases.{on_bool}
 
+-- an owner other than `o` is not `o`
 differs : (o owner : ℕ) → (o ≡ owner → ⊥) → ((o == owner) || false) ≡ false
 differs o owner ne = on_bool (λ b. (b || false) ≡ false) (o == owner) (λ e. absurd (ne (tested o owner e))) (λ e. refl)
 
 module _ {T : Type 0} where
-  -- who acts is not gone
+  -- no call that adds, removes or replaces is under way for an owner who is gone
   abbrev pub Living : List (Event T) → Type 0
   Living events = (q owner : ℕ) → is_acting owner (span_of q events) ≡ true → is_gone Word owner events ≡ false
 
   -- ---- one event
 
+  -- the event begins a call that adds, removes or replaces for this owner
   abbrev BeginsFor : ℕ → Event T → Type 0
   BeginsFor owner (Begun p start) = is_for owner start ≡ true
   BeginsFor owner e = ⊥
 
+  -- an event within a call leaves for whom the call is
   longer_acts : (owner : ℕ) (span : Span T) (e : Event T) → is_acting owner (longer span e) ≡ is_acting owner span
   longer_acts owner Never e = refl
   longer_acts owner (Open start wrote) e = refl
   longer_acts owner (Ended start answer wrote) e = refl
 
+  -- a call that has ended is for nobody
   ended_acts : (owner : ℕ) (span : Span T) (answer : _) → is_acting owner (ended span answer) ≡ false
   ended_acts owner Never answer = refl
   ended_acts owner (Open start wrote) answer = refl
   ended_acts owner (Ended start first wrote) answer = refl
 
+  -- if a party's call is for this owner after its own event, it was before, or the event began it
   own_acts : (owner : ℕ) (span : Span T) (e : Event T) → is_acting owner (own_after span e) ≡ true → (is_acting owner span ≡ true) ⊎ BeginsFor owner e
   own_acts owner span (Begun p start) acts = inr acts
   own_acts owner span (Finished p start answer) acts = absurd (true≢false (sym acts ∙ ended_acts owner span answer))
   own_acts owner span e acts = inl (sym (longer_acts owner span e) ∙ acts)
 
+  -- if a party's call is for this owner after any event, it was before, or the event began it
   by_test : (owner : ℕ) (b : Bool) (span : Span T) (e : Event T) → is_acting owner (if b then own_after span e else span) ≡ true
       → (is_acting owner span ≡ true) ⊎ BeginsFor owner e
   by_test owner true span e acts = own_acts owner span e acts
   by_test owner false span e acts = inl acts
 
+  -- one event more makes of a party's span what `span_after` says
   span_then : (q : ℕ) (events : List (Event T)) (e : Event T) → span_of q (events ++ e ∷ []) ≡ span_after q (span_of q events) e
   span_then q events e = fold-append (span_after q) Never events (e ∷ [])
 
+  -- whether an owner is gone after one event more
   gone_then : (owner : ℕ) (events : List (Event T)) (e : Event T) → is_gone Word owner (events ++ e ∷ []) ≡ gone_after owner (is_gone Word owner events) e
   gone_then owner events e = fold-append (gone_after owner) false events (e ∷ [])
 
-  -- he begins one
+  -- an owner for whom a call begins is not gone after that event
   begins_alive : (owner : ℕ) (gone : Bool) (events : List (Event T)) (e : Event T) → BeginsFor owner e → BeginsRight events e
       → is_gone Word owner events ≡ gone → gone_after owner gone e ≡ false
   begins_alive owner gone events (Begun p (Container (Recover o mode))) begins right is = absurd (true≢false (sym begins))
   begins_alive owner gone events (Begun p start) begins right is = sym is ∙ right owner begins
   begins_alive owner gone events e begins right is = absurd begins
 
-  -- one of his is under way
+  -- an owner for whom a call is under way is not gone after one event more
   acts_alive : (q owner : ℕ) (events : List (Event T)) (e : Event T) → is_acting owner (span_of q events) ≡ true → is_gone Word owner events ≡ false
       → BeginsRight events e → AsksBy Word events e → AllLive (events ++ e ∷ []) → gone_after owner false e ≡ false
   acts_alive q owner events (Begun p (Container (Recover o mode))) acts lives right asks all =
@@ -95,6 +103,7 @@ module _ {T : Type 0} where
   acts_alive q owner events (Died o) acts lives right asks all =
       absurd (true≢false (sym (dies o events) ∙ all o))
     where
+      -- an owner who has died is gone, as `Death` has it
       dies : (o : ℕ) (events : List (Event T)) → is_gone Death o (events ++ Died o ∷ []) ≡ true
       dies o events = grind (arith, fold-append, eq-eqb)
   acts_alive q owner events e acts lives right asks all = refl
@@ -113,6 +122,7 @@ module _ {T : Type 0} where
 
   -- ---- all events
 
+  -- nobody had died before, if nobody has died
   all_less : (events es : List (Event T)) → AllLive (events ++ es) → AllLive events
   all_less events es all owner = gone_less Death owner events es (all owner)
 
@@ -128,6 +138,7 @@ module _ {T : Type 0} where
       subst Living is
       (living_on (events ++ e ∷ []) es (subst (Each BeginsRight) (sym is) right) (subst (Each (AsksBy Word)) (sym is) asks) all_then next)
 
+  -- in a faithful history no call is under way for an owner who is gone
   pub living : (events : List (Event T)) → IsFaithful events → Each (AsksBy Word) events → AllLive events → Living events
   living events faithful asks all = living_on [] events faithful asks all (λ q owner acts. absurd (true≢false (sym acts)))
 
@@ -148,22 +159,26 @@ module _ {T : Type 0} where
 
 -- t is a sound trace of a container of capacity c
 module _ {T : Type 0} (code : Coding T) (c : ℕ) (t : Trace T) (s : Sound code c t) (living : Living t.events) where
+  -- the call under way of party p is none for an owner who is gone, whatever its family
   by_name : (p : ℕ) (all : List SetAct) (done : List (Act T)) (wrote : List (Event T)) (start : Start T) (flight : Flight T)
       → FlightAt c code.size all done start flight → span_of p t.events ≡ Open start wrote → is_for_gone t.events (Some flight) ≡ false
   by_name p all done wrote (Container start) (flights.Container flight) at is =
       for_living code c code.size all done t.events wrote start flight at (λ owner acts. living p owner (ap (is_acting owner) is ∙ acts))
   by_name p all done wrote start flight at is = absurd at
 
+  -- a turn that goes on with a call is no step for an owner who is gone
   next_right : (p : ℕ) (o : Option (Party T)) → party_of p t.world.latest ≡ o → is_for_gone t.events (flight_of (doing_of o)) ≡ false
   next_right p None found = refl
   next_right p (Some x) found = go x.doing refl
     where
+      -- whether the party's call is over or under way, it is none for an owner who is gone
       go : (doing : Doing T) → x.doing ≡ doing → is_for_gone t.events (flight_of (Some doing)) ≡ false
       go (Over others) same_doing = refl
       go (Going flight since) same_doing =
           let there = stands_there (family_by (terms code c) code c) t s p x since flight found same_doing in
           by_name p (set_acts_of p s.state.events) (acts_of p s.state.events) _ x.start flight there.at there.span
 
+  -- no turn is a step for an owner who is gone
   pub steps_right : (turn : Turn T) → steps_for_gone t turn ≡ false
   steps_right (Begin p start) = refl
   steps_right (Next p) = next_right p (party_of p t.world.latest) refl

@@ -1,4 +1,5 @@
--- The laws of one index, of every history.
+-- The laws of one index of a robust set or a container: where each call that freed it might, it was granted
+-- only while nobody held it.
 use Rattle.std.proofs.Common.{◌≡◌, ℕ, ◌==◌, ◌∷◌, ◌++◌, List, true, refl, sym, ap, subst, ◌∙◌, arith}
 use Rattle.std.proofs.lemmas.Bool.Decides.{nat_tests}
 use Rattle.std.proofs.lemmas.List.Sums.{sum_by-append, sum_by-cons}
@@ -29,7 +30,7 @@ container_grants index code capacity events history freed =
     (container_held index history.trace.world.capacity history.trace.events is_sound.holds.good.does
     is_sound.inv.spans (subst (IsFreedRight index) history.is freed))
 
--- where it was never freed, each that freed it might
+-- in a history in which the index was never freed, each event that frees it is of a call that might
 pub never_freed : {T : Type 0} (i : ℕ) (events : List (Event T)) → times_freed i events ≡ 0 → IsFreedRight i events
 never_freed {T} i events none before after (FreedOf p index owner) is = λ same.
     (let e : Event T = FreedOf p index owner in

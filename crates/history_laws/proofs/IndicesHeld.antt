@@ -21,29 +21,34 @@ use Rattle.history_laws.specs.Indices.{held_below}
 use Rattle.laws_robust.proofs.Cases.{by_bool}
 
 module _ {T : Type 0} where
+  -- 1 where index i has a holder after these events, else 0
   abbrev is_held : List (Event T) → ℕ → ℕ
   is_held events i = one_if (is_some (holder_of i events))
 
+  -- how many of the first n indices have a holder, as a sum over them
   as_sum : (events : List (Event T)) (n : ℕ) → held_below n events ≡ sum_below (is_held events) n
   as_sum events zero = refl
   as_sum events (suc n) = ap (λ k. is_held events n + k) (as_sum events n)
 
   -- ---- one event
 
+  -- a begin leaves how many indices count as held
   begun_still : (s : Tally) (p : ℕ) (start : Start T) → (tally_after s (Begun p start)).held ≡ s.held
   begun_still s p (Indices Acquire) = refl
   begun_still s p start = refl
 
+  -- an end leaves how many indices count as held
   finished_still : (s : Tally) (p : ℕ) (start : Start T) (answer : Answer T) → (tally_after s (Finished p start answer)).held ≡ s.held
   finished_still s p (Indices Acquire) (NoIndex failure) = refl
   finished_still s p (Indices (Release index mode)) answer = refl
   finished_still s p start answer = refl
 
   module _ (c : ℕ) (before : List (Event T)) where
+    -- 1 where index i has a holder after event e, else 0
     abbrev held_then : Event T → ℕ → ℕ
     held_then e i = one_if (is_some (holder_after i (holder_of i before) e))
 
-    -- nobody holds an index behind the last
+    -- nobody comes to hold an index at or behind the capacity
     behind : (i : ℕ) → c ≤ i → (e : Event T) → HoldsRight c before e → holder_of i before ≡ None → holder_after i (holder_of i before) e ≡ None
     behind i past (Claimed p index) right none =
         by_bool (index == i)
@@ -78,6 +83,7 @@ module _ {T : Type 0} where
   -- ---- all events
 
   module _ (c : ℕ) (events : List (Event T)) (each : Each (HoldsRight c) events) where
+    -- at no moment somebody holds an index at or behind the capacity
     none_behind : (before after : List (Event T)) → events ≡ before ++ after → (i : ℕ) → c ≤ i → holder_of i before ≡ None
     none_behind before after is i past =
         along events (λ h. holder_of i h ≡ None)
@@ -96,5 +102,6 @@ module _ {T : Type 0} where
         ∙ (counts_on c h (none_behind h (e ∷ rest) at) so e (each h rest e at) ∙ sum_same (held_then c h e) (is_held (h ++ e ∷ [])) c held)))
         (sym (sum_none (is_held []) c (λ i low. refl)))
 
+    -- at each moment the number that counts as held is that of the indices that somebody holds
     pub held_is : (before after : List (Event T)) → events ≡ before ++ after → (tally_of before).held ≡ held_below c before
     held_is before after is = counted before after is ∙ sym (as_sum before c)

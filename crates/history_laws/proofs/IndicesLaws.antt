@@ -1,4 +1,5 @@
--- The laws of a unique index set's history, from those of its machine.
+-- The laws of a unique index set's history, from those of its machine: each index is claimed as often as
+-- freed, and once more while it has a holder, and a locked set stays empty.
 use Rattle.std.proofs.Common.{◌≡◌, ℕ, ◌+◌, ◌≤◌, ◌==◌, Bool, true, false, Option, Some, None, is_some, List, [], ◌∷◌, ◌++◌}
 use Rattle.std.proofs.Common.{if◌then◌else◌, refl, sym, ap, subst, ◌∙◌, append_assoc, append-nil, arith, sum_by}
 use Rattle.std.proofs.lemmas.List.Sums.{fold-append, sum_by-append, sum_by-cons, sum_by_push}
@@ -32,10 +33,12 @@ use Rattle.laws_robust.proofs.Cases.{by_bool}
 -- ---- one event
 
 module _ {T : Type 0} where
+  -- 1 where the index has a holder after these events, else 0
   abbrev held_once : ℕ → List (Event T) → ℕ
   held_once i events = one_if (is_some (holder_of i events))
 
   module _ (c i : ℕ) (before : List (Event T)) where
+    -- 1 where the index has a holder after event e, else 0
     abbrev after : Event T → ℕ
     after e = one_if (is_some (holder_after i (holder_of i before) e))
 
@@ -57,7 +60,7 @@ module _ {T : Type 0} where
         (λ t. rw t (omega arith))
     moves e holds_right = refl
 
-    -- no index behind the last is claimed
+    -- no index at or behind the capacity is claimed
     behind : c ≤ i → (e : Event T) → HoldsRight c before e → claims i e ≡ 0
     behind past (Claimed p index) holds_right =
         by_bool (index == i)
@@ -67,7 +70,7 @@ module _ {T : Type 0} where
         (λ t. rw t refl)
     behind past e holds_right = refl
 
-    -- none is claimed where the set is locked
+    -- no index is claimed while the set is locked
     unclaimed : is_locked before ≡ true → (e : Event T) → HoldsRight c before e → claims i e ≡ 0
     unclaimed shut (Claimed p index) holds_right = let open_is = holds_right.2 in absurd (cc)
     unclaimed shut e holds_right = refl
@@ -104,7 +107,7 @@ module _ {T : Type 0} where
           sum_by-cons (claims i) e es,
         )
 
-    -- an index was claimed as often as freed, and once more where it has a holder
+    -- an index was claimed as often as it was freed, and once more if it has a holder
     adds_up : (i : ℕ) → sum_by (claims i) events ≡ sum_by (frees i) events + held_once i events
     adds_up i =
         along events (λ h. sum_by (claims i) h ≡ sum_by (frees i) h + held_once i h)
@@ -114,7 +117,7 @@ module _ {T : Type 0} where
         omega (arith, sum_by_push (claims i) h e, sum_by_push (frees i) h e, moves c i h e (each h rest e at))))
         refl events [] (sym (append-nil events))
 
-    -- an index behind the last was never claimed
+    -- an index at or behind the capacity was never claimed
     none_behind : (i : ℕ) → c ≤ i → sum_by (claims i) events ≡ 0
     none_behind i past =
         along events (λ h. sum_by (claims i) h ≡ 0)
@@ -122,12 +125,13 @@ module _ {T : Type 0} where
         omega (arith, sum_by_push (claims i) h e, behind c i h past e (each h rest e at))))
         refl events [] (sym (append-nil events))
 
+  -- the measure of an event counts for a party where the event is the party's
   own_one : (p : ℕ) (f : Event T → ℕ) (e : Event T) (o : Option ℕ)
       → sum_by f (if is_party p o then e ∷ [] else []) ≡ if_owned (λ q. q) p o (f e)
   own_one p f e None = refl
   own_one p f e (Some q) = by_bool (q == p) (λ t. rw t (omega arith)) (λ t. rw t refl)
 
-  -- what a party's events come to
+  -- the sum over a party's events is the sum over all events of what counts for the party
   own_sum : (p : ℕ) (f : Event T → ℕ) (events : List (Event T)) → sum_by f (events_by p events) ≡ sum_by (owned (λ q. q) p f) events
   own_sum p f [] = refl
   own_sum p f (e ∷ es) =
@@ -136,19 +140,23 @@ module _ {T : Type 0} where
 -- ---- the laws
 
 module _ {T : Type 0} (code : Coding T) (capacity : ℕ) (events : List (Event T)) (h : IsHistory code kinds.Indices capacity events) where
+  -- the machine of the history is one of a unique index set, with its laws
   machine : IsIndexSet h.trace
   machine = is_index_set h.trace h.run.of_kind h.run.reached
 
+  -- each event claims, frees and locks as it may
   holds : Each (HoldsRight capacity) events
   holds =
       subst (λ n. Each (HoldsRight n) events) h.run.sized
       (subst (Each (HoldsRight h.trace.world.capacity)) (sym h.is) machine.holds)
 
+  -- each answer fits the set as it was at the last step of its call
   answers : Each (AnswersRight capacity) events
   answers =
       subst (λ n. Each (AnswersRight n) events) h.run.sized
       (subst (Each (AnswersRight h.trace.world.capacity)) (sym h.is) machine.answers)
 
+  -- each event comes where its party's call stands for it
   spans : Each (StandsRight promise h.trace.world.capacity) events
   spans =
       let kept : IsKeptBy promise h.trace =
@@ -169,7 +177,7 @@ module _ {T : Type 0} (code : Coding T) (capacity : ℕ) (events : List (Event T
       }
   did_so before e right = tt
 
-  -- a history of a unique index set says of itself what each one does
+  -- a history of a unique index set is sound (`IsSound`)
   pub sound : IsSound capacity events
   sound =
       record {
@@ -178,22 +186,28 @@ module _ {T : Type 0} (code : Coding T) (capacity : ℕ) (events : List (Event T
         answers = answers;
       }
 
+  -- in a locked set nobody holds an index
   pub held_none : (before after : List (Event T)) → events ≡ before ++ after → is_locked before ≡ true → (i : ℕ) → holder_of i before ≡ None
   held_none before after is shut i = unheld_there capacity events holds i before after is shut
 
+  -- since the set was locked no index was claimed
   pub claimed_none : (before after : List (Event T)) → events ≡ before ++ after → is_locked before ≡ true → (i : ℕ) → sum_by (claims i) after ≡ 0
   claimed_none before after is shut i = unclaimed_since capacity events holds i before after is shut
 
+  -- each index was claimed as often as it was freed, and once more if somebody holds it
   pub conserved : (i : ℕ) → sum_by (claims i) events ≡ sum_by (frees i) events + one_if (is_some (holder_of i events))
   conserved i = adds_up capacity events holds i
 
+  -- no index at or behind the capacity was claimed
   pub within : (i : ℕ) → capacity ≤ i → sum_by (claims i) events ≡ 0
   within i past = none_behind capacity events holds i past
 
+  -- a party that claimed an index once more than it freed it is its holder
   pub sole : (p i : ℕ) → Holds i (events_by p events) → holder_of i events ≡ Some p
   sole p i once =
       let by_this_party = held_by (λ q. q) p capacity i events (events_by p events) holds (λ f. own_sum p f events) once in
       by_this_party.2 ∙ ap Some by_this_party.1
 
+  -- the number that counts as held is that of the indices that somebody holds
   pub counted : (before after : List (Event T)) → events ≡ before ++ after → (tally_of before).held ≡ held_below capacity before
   counted before after is = held_is capacity events holds before after is

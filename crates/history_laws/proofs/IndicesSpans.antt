@@ -16,7 +16,7 @@ use Rattle.history.proofs.Known.{by_more}
 use Rattle.laws_robust.proofs.Cases.{by_bool}
 
 module _ {T : Type 0} (p : ℕ) where
-  -- the party's latest call, and what the party wrote since it began
+  -- the party's latest call began as `start`, among these events, and the party wrote `wrote` since
   pub record IsSince (start : Start T) (wrote events : List (Event T)) : Type 0 where
     pub before : List (Event T)
     pub since : List (Event T)
@@ -24,6 +24,7 @@ module _ {T : Type 0} (p : ℕ) where
     pub within : BeginsNone p since
     pub own : events_by p since ≡ wrote
 
+  -- where the span is open, the party's latest call stands in the events, with what it has written
   abbrev Tells : List (Event T) → Span T → Type 0
   Tells events Never = Unit {0}
   Tells events (Open start wrote) = IsSince start wrote events
@@ -69,6 +70,7 @@ module _ {T : Type 0} (p : ℕ) where
         let here : span_after p span e ≡ span = rw t refl in
         subst (Tells (events ++ e ∷ [])) (sym here) (still other span s)
 
+  -- a span whose call has ended tells of no call under way
   over : (events : List (Event T)) (span : Span T) (answer : Answer T) → Tells events (ended span answer)
   over events Never answer = tt
   over events (Open start wrote) answer = tt
@@ -76,6 +78,7 @@ module _ {T : Type 0} (p : ℕ) where
 
   -- with any event more, where the party's span is open then, its latest call stands in the events
   one_more : (events : List (Event T)) (e : Event T) (span : Span T) → Tells events span → Tells (events ++ e ∷ []) (span_after p span e)
+  -- a call begins: of this party, whose latest call it is, or of another one
   one_more events (Begun q start) span s =
       by_bool (q == p)
       (λ t.
@@ -88,6 +91,7 @@ module _ {T : Type 0} (p : ℕ) where
       let other : own_of p (Begun q start) ≡ [] = rw t refl in
       let here : span_after p span (Begun q start) ≡ span = rw t refl in
       subst (Tells (events ++ Begun q start ∷ [])) (sym here) (still events (Begun q start) (no_number q p t, tt) other span s))
+  -- a call ends: of this party, which has none under way then, or of another one
   one_more events (Finished q start answer) span s =
       by_bool (q == p)
       (λ t.
@@ -97,13 +101,16 @@ module _ {T : Type 0} (p : ℕ) where
       let other : own_of p (Finished q start answer) ≡ [] = rw t refl in
       let here : span_after p span (Finished q start answer) ≡ span = rw t refl in
       subst (Tells (events ++ Finished q start answer ∷ [])) (sym here) (still events (Finished q start answer) tt other span s))
+  -- any other event goes on with the span, or leaves it
   one_more events e span s = writes events e tt (λ z. refl) span s (is_party p (whose e)) refl
 
+  -- after any events, the party's span tells of its latest call
   tells : (events : List (Event T)) → Tells events (span_of p events)
   tells events =
       along events (λ h. Tells h (span_of p h))
       (λ h after e is s. subst (Tells (h ++ e ∷ [])) (sym (fold-append (span_after p) Never h (e ∷ []))) (one_more h e (span_of p h) s))
       tt events [] (sym (append-nil events))
 
+  -- where the party's span is open, its latest call stands in the events, with what it wrote since
   pub since_of : (events : List (Event T)) (start : Start T) (wrote : List (Event T)) → span_of p events ≡ Open start wrote → IsSince start wrote events
   since_of events start wrote is = subst (Tells events) is (tells events)

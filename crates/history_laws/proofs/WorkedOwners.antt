@@ -21,17 +21,21 @@ use Rattle.lock_free_owners.specs.Worn.{changes}
 use Rattle.history_laws.specs.Containers.{rises, recoveries, removals, is_acting}
 use Rattle.history_laws.specs.Grants.{is_at}
 
+-- the start of an add of this value for this owner
 abbrev add : ℕ → ℕ → Start ℕ
 add value owner = Container (Add value owner)
 
+-- the start of a recovery of this owner, in the mode that does not lock
 abbrev recover : ℕ → Start ℕ
 recover owner = Container (Recover owner Default)
 
+-- the run of these turns of a container of this capacity
 abbrev ran_on : ℕ → List (Turn ℕ) → Trace ℕ
 ran_on capacity turns = run_open turns (opening two_words kinds.Container capacity 3)
 
 -- ---- two adds
 
+-- two adds for owner 1, one after the other
 abbrev twice : Trace ℕ
 twice = ran_on 2 (begins 0 (add 5 1) 9 ++ begins 0 (add 6 1) 10)
 
@@ -54,22 +58,26 @@ twice_events = refl
 pub twice_words : twice.world.words ≡ 2 ∷ 1 ∷ 1 ∷ 2 ∷ 1 ∷ 1 ∷ 0 ∷ 5 ∷ 0 ∷ 6 ∷ []
 twice_words = refl
 
+-- the events let the numbers rise by 4
 pub twice_rises : rises twice.events ≡ 4
 twice_rises = refl
 
+-- the counter has had two changes
 pub twice_changes : changes twice.events ≡ 2
 twice_changes = refl
 
+-- the history tells of no recovery, and removes nothing
 pub twice_calmly : (recoveries twice.events ≡ 0) × (removals twice.events ≡ 0)
 twice_calmly = (refl, refl)
 
 -- ---- an owner who has done nothing wrong is granted an index that another holds, who went on after a recovery had freed it
 
--- party 0 fills the index for owner 1, party 1 frees it in a recovery of him, and party 2 fills it for owner 2
+-- party 0 fills the index for owner 1, party 1 frees it in a recovery of owner 1, and party
+-- 2 fills it for owner 2
 abbrev taken : List (Turn ℕ)
 taken = begins 0 (add 5 1) 2 ++ (begins 1 (recover 1) 8 ++ begins 2 (add 7 2) 2)
 
--- each is granted it then
+-- then each of the two adds is granted the index
 abbrev both : Trace ℕ
 both = ran_on 1 (taken ++ (nexts 0 2 ++ nexts 2 2))
 
@@ -87,29 +95,34 @@ before_both =
     ∷ Granted 0 0 1
     ∷ []
 
+-- the last event grants the index to owner 2
 pub both_events : both.events ≡ before_both ++ Granted 2 0 2 ∷ []
 both_events = refl
 
--- so what owner 2 did with the index alone says nothing: the condition has to speak of all who had it
+-- Owner 1 holds the index then. So conditions on owner 2's use of the index say nothing of it alone: they
+-- have to speak of all that had it.
 pub both_hold : holder_of 0 before_both ≡ Some 1
 both_hold = refl
 
+-- owner 2 is not gone
 pub two_lives : is_gone Word 2 both.events ≡ false
 two_lives = refl
 
--- the recovery began, and freed the index, while a call for its owner was at it
+-- the recovery began while an add for its owner was under way
 pub one_acts : is_acting 1 (span_of 0 (Begun 0 (add 5 1) ∷ Filled 0 0 1 ∷ [])) ≡ true
 one_acts = refl
 
+-- the recovery freed the index while an add was at it
 pub one_is_at : is_at 0 (span_of 0 (Begun 0 (add 5 1) ∷ Filled 0 0 1 ∷ Begun 1 (recover 1) ∷ Shown 1 0 ∷ [])) ≡ true
 one_is_at = refl
 
 -- ---- a recovery that is told no, and an owner's number that is used again: no index is freed, so each is held by one
 
+-- an add for owner 1, a recovery of owner 1 that is answered no, and another add for owner 1
 abbrev again : Trace ℕ
 again = ran_on 2 (begins 0 (add 5 1) 9 ++ (begins 1 (recover 1) 6 ++ (Decide 1 false ∷ nexts 1 3) ++ begins 0 (add 6 1) 10))
 
--- what an add for owner 1, a recovery of him that is told no, and another add for him write
+-- what these three calls write
 pub again_events : again.events
     ≡ Begun 0 (add 5 1)
     ∷ Filled 0 0 1
@@ -128,8 +141,10 @@ pub again_events : again.events
     ∷ []
 again_events = refl
 
+-- owner 1 is gone, since a recovery for this owner began
 pub one_is_gone : is_gone Word 1 again.events ≡ true
 one_is_gone = refl
 
+-- the history removes nothing
 pub again_frees_none : removals again.events ≡ 0
 again_frees_none = refl

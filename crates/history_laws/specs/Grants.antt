@@ -20,7 +20,8 @@ has_done_nothing [] = true
 has_done_nothing all = false
 
 module _ {T : Type 0} where
-  -- a call is at the index that has filled it, or is to give it back
+  -- whether a call is at the index: it is an acquire or an add that has filled it, or a release or a remove
+  -- that is to give it back
   abbrev pub is_at : ℕ → Span T → Bool
   is_at i (Open (Robust (Acquire owner)) wrote) = has_filled i (set_acts wrote)
   is_at i (Open (Container (containers.Add value owner)) wrote) = has_filled i (set_acts wrote)
@@ -29,20 +30,20 @@ module _ {T : Type 0} where
       (index == i) && has_done_nothing (set_acts wrote)
   is_at i span = false
 
-  -- A recovery may free the index where no call is at it. A release or a remove may that was begun where the index
-  -- might be given back for its owner.
+  -- The call of party p may free the index: a recovery, where no call is at it; a release or a remove, where
+  -- it was begun when the index might be given back for its owner.
   abbrev pub MayFree : (p index : ℕ) → List (Event T) → Span T → Type 0
   MayFree p index before (Open (Robust (Recover mode)) wrote) = (q : ℕ) → is_at index (span_of q before) ≡ false
   MayFree p index before (Open (Container (containers.Recover owner mode)) wrote) =
       (q : ℕ) → is_at index (span_of q before) ≡ false
   MayFree p index before span = MayGiveBack p index before span
 
-  -- where an event frees the index, the call might free it
+  -- an event that frees index i is of a call that may free it
   abbrev pub FreesRightAt : ℕ → List (Event T) → Event T → Type 0
   FreesRightAt i before (FreedOf p index owner) = index ≡ i → MayFree p index before (span_of p before)
   FreesRightAt i before e = Unit {0}
 
-  -- each event that frees the index is of a call that might
+  -- each event of the history that frees index i is of a call that may free it
   abbrev pub IsFreedRight : ℕ → List (Event T) → Type 0
   IsFreedRight i events = Each (FreesRightAt i) events
 
@@ -55,11 +56,11 @@ module _ {T : Type 0} where
   abbrev pub times_freed : ℕ → List (Event T) → ℕ
   times_freed i events = sum_by (freeing i) events
 
-  -- this index is granted where nobody holds it
+  -- an event that grants index i comes while nobody holds it
   abbrev pub GrantsRightAt : ℕ → List (Event T) → Event T → Type 0
   GrantsRightAt i before (Granted p index owner) = index ≡ i → holder_of index before ≡ None
   GrantsRightAt i before e = Unit {0}
 
-  -- the index is granted only while nobody holds it
+  -- index i is granted only while nobody holds it
   abbrev pub IsHeldByOne : ℕ → List (Event T) → Type 0
   IsHeldByOne i events = Each (GrantsRightAt i) events

@@ -1,4 +1,5 @@
--- What a history of a unique index set says of its events.
+-- What a history of a unique index set says of its events: who may claim, free and lock, and that each call
+-- has done what it answers (`IsSound`).
 use Rattle.std.specs.Prelude.{◌≡◌, ℕ, zero, suc, ◌+◌, Some, is_some, List, ◌∷◌, ◌++◌}
 use Rattle.model.specs.declared.event.Event.{Event}
 use Rattle.model.specs.declared.event.Event.TheVariants.{Begun, Finished}
@@ -18,7 +19,8 @@ module _ {T : Type 0} where
   held_below zero events = 0
   held_below (suc n) events = one_if (is_some (holder_of n events)) + held_below n events
 
-  -- the party's latest call is this one, and what the party did to the set since it began is so
+  -- the party's latest call is this one, and `IsSo` holds of what the party did to the set
+  -- since that call began
   pub record HasDone (p : ℕ) (start : IndexStart) (IsSo : SetActs → Type 0) (events : List (Event T))
       : Type 0 where
     pub before : List (Event T)
@@ -26,7 +28,7 @@ module _ {T : Type 0} where
     pub is : events ≡ before ++ Begun p (Indices start) ∷ since
     -- the party has begun no call since
     pub within : BeginsNone p since
-    -- what it did to the set since is so
+    -- `IsSo` holds of what it did to the set since
     pub did : IsSo (set_acts (events_by p since))
 
   -- A call that ends has done what its answer says, and nothing else: one that answers an index has claimed it, one
@@ -39,6 +41,9 @@ module _ {T : Type 0} where
   -- An index is claimed where nobody holds it and the set is not locked, and is freed by its holder; the set is locked
   -- once, where nobody holds an index. Each call that ends has done what it answers, and each answer is right.
   pub record IsSound (capacity : ℕ) (events : List (Event T)) : Type 0 where
+    -- indices are claimed and freed, and the set is locked, only as `HoldsRight` allows
     pub holds : Each (HoldsRight capacity) events
+    -- each call that ends has done what it answers
     pub did : Each DidAsAnswered events
+    -- each answer is right for the set as it is when the call ends
     pub answers : Each (AnswersRight capacity) events

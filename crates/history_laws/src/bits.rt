@@ -9,7 +9,8 @@ ghost use Rattle.model.specs.Reading.{Each};
 ghost use Rattle.history.specs.History.{IsHistory};
 ghost use Rattle.history_laws.specs.Bits.{ChangesBit};
 
-/// Each bit was set as often as it was cleared, and once more where it stands. None behind the last was set.
+/// Each bit was set as often as it was cleared, and once more where it stands. No bit at or behind the
+/// capacity was set.
 pub fn bits_are_conserved<T>()
     ensures conserved { (code : Coding T) (capacity : ℕ) (events : List (Event T))
         → IsHistory code kinds.Bits capacity events → (bit : ℕ) → sets bit events ≡ clears bit events + standing bit events }

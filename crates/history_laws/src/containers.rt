@@ -1,6 +1,6 @@
-//! That what stands in a container stands whole, where its history keeps to conditions that speak of its events alone,
-//! and what shows that it does. Who has joined all passes knows the whole history, and can count. These functions do
-//! nothing: the contract of each is a law, whose proof is a lemma that a client's proof can cite.
+//! That the values of a container stand whole, where its history keeps to conditions on its events alone, and two ways
+//! to show such a condition. A caller that has joined all passes knows the whole history, and can count its events.
+//! These functions do nothing: the contract of each is a law, whose proof is a lemma that a client's proof can cite.
 ghost use Rattle.std.specs.Prelude.{◌≡◌, ℕ, List};
 ghost use Rattle.model.specs.declared.event.Event.{Event};
 ghost use Rattle.model.specs.declared.turn.Kind.TheVariants as kinds;
@@ -17,13 +17,14 @@ pub fn copies_are_whole<T>()
         → IsHistory code kinds.Container capacity events → IsOrderly events → IsContained events }
 {}
 
-/// Where no recovery began, nobody acts for an owner in recovery. The lemma is `none_recovers` there.
+/// Where no recovery began and no owner died, nobody acts for an owner who is gone. The lemma is
+/// `none_recovers` of `proofs/ContainerLaws.antt`.
 pub fn histories_without_recoveries_are_faithful<T>()
     ensures { (events : List (Event T)) → recoveries events ≡ 0 → IsFaithful events }
 {}
 
-/// Where nothing was freed or replaced, nobody gives back or replaces what is not his. The lemma is `none_frees`
-/// there.
+/// Where no index was freed and no replace was begun, nobody gives back or replaces what is not his. The lemma is
+/// `none_frees` of `proofs/ContainerLaws.antt`.
 pub fn histories_without_removals_are_well_formed<T>()
     ensures { (events : List (Event T)) → removals events ≡ 0 → IsWellFormed events }
 {}

@@ -9,8 +9,8 @@ ghost use Rattle.model.specs.Reading.{Each};
 ghost use Rattle.history.specs.History.{IsHistory};
 ghost use Rattle.history_laws.specs.Counts.{TakesAll};
 
-/// What was counted at a place is what was taken out of it in all, and what stands there. Nothing behind the last was
-/// counted.
+/// What was counted at a place is what was taken out of it in all, and what stands there. At no place at or
+/// behind the capacity was anything counted.
 pub fn counts_are_conserved<T>()
     ensures conserved { (code : Coding T) (capacity : ℕ) (events : List (Event T))
         → IsHistory code kinds.Counts capacity events → (place : ℕ)

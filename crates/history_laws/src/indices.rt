@@ -10,9 +10,9 @@ ghost use Rattle.history.specs.History.{IsHistory};
 ghost use Rattle.history.specs.Known.{events_by};
 ghost use Rattle.history_laws.specs.Indices.{held_below, IsSound};
 
-/// No index is claimed that somebody holds, and none once the set is locked; its holder alone frees it. Who is answered an
-/// index has claimed it in that call. An acquire finds `OutOfIndices` only where at its last step, without it, as many
-/// indices are in use as there are: held, being taken, or on their way back.
+/// No index is claimed that somebody holds, and none once the set is locked; its holder alone frees it. An acquire that
+/// answers an index has claimed it in that call. An acquire finds `OutOfIndices` only where at its last step, without
+/// it, as many indices are in use as there are: held, being taken, or on their way back.
 pub fn index_histories_are_sound<T>()
     ensures { (code : Coding T) (capacity : ℕ) (events : List (Event T))
         → IsHistory code kinds.Indices capacity events → IsSound capacity events }
@@ -35,7 +35,8 @@ pub fn locks_are_final<T>()
         → (index : ℕ) → sum_by (claims index) after ≡ 0 }
 {}
 
-/// Each index was claimed as often as it was freed, and once more where somebody holds it. None behind the last was.
+/// Each index was claimed as often as it was freed, and once more where somebody holds it. No index at or behind the
+/// capacity was claimed.
 pub fn indices_are_conserved<T>()
     ensures conserved { (code : Coding T) (capacity : ℕ) (events : List (Event T))
         → IsHistory code kinds.Indices capacity events → (index : ℕ)
@@ -45,7 +46,7 @@ pub fn indices_are_conserved<T>()
         → sum_by (claims index) events ≡ 0 }
 {}
 
-/// Who has claimed an index once more than freed it is its only holder.
+/// A party that has claimed an index once more than it freed it is its only holder.
 pub fn holders_are_sole<T>()
     ensures { (code : Coding T) (capacity : ℕ) (events : List (Event T))
         → IsHistory code kinds.Indices capacity events → (p index : ℕ) → Holds index (events_by p events)

@@ -1,5 +1,5 @@
--- The machines of bit sets and of counting bit sets as families: what is said of one of the two kinds, and what each turn of
--- its machine has to show.
+-- Bit sets and counting bit sets as two kinds of one family: what has to be said of a kind (`SetOutline`),
+-- and what a turn of its machine has to show (`Shows`, `StepShows`).
 use Rattle.laws_bits.proofs.Names.{◌≡◌, ℕ, ◌+◌, ◌≤◌, Bool, false, Option, Some, List, [], ◌++◌, fold, Ask, After}
 use Rattle.laws_bits.proofs.Names.{Answer, Event, Start, Bits, Flight, BitsStart, BitsFlight, Party, Coding}
 use Rattle.laws_bits.proofs.Names.{ask_of, want, after, goes_back, effects_of, is_loan, Stands, Span, Open, own_after}
@@ -15,12 +15,13 @@ use Rattle.model.proofs.Frame as frame
 use Rattle.model.proofs.Frame.{Family}
 use Rattle.laws_bits.proofs.Spans.{any_call, wrote_in}
 
--- the words, and the events of the run, in which a call under way has written its own
+-- the state of a set: its words, and the events of the run, from which a call under way
+-- knows what it has written
 pub record SetState (T : Type 0) : Type 0 where
   pub words : List ℕ
   pub events : List (Event T)
 
--- where a party's call stands, with the machine around it
+-- a turn of a party, with the machine before it
 pub record SetScene (T : Type 0) : Type 0 where
   pub state : SetState T
   pub events : List (Event T)
@@ -31,14 +32,14 @@ pub record SetScene (T : Type 0) : Type 0 where
   pub steps : ℕ  -- of the call
   pub backs : ℕ  -- so often it has turned back
 
--- what is said of one of the two kinds
+-- what has to be said of one of the two kinds
 pub record SetOutline (T : Type 0) : Type 1 where
   pub kind : Kind
   pub no_loan : is_loan kind ≡ false  -- it is no loan channel
   pub promise : Promise T
   pub Holds : ℕ → List ℕ → List (Event T) → ℕ → Type 0  -- what is so of the words and of the events, at this capacity and after so many turns
-  -- what a turn preserves from there, after so many changes, that comes to these words with these events and to so many
-  -- changes
+  -- what a turn preserves: the arguments are the words, events, turns and changes before it, then the words
+  -- after it, the events that it writes and the changes after it
   pub Preserves : ℕ → List ℕ → List (Event T) → ℕ → ℕ → List ℕ → List (Event T) → ℕ → Type 0
   pub wrote : ℕ → BitsFlight → Span T → List (Event T)  -- what a party's call under way has written, where this is its span
   pub number : BitsFlight → ℕ → ℕ  -- how many steps it has taken at most, having turned back so often
@@ -48,19 +49,23 @@ pub record SetOutline (T : Type 0) : Type 1 where
 module _ {T : Type 0} where
   -- ---- the family of a kind
 
+  -- how many steps a call has taken at most; a call of another family has taken none
   abbrev pub number_by : (BitsFlight → ℕ → ℕ) → Flight T → ℕ → ℕ
   number_by number (flights.Bits flight) backs = number flight backs
   number_by number flight backs = 0
 
+  -- the call under way is one of a set, and stands where the kind says
   abbrev pub FlightAt : (BitsStart → BitsFlight → Type 0) → Start T → Flight T → Type 0
   FlightAt at (Bits start) (flights.Bits flight) = at start flight
   FlightAt at start flight = ⊥
 
+  -- the call under way is one of a set, and knows what the kind says
   abbrev pub KnowsFlight : (BitsFlight → Type 0) → Flight T → Type 0
   KnowsFlight knows (flights.Bits flight) = knows flight
   KnowsFlight knows flight = ⊥
 
   module _ (K : SetOutline T) where
+    -- what a call under way has written, by the kind
     abbrev pub wrote_by : ℕ → Flight T → Span T → List (Event T)
     wrote_by p (flights.Bits flight) span = K.wrote p flight span
     wrote_by p flight span = []
@@ -85,28 +90,33 @@ module _ {T : Type 0} where
               × (s'.events ≡ scene.events ++ es);
         }
 
+    -- the family of a kind
     abbrev pub family : Coding T → ℕ → Family T
     family = families.family outline
 
     -- ---- what a turn shows
 
+    -- `scene` is a turn of party `p` with the machine before it
     module _ (code : Coding T) (c : ℕ) (scene : SetScene T) where
       open scene use {state as s, events, turns, party as p, changes, since, steps, backs}
 
+      -- the state after the turn
       abbrev pub then_state : List ℕ → List (Event T) → SetState T
       then_state words es = record { words = words; events = events ++ es }
 
-      -- what a turn shows that leaves these words, where the party's span was this
+      -- what a turn shows that leaves these words, and before which the party's span was `from`
       pub record Shows (words : List ℕ) (from : Span T) (y : Party T) (es : List (Event T)) (changes' : ℕ) : Type 0 where
+        -- it preserves what holds, and its events are the party's own and may stand in the span
         pub preserves : K.Preserves c s.words events turns changes words es changes'
         pub own : AreOwn p es
         pub stands : AllFollow (Stands K.promise c) from es
+        -- the party's call stands where its span says (`Fits`), and knows what its stage tells
         pub here : frame.Fits (family code c) (then_state words es) p (Some y) (fold own_after from es)
         pub knows : frame.KnowsDoing (family code c) (then_state words es) p (events ++ es) changes' y.backs y.doing
 
       -- ---- what a step shows
 
-      -- the party after a step that does this operation
+      -- the party after a step with the operation `ask`, by what becomes of its call
       abbrev pub party_then : BitsStart → Option Ask → Bool → After BitsFlight (Answer T) → Party T
       party_then start ask back after =
           record {
@@ -116,22 +126,24 @@ module _ {T : Type 0} where
             doing = doing_after (changes + change_of s.words ask) (since + change_of s.words ask) (any_call after);
           }
 
+      -- the events of a step: what it did, and then the end of the call if it ends
       abbrev pub events_then : BitsStart → List (Event T) → After BitsFlight (Answer T) → List (Event T)
       events_then start wrote after = wrote ++ ending_of p (Bits start) (answer_in (any_call after))
 
-      -- a step that shows what it has to, where its party's call had written this
+      -- what a step with the operation `ask` shows, of a call that had written this, by what becomes of it
       abbrev pub StepShows : List (Event T) → BitsStart → Option Ask → Bool → After BitsFlight (Answer T) → List (Event T) → Type 0
       StepShows before start ask back after wrote =
           Shows (words_after s.words ask) (Open (Bits start) before) (party_then start ask back after)
           (events_then start wrote after) (changes + change_of s.words ask)
 
-      -- the step of a call under way
+      -- what a step of this call shows: it is handed the old value of its word
       abbrev pub ShowsStep : List (Event T) → BitsStart → BitsFlight → Type 0
       ShowsStep before start flight =
           StepShows before start (ask_of (want flight)) (goes_back flight (old_of s.words (ask_of (want flight))))
           (after flight (old_of s.words (ask_of (want flight)))) (effects_of p flight (old_of s.words (ask_of (want flight))))
 
-      -- what is asked of it, where the call has this name and its party's span was this
+      -- that a step of a call of this name keeps the invariant, from what holds at its stage; `wrote` is what
+      -- its party had written before
       abbrev pub StepOf : BitsStart → BitsFlight → List (Event T) → Type 0
       StepOf start flight wrote =
           K.At c (wrote_in (span_of p s.events)) start flight → span_of p events ≡ Open (Bits start) wrote

@@ -1,4 +1,5 @@
--- That the machine of either kind of bit set keeps what its kind promises, from what the kind owes.
+-- The machine of either kind of bit set keeps what its kind promises, from what the kind owes (`SetLaws`):
+-- the opening, begins, steps, and what a call knows after a turn of another party.
 use Rattle.laws_bits.proofs.Names.{◌≡◌, ◌≢◌, ℕ, ◌+◌, ◌-◌, ◌^◌, ◌≤◌, false, Option, Some, None, List, [], ◌∷◌}
 use Rattle.laws_bits.proofs.Names.{◌++◌, refl, sym, ap, subst, ◌∙◌, AllByRecursion, Event, Begun, Start}
 use Rattle.laws_bits.proofs.Names.{Bits, Flight, Registry, BitsStart, BitsFlight, Party, Next, Coding, opening_of}
@@ -31,7 +32,7 @@ IsOwn (Bits start) = Unit {0}
 IsOwn start = ⊥
 
 module _ {T : Type 0} (K : SetOutline T) where
-  -- where a call begins, after these events
+  -- a call that begins stands at its first stage, knows what that tells, and has written nothing
   pub record IsFirst (c p : ℕ) (events : List (Event T)) (words : List ℕ) (changes : ℕ) (start : BitsStart) (flight : BitsFlight) : Type 0 where
     pub at : K.At c [] start flight
     pub knows : K.Knows p (events ++ Begun p (Bits start) ∷ []) words changes changes 0 flight
@@ -39,13 +40,13 @@ module _ {T : Type 0} (K : SetOutline T) where
 
   -- what a kind owes
   pub record SetLaws (code : Coding T) (c : ℕ) : Type 1 where
-    -- of its machine at the opening, and of what it promises
+    -- of its opening, and of what it promises
     pub bare : (opening_of K.kind).kept {T = T} c ≡ registries.Nothing
     pub opens : K.Holds c ((opening_of K.kind).words code.size c) [] 0
     pub promise : promise_of {T = T} K.kind ≡ K.promise
     pub tells : (old : Trace T) (turn : Turn T) (new : Trace T) → K.promise.tells old turn new
     pub keeps_promise : (t : Trace T) → t.world.capacity ≡ c → t.world.turns ≤ 2 ^ 64 - 2 → K.Holds c t.world.words t.events t.world.turns → K.promise.holds t
-    -- of a turn
+    -- of a turn: the invariant holds after it, and what a call of another party knows it knows still
     pub holds : (words : List ℕ) (events : List (Event T)) (turns changes : ℕ) (words' : List ℕ) (es : List (Event T)) (changes' : ℕ)
         → K.Preserves c words events turns changes words' es changes' → K.Holds c words events turns
         → K.Holds c words' (events ++ es) (turns + 1)
@@ -54,14 +55,16 @@ module _ {T : Type 0} (K : SetOutline T) where
         → K.Preserves c words events turns changes words' es changes' → BeginsNone q es
         → (since backs : ℕ) (flight : BitsFlight)
         → K.Knows q events words since changes backs flight → K.Knows q (events ++ es) words' since changes' backs flight
-    -- of a call that begins
+    -- of a call that begins: it is one of a set's calls, its begin preserves what holds, and it
+    -- stands at its first stage
     pub begins_own : (kept : Registry T) (start : Start T) (flight : Flight T) → first_of K.kind c start kept ≡ Some flight → IsOwn start
     pub begins : (p : ℕ) (start : BitsStart) (words : List ℕ) (events : List (Event T)) (turns changes : ℕ)
         → K.Holds c words events turns
         → K.Preserves c words events turns changes words (Begun p (Bits start) ∷ []) changes
     pub first : (p : ℕ) (events : List (Event T)) (words : List ℕ) (changes : ℕ) (start : BitsStart) (flight : BitsFlight)
         → first K.kind c start ≡ Some flight → is_past c start ≡ false → IsFirst c p events words changes start flight
-    -- of a call under way
+    -- of a call under way: it asks no question, its steps and its turns back are bounded, and each step keeps
+    -- the invariant (`StepOf`)
     pub asks : (wrote : List (Event T)) (start : BitsStart) (flight : BitsFlight) → K.At c wrote start flight → is_question (want flight) ≡ false
     pub effects : (p old : ℕ) (wrote : List (Event T)) (start : BitsStart) (flight : BitsFlight)
         → K.At c wrote start flight → AllByRecursion (IsEffectOf {T = T} (Next p)) (effects_of p flight old)
@@ -72,26 +75,29 @@ module _ {T : Type 0} (K : SetOutline T) where
     pub step : (scene : SetScene T) → K.Holds c scene.state.words scene.events scene.turns
         → (start : BitsStart) (flight : BitsFlight) (wrote : List (Event T)) → StepOf K code c scene start flight wrote
 
-  -- ---- what it owes as a family
+  -- ---- what a kind owes, in the form that the frame asks of a family
 
   -- `c` is the capacity, and `L` what the kind owes
   module _ (code : Coding T) (c : ℕ) (L : SetLaws code c) where
+    -- no call of a set asks a question
     no_question : (wrote : List (Event T)) (start : Start T) (flight : Flight T)
         → FlightAt (K.At c wrote) start flight → is_question (want_of code flight) ≡ false
-    no_question wrote (Bits start) (flights.Bits flight) at = L.asks wrote start flight at
-    no_question wrote start flight at = absurd at
+    no_question wrote (Bits start) (flights.Bits flight) stands = L.asks wrote start flight stands
+    no_question wrote start flight stands = absurd stands
 
+    -- no call has taken more steps than are promised for its name
     most : (wrote : List (Event T)) (backs : ℕ) (start : Start T) (flight : Flight T) → FlightAt (K.At c wrote) start flight
         → number_by K.number flight backs ≤ K.promise.most_steps c code.size start backs
-    most wrote backs (Bits start) (flights.Bits flight) at = L.most wrote backs start flight at
-    most wrote backs start flight at = absurd at
+    most wrote backs (Bits start) (flights.Bits flight) stands = L.most wrote backs start flight stands
+    most wrote backs start flight stands = absurd stands
 
+    -- no call has turned back more often than words have changed since it began
     paid : (p : ℕ) (events : List (Event T)) (words : List ℕ) (since changes backs : ℕ) (flight : Flight T)
         → KnowsFlight (K.Knows p events words since changes backs) flight → backs ≤ changes - since
     paid p events words since changes backs (flights.Bits flight) knows_flight = L.paid p events words since changes backs flight knows_flight
     paid p events words since changes backs flight knows_flight = absurd knows_flight
 
-    -- what a call knows it knows after a turn of another party
+    -- what a call knows it knows still after a turn of another party
     still : (q : ℕ) (words : List ℕ) (events : List (Event T)) (turns changes : ℕ) (words' : List ℕ) (es : List (Event T)) (changes' : ℕ)
         → K.Preserves c words events turns changes words' es changes' → BeginsNone q es → (since backs : ℕ) (flight : Flight T)
         → KnowsFlight (K.Knows q events words since changes backs) flight → KnowsFlight (K.Knows q (events ++ es) words' since changes' backs) flight
@@ -99,15 +105,15 @@ module _ {T : Type 0} (K : SetOutline T) where
         L.still q words events turns changes words' es changes' preserves none since backs flight knows_flight
     still q words events turns changes words' es changes' preserves none since backs flight knows_flight = absurd knows_flight
 
-    -- party `p` takes a turn of the run `t`
-    module _ (t : Trace T) (s : Sound (family K code c) t) (p : ℕ) where
-      -- a step of a call that stands there shows what the family's step has to
-      step_shows : (x : Party T) (since : ℕ) (start : Start T) (flight : Flight T) → StandsThere (family K code c) t s p x since start flight
-          → families.StepOf (outline K) (scene_of (outline K) code c t s p x.steps x.backs since) start flight
-      step_shows x since (Bits start) (flights.Bits flight) here =
+    -- party `p` takes a turn of the run `t`, which is sound
+    module _ {t : Trace T} (sound : Sound (family K code c) t) (p : ℕ) where
+      -- a step of a call at its stage shows what the frame asks of a step
+      step_shows : {x : Party T} {since : ℕ} {start : Start T} {flight : Flight T} → StandsThere (family K code c) t sound p x since start flight
+          → families.StepOf (outline K) (scene_of (outline K) code c t sound p x.steps x.backs since) start flight
+      step_shows {x} {since} {start = (Bits start)} {flight = (flights.Bits flight)} here =
           let there : SetScene T =
           record {
-            state = s.state;
+            state = sound.state;
             events = t.events;
             turns = t.world.turns;
             party = p;
@@ -116,47 +122,49 @@ module _ {T : Type 0} (K : SetOutline T) where
             steps = x.steps;
             backs = x.backs;
           } in
-          let shows = L.step there s.holds.0 start flight _ here.at here.span refl here.steps here.knows in
+          let shows = L.step there sound.holds.0 start flight _ here.at here.span refl here.steps here.knows in
           record {
             state = record { words = _; events = _ };
             kept = refl;
             words = refl;
             shows = record { preserves = (shows.preserves, refl); own = shows.own; stands = shows.stands; here = shows.here; knows = shows.knows };
           }
-      step_shows x since start flight here = absurd here.at
+      step_shows here = absurd here.at
 
-      -- the first stage of a call is one of the set's own
+      -- a call that begins on a set is one of its calls at its first stage
       some_first : (start : BitsStart) (flight : Flight T)
           → first_of K.kind c (Bits start) registries.Nothing ≡ Some flight
           → (mine : BitsFlight) × (flight ≡ flights.Bits mine) × (first K.kind c start ≡ Some mine)
       some_first = grind arith
 
-      -- a call that begins shows what the family's begin has to
+      -- the begin of a call shows what the frame asks of a begin
       begin_shows : (start : Start T) (flight : Flight T) → first_of K.kind c start registries.Nothing ≡ Some flight
           → first_row ((begin_of K.kind c start).rows registries.Nothing p) ≡ None
-          → families.Begins (outline K) (scene_of (outline K) code c t s p 0 0 t.world.changes) start flight
-      begin_shows (Bits start) flight e rows =
-          let mine = some_first start flight e in
-          let is = L.first p t.events s.state.words t.world.changes start mine.0 mine.2 (row_passed (is_past c start) BadIndex None rows).0 in
+          → families.Begins (outline K) (scene_of (outline K) code c t sound p 0 0 t.world.changes) start flight
+      begin_shows (Bits start) flight begins_so rows =
+          let mine = some_first start flight begins_so in
+          let is = L.first p t.events sound.state.words t.world.changes start mine.0 mine.2 (row_passed (is_past c start) BadIndex None rows).0 in
           let begun : List (Event T) = Begun p (Bits start) ∷ [] in
           let span : span_of p (t.events ++ begun) ≡ Open (Bits start) [] = span_of-own p t.events begun (refl, tt) in
-          subst (λ f. families.Begins (outline K) (scene_of (outline K) code c t s p 0 0 t.world.changes) (Bits start) f) (sym mine.1)
+          subst (λ f. families.Begins (outline K) (scene_of (outline K) code c t sound p 0 0 t.world.changes) (Bits start) f) (sym mine.1)
           (record {
-            state = record { words = s.state.words; events = t.events ++ begun };
+            state = record { words = sound.state.words; events = t.events ++ begun };
             kept = refl;
             words = refl;
-            preserves = (L.begins p start s.state.words t.events t.world.turns t.world.changes s.holds.0, refl);
+            preserves = (L.begins p start sound.state.words t.events t.world.turns t.world.changes sound.holds.0, refl);
             at = subst (λ span. K.At c (wrote_in span) start mine.0) (sym span) is.at;
             wrote = ap (λ span. K.wrote p mine.0 span) span ∙ is.wrote;
             knows = is.knows;
           })
-      begin_shows start flight e rows = absurd (L.begins_own registries.Nothing start flight e)
+      begin_shows start flight begins_so rows = absurd (L.begins_own registries.Nothing start flight begins_so)
 
+    -- what a step of a call writes are effects of its party, and then the end of the call if it ends
     writes : (t : Trace T) (p : ℕ) (words : List ℕ) (wrote : List (Event T)) (start : Start T) (flight : Flight T) → FlightAt (K.At c wrote) start flight
         → laws.Writes (outline K) t (Next p) (step_from t p t.world.coding words registries.Nothing start flight)
-    writes t p words wrote (Bits start) (flights.Bits flight) at = laws.only_effects (outline K) t (Next p) _ (L.effects p _ wrote start flight at)
-    writes t p words wrote start flight at = absurd at
+    writes t p words wrote (Bits start) (flights.Bits flight) stands = laws.only_effects (outline K) t (Next p) _ (L.effects p _ wrote start flight stands)
+    writes t p words wrote start flight stands = absurd stands
 
+    -- what becomes of a call by a step is decided by its stage alone
     told : (at : BitsStart → BitsFlight → Type 0) (p : ℕ) (start : Start T) (flight : Flight T) → FlightAt at start flight
         → (z : Coding T) (words : List ℕ) (beside : Option (ℕ × ℕ)) (answer : ℕ)
         → (step_of z words beside p start flight answer registries.Nothing).after ≡ goes_of z p flight answer registries.Nothing
@@ -168,19 +176,20 @@ module _ {T : Type 0} (K : SetOutline T) where
   abbrev May : Trace T → Turn T → Type 0
   May t turn = Unit {0}
 
+  -- each coding and capacity has what the kind owes
   module _ (laws_of : (code : Coding T) (c : ℕ) → SetLaws code c) where
-    -- a call of another party stands where it stood, and has written what it had
+    -- a call of another party stands where it stood, and has written what it had written
     stays : (scene : Scene T (SetState T)) (s' : SetState T) (es : List (Event T)) → s'.events ≡ scene.events ++ es → scene.state.events ≡ scene.events
         → AreOwn scene.party es → (q : ℕ) → q ≢ scene.party → (start : Start T) (flight : Flight T)
         → FlightAt (K.At scene.capacity (wrote_in (span_of q scene.state.events))) start flight
         → FlightAt (K.At scene.capacity (wrote_in (span_of q s'.events))) start flight
         × (wrote_by K q flight (span_of q s'.events) ≡ wrote_by K q flight (span_of q scene.state.events))
-    stays scene s' es is was own q ne start flight at =
+    stays scene s' es split_so was own q ne start flight stands =
         let same : span_of q s'.events ≡ span_of q scene.state.events =
-        ap (span_of q) is ∙ (span_of-other scene.party q scene.events es ne own ∙ ap (span_of q) (sym was)) in
-        (subst (λ a. FlightAt (K.At scene.capacity (wrote_in a)) start flight) (sym same) at, ap (wrote_by K q flight) same)
+        ap (span_of q) split_so ∙ (span_of-other scene.party q scene.events es ne own ∙ ap (span_of q) (sym was)) in
+        (subst (λ a. FlightAt (K.At scene.capacity (wrote_in a)) start flight) (sym same) stands, ap (wrote_by K q flight) same)
 
-    -- each turn of a set may be taken, as the frame asks it of a family
+    -- each turn of a set may be taken, in the form that the frame asks of a family
     turns : (code : Coding T) (c : ℕ) → Turns (outline K) code c May
     turns code c =
         let L = laws_of code c in
@@ -195,15 +204,15 @@ module _ {T : Type 0} (K : SetOutline T) where
               still scene.coding scene.capacity (laws_of scene.coding scene.capacity) q scene.state.words
               scene.events scene.turns scene.changes s'.words es changes'
               preserves.0 (others_begin_none q scene.party es ne own) since backs flight h;
-          begin = λ t s p start flight may e rows. begin_shows code c L t s p start flight e rows;
-          step = λ t s p x since may found start flight here. step_shows code c L t s p x since start flight here;
+          begin = λ t s p start flight may e rows. begin_shows code c L s p start flight e rows;
+          step = λ t s p x since may found start flight here. step_shows code c L s p here;
           no_question = λ s p start flight at. no_question code c L _ start flight at;
           no_owners = λ s. refl;
         })
 
-    -- all that the frame asks of a family is so of the set's
-    owed : (code : Coding T) (c : ℕ) → Owed (outline K) code c
-    owed code c =
+    -- all that the frame asks of a family holds of the set's
+    owed : {code : Coding T} {c : ℕ} → Owed (outline K) code c
+    owed {code} {c} =
         let L = laws_of code c in
         record {
           promise = L.promise;
@@ -225,12 +234,14 @@ module _ {T : Type 0} (K : SetOutline T) where
           few = λ code c t turn s small. tt;
         }
 
+    -- what a step or a decision of the set writes is in the order that the frame asks
     pub orders : (code : Coding T) (c : ℕ) → Orders (family K code c)
-    orders code c = laws.orders (outline K) code c (owed code c)
+    orders code c = laws.orders (outline K) code c (owed)
 
-    -- what holds of every run where neither turns nor parties have a bound
+    -- each machine of a run is sound, however many turns and parties it has
     pub sound_on : (t : Trace T) → t.world.kind ≡ K.kind → IsReachedOn t → Sound (family K t.world.coding t.world.capacity) t
     sound_on = laws.reached_on_sound (outline K) all_turns
 
+    -- all that is promised of every run of the kind holds
     pub sets_keep : Keeps T K.kind
-    sets_keep = laws.keeps (outline K) May all_turns (λ code c coded admitted. owed code c)
+    sets_keep = laws.keeps (outline K) May all_turns (λ code c coded admitted. owed)

@@ -1,4 +1,6 @@
--- The steps of an add that was granted its index: it is the one who may write there, until it ends.
+-- The steps of an add from the grant of its index on: it loads the number of the element, hides what an
+-- earlier owner left there, stores the words of its value, places it and counts the change. Until it ends its
+-- party alone may write there. What a step has to show is said by `StepOf` and `Leads` of `Stages`.
 use Rattle.laws_container.proofs.Names.{◌≡◌, ◌≢◌, ◌⊎◌, ⊎_elim, inl, inr, ℕ, ◌+◌, ◌*◌, ◌%◌, ◌<◌, ◌≤◌, ◌==◌}
 use Rattle.laws_container.proofs.Names.{if◌then◌else◌, nat_lt, Bool, false, true, Option, Some, None, is_some, List}
 use Rattle.laws_container.proofs.Names.{[], ◌∷◌, ◌++◌, get_or, set, refl, sym, ap, subst, ◌∙◌, append-nil, arith}
@@ -24,7 +26,7 @@ use Rattle.laws_container.proofs.Knows.{AddOwns, Covers, Writes, HasPlaced, Stoo
 use Rattle.laws_container.proofs.Left.{left_after, left_of}
 use Rattle.laws_container.proofs.WellFormed.{IsWellFormedSoFar}
 use Rattle.laws_container.proofs.Sets.{leaves_behind, settles}
-use Rattle.laws_container.proofs.Stages.{IsHere, all, done, sees_now, then_sees, StepOf, Leads, none_lengthens}
+use Rattle.laws_container.proofs.Stages.{IsUnderWay, all, done, sees_now, then_sees, StepOf, Leads, none_lengthens}
 use Rattle.laws_container.proofs.Stages.{party_then, since_then, changes_then, backs_then, acts_more, goes_on}
 use Rattle.laws_container.proofs.Stages.{goes_calmly, ends, was_well_formed, was_well_formed_calmly}
 use Rattle.laws_container.proofs.CallProgress.{add_at, add_number, AddAt, IsGranted, MayHaveHidden}
@@ -34,11 +36,13 @@ use Rattle.laws_container.proofs.Writers.{IsWriter, one_writer}
 use Rattle.laws_container.proofs.Writing.{even_is, odd_is, adds_one, stores_to, adds_to_count, adds_to_change, hides_count}
 use Rattle.laws_robust.proofs.Cases.{on_bool}
 
--- what it has placed, once it has placed this
+-- an add that has placed its value, and has done no more to elements than hide what stood there, has placed
+-- just that value
 pub placed_once : {T : Type 0} (acts : List (Act T)) (i : ℕ) (value : T) → (acts ≡ []) ⊎ (acts ≡ Hides i ∷ [])
     → places (acts ++ Places i value ∷ []) ≡ (i, value) ∷ []
 placed_once = grind (arith, places)
 
+-- the add of `value` for `owner` in the turn of the scene, which was granted index `i`
 module _ {T : Type 0} (adding : Adding T) (i : ℕ)
     (granted : IsGranted adding.scene.capacity adding.scene.coding.size (all adding.scene) (done adding.scene) adding.owner i) where
   open adding use {scene, inv, value, owner, fits, acts}
@@ -50,60 +54,68 @@ module _ {T : Type 0} (adding : Adding T) (i : ℕ)
   abbrev start : ContainerStart T
   start = Add value owner
 
+  -- the add as a call at this stage
   abbrev at_stage : AddStage → ContainerFlight T
   at_stage stage = add_at c value owner stage
 
   below : i < c
   below = granted.0
 
-  -- how the call goes on, as an add of the kind
+  -- how the add goes on, as a call of the container
   abbrev as_add : After (add_calls.Add T) Added → After (ContainerFlight T) (Answer T)
   as_add a = as_call calls.Add added (went_on as_it_is (record { value = value; owner = owner }) tt a)
 
-  abbrev Here : AddStage → Type 0
-  Here stage = IsHere scene (Add value owner) (add_at c value owner stage)
+  -- the party's call under way is this add, at this stage
+  abbrev IsAtStage : AddStage → Type 0
+  IsAtStage stage = IsUnderWay scene (Add value owner) (add_at c value owner stage)
 
-  -- what it sees after a step that goes on to this stage
+  -- the party after the step by which the add comes to stage `next`
   abbrev then_at : AddStage → Option Ask → Party T
   then_at next ask = party_then scene start ask false (GoOn (at_stage next))
 
-  module _ (k : AddOwns c owner i (sees_now scene)) where
+  -- the party knows that it owns the index
+  module _ (owns : AddOwns c owner i (sees_now scene)) where
+    -- in a well-formed run the party may write at the index
     mine : WellFormed (before scene) → IsWriter p i owner events
-    mine well_formed = inl (k.owns well_formed.calm (acts.stays well_formed.kept)).by
+    mine well_formed = inl (owns.owns well_formed.calm (acts.stays well_formed.kept)).by
 
+    -- in a well-formed run no other party may write at the index
     nobody_else : {A : Type 0} → WellFormed (before scene) → (q : ℕ) → q ≢ p → (o : ℕ) → IsWriter q i o events → A
     nobody_else = grind (arith, one_writer, mine)
 
-    -- it owns its index still
+    -- the add owns its index after a step that writes nothing
     owns_calm : (ask : Option Ask) (y : Party T)
         → AddOwns c owner i (view scene.terms (words_after ws ask) scene.states (put p y latest) events p (since_then scene ask)
         (changes_then scene ask) (backs_then scene false))
     owns_calm = grind (arith, below)
 
+    -- the add owns its index after it has hidden what stood there
     owns_hidden : (ask : Option Ask) (y : Party T) → AddOwns c owner i (then_sees scene ask false scene.states y (Hidden p i ∷ []))
     owns_hidden = grind (arith, below, calm_less, gone_less, fold-append)
 
+    -- the add owns its index after it has placed its value
     owns_placed : (ask : Option Ask) (y : Party T) → AddOwns c owner i (then_sees scene ask false scene.states y (Placed p i value ∷ []))
     owns_placed = grind (arith, below, calm_less, gone_less, fold-append)
 
     -- ---- a step that changes nothing and writes nothing
 
-    -- a step that leaves the words and writes nothing leads an add to its next stage, where the
-    -- conditions of that stage hold
-    calm_step : (stage next : AddStage) (ask : Option Ask) → words_after ws ask ≡ ws → Here stage
+    -- a step that leaves the words and writes nothing leads an add to the stage `next`, where the conditions
+    -- of that stage hold
+    calm_step : (stage next : AddStage) (ask : Option Ask) → words_after ws ask ≡ ws → IsAtStage stage
         → add_owes next ≡ true → steps + step_count ask ≤ add_number c code.size next (backs_then scene false)
         → AddAt c code.size (all scene) (done scene) owner next
         → Knows code c (at_stage next)
         (view scene.terms (words_after ws ask) scene.states (put p (then_at next ask) latest) events p
         (since_then scene ask) (changes_then scene ask) (backs_then scene false))
         → Leads scene start ask false scene.states [] (GoOn (at_stage next))
-    calm_step stage next ask same here owe few at known =
+    calm_step stage next ask same here owe few stands known =
         goes_calmly scene start (at_stage next) ask false scene.states here.span
         (loads scene inv start (at_stage stage) tt here (then_at next ask) (words_after ws ask) same
         (was_well_formed scene start tt here.span (words_after ws ask) (then_at next ask) [] tt) (λ was. owe))
-        few (refl, refl, fits, at) known
+        few (refl, refl, fits, stands) known
 
-    -- it goes on to the words of its value, from an even number
+    -- where the number of the element is even, an add that has stored no word knows that none of
+    -- its value is written
     first_word : (ask : Option Ask) (y : Party T) → words_after ws ask ≡ ws
         → (WellFormed (before scene) → count_in code c (before scene) i % 2 ≡ 0)
         → (IsWellFormedSoFar scene.terms (put p y latest) events → WellFormed (before scene))
@@ -114,15 +126,16 @@ module _ {T : Type 0} (adding : Adding T) (i : ℕ)
 
     -- ---- the number is loaded
 
-    module _ (here : Here (adds.LoadsCount i)) (none : done scene ≡ []) (s : steps ≤ c + 3 + backs * (c + 1)) where
+    -- the add was granted its index, and loads the number of the element
+    module _ (here : IsAtStage (adds.LoadsCount i)) (none : done scene ≡ []) (few_steps : steps ≤ c + 3 + backs * (c + 1)) where
       abbrev load_it : Option Ask
       load_it = Some (set_stages.loads (count_word c i))
 
       abbrev number : ℕ
       number = count_in code c (before scene) i
 
-      -- the step in which an add loads the number of the element leads on: to the words under
-      -- an even one, and to the hiding under an odd one
+      -- the step in which an add loads the number of the element: it goes on to its first word if the number
+      -- is even, and to hiding what stands there if it is odd
       loads_step : StepOf scene start (at_stage (adds.LoadsCount i))
       loads_step =
           on_bool (λ b. Leads scene start (Some (set_stages.loads (count_word c i))) false scene.states []
@@ -146,21 +159,24 @@ module _ {T : Type 0} (adding : Adding T) (i : ℕ)
 
     -- ---- what stands there is hidden
 
-    module _ (count : ℕ) (here : Here (adds.Hides i count)) (none : done scene ≡ [])
+    -- the add has found the odd number `count`, and hides what an earlier owner has left under it
+    module _ (count : ℕ) (here : IsAtStage (adds.Hides i count)) (none : done scene ≡ [])
         (odd : count % 2 ≡ 1) (covers : Covers code c owner i count (sees_now scene))
-        (s : steps ≤ c + 4 + backs * (c + 1)) where
+        (few_steps : steps ≤ c + 4 + backs * (c + 1)) where
       abbrev hide_it : Option Ask
       hide_it = Some (exchanges (count_word c i) count (one_more count))
 
       abbrev now_at : ℕ
       now_at = count_in code c (before scene) i
 
-      -- the step in which an add hides what stands there shows what it has to, whether it finds the number or another
+      -- the step in which an add hides what stands at its index: it goes on to its first word, whether it
+      -- finds the loaded number or another one
       hides_step : StepOf scene start (at_stage (adds.Hides i count))
       hides_step =
           on_bool (λ b. Leads scene start (Some (exchanges (count_word c i) count (one_more count))) false scene.states
           ((if b then Hidden p i ∷ [] else []) ++ []) (GoOn (at_stage (adds.Stores i 0))))
           (now_at == count)
+          -- the number is the one that was loaded: the step hides what an earlier owner has left there
           (λ t.
           let same_count : now_at ≡ count = grind (arith, nat_tests) in
           let some = inv.elements.coded.some in
@@ -182,6 +198,7 @@ module _ {T : Type 0} (adding : Adding T) (i : ℕ)
               has = λ holds lives. record { even = ap (λ n. n % 2) after ∙ omega arith; written = λ j js. absurd (omega arith) };
             },
           ))
+          -- the number is another one: another call has hidden what stood there, and the step changes nothing
           (λ t.
           let other : now_at ≢ count = grind (arith, nat_tests) in
           let some = inv.elements.coded.some in
@@ -196,13 +213,14 @@ module _ {T : Type 0} (adding : Adding T) (i : ℕ)
 
     -- ---- a word is stored
 
-    module _ (at : ℕ) (here : Here (adds.Stores i at))
+    -- the add has stored the first `at` words of its value, and stores the next one
+    module _ (at : ℕ) (here : IsAtStage (adds.Stores i at))
         (hidden : MayHaveHidden c code.size (all scene) (done scene) i) (ats : at < code.size)
-        (w : Writes code c owner i value at (sees_now scene)) (s : steps ≤ c + 5 + at + backs * (c + 1)) where
+        (has_stored : Writes code c owner i value at (sees_now scene)) (few_steps : steps ≤ c + 5 + at + backs * (c + 1)) where
       abbrev store_it : Option Ask
       store_it = Some (stores_to (element_word c code.size i at) (get_or (code.words_of value) at 0))
 
-      -- a store of a word leads to the stage behind it, where the add knows there what that stage asks
+      -- a store of a word leads to the stage `next`, where the add knows what that stage asks
       store_to : (next : AddStage) → add_owes next ≡ true
           → steps + 1 ≤ add_number c code.size next (backs_then scene false)
           → AddAt c code.size (all scene) (done scene) owner next
@@ -213,12 +231,12 @@ module _ {T : Type 0} (adding : Adding T) (i : ℕ)
       store_to next owe few stands known =
           goes_calmly scene start (at_stage next) store_it false scene.states here.span
           (stores_word scene inv start (at_stage (adds.Stores i at)) tt here (then_at next store_it)
-          (words_after ws store_it) i below at ats value owner mine (λ holds. w.has holds (acts.stays holds.kept))
+          (words_after ws store_it) i below at ats value owner mine (λ holds. has_stored.has holds (acts.stays holds.kept))
           refl
           (was_well_formed scene start tt here.span (words_after ws store_it) (then_at next store_it) [] tt) (λ was. owe))
           few (refl, refl, fits, stands) known
 
-      -- after a store of a word one word more of the value is written
+      -- after the store of a word, one word more of the value is written
       one_more_word : (next : AddStage)
           → Writes code c owner i value (at + 1)
           (view scene.terms (words_after ws store_it) scene.states (put p (then_at next store_it) latest) events p
@@ -229,10 +247,10 @@ module _ {T : Type 0} (adding : Adding T) (i : ℕ)
             has = λ holds lives.
                 let before_it = was_well_formed_calmly scene start tt here.span (then_at next store_it) holds in
                 store_writes code c ws events (inv.elements.whole before_it) inv.elements.wide i below value at ats
-                (w.has before_it (acts.stays before_it.kept));
+                (has_stored.has before_it (acts.stays before_it.kept));
           }
 
-      -- the step in which an add stores a word leads on, to the next word or to the placing
+      -- the step in which an add stores a word: it goes on to the next word, or to placing the value
       stores_step : StepOf scene start (at_stage (adds.Stores i at))
       stores_step =
           on_bool (λ b. Leads scene start (Some (stores_to (element_word c code.size i at) (get_or (code.words_of value) at 0)))
@@ -259,10 +277,11 @@ module _ {T : Type 0} (adding : Adding T) (i : ℕ)
 
     -- ---- the value is placed
 
-    module _ (here : Here (adds.AddsCount i))
+    -- the add has stored all words of its value, and raises the number to place the value
+    module _ (here : IsAtStage (adds.AddsCount i))
         (hidden : MayHaveHidden c code.size (all scene) (done scene) i)
-        (w : Writes code c owner i value code.size (sees_now scene))
-        (s : steps ≤ c + 5 + code.size + backs * (c + 1)) where
+        (has_stored : Writes code c owner i value code.size (sees_now scene))
+        (few_steps : steps ≤ c + 5 + code.size + backs * (c + 1)) where
       abbrev add_it : Option Ask
       add_it = Some (adds_one (count_word c i))
 
@@ -275,32 +294,34 @@ module _ {T : Type 0} (adding : Adding T) (i : ℕ)
       new : words_after ws add_it ≡ set ws (count_word c i) (one_more count_now)
       new = adds_to_count scene inv i below
 
-      -- the step in which an add makes the number odd places the value
+      -- the step in which an add raises the number to an odd one places its value
       places_step : StepOf scene start (at_stage (adds.AddsCount i))
       places_step =
           on_bool (λ b. Leads scene start (Some (adds_one (count_word c i))) false scene.states
           ((if b then Placed p i value ∷ [] else []) ++ []) (GoOn (at_stage (adds.AddsChange i))))
           (is_even count_now)
+          -- the number is even: the step places the value
           (λ t.
           let es = Placed p i value ∷ [] in
           let well_formed = was_well_formed scene start tt here.span (words_after ws add_it) y es (refl, tt) in
-          goes_on scene start (at_stage (adds.AddsChange i)) add_it false scene.states es here.span (λ start w. refl)
+          goes_on scene start (at_stage (adds.AddsChange i)) add_it false scene.states es here.span (λ start has_stored. refl)
           (places_it scene inv start (at_stage (adds.AddsCount i)) tt here y (words_after ws add_it)
-          i below new refl value owner acts mine (λ holds. w.has holds (acts.stays holds.kept)) well_formed)
+          i below new refl value owner acts mine (λ holds. has_stored.has holds (acts.stays holds.kept)) well_formed)
           ((refl, granted.1, hidden), tt) (omega arith)
           (refl, refl, fits, (below, ap (λ (d : List SetAct). d ++ []) granted.1)) (
             owns_placed add_it y,
-            (λ holds. ap (λ a. places a) (acts_more scene start here.span es (refl, tt) (λ start w. refl)) ∙ placed_once (done scene) i value hidden),
+            (λ holds. ap (λ a. places a) (acts_more scene start here.span es (refl, tt) (λ start has_stored. refl)) ∙ placed_once (done scene) i value hidden),
             (λ holds lives. (
               fold-append (left_after i) true events es ∙ at_same i i false (left_of i events) refl,
               ap is_some (fold-append (contents_after i) None events es ∙ at_same i i (Some value) (contents_of i events) refl),
             )),
           ))
+          -- the number is odd: a well-formed run has no such step, so nothing is to be said of what stands
           (λ t.
           let well_formed = was_well_formed scene start tt here.span (words_after ws add_it) y [] tt in
           let ill_formed =
           λ (holds : WellFormed (after scene (words_after ws add_it) y [])).
-          let even = (w.has (well_formed holds) (acts.stays holds.kept)).even in
+          let even = (has_stored.has (well_formed holds) (acts.stays holds.kept)).even in
           let odd = odd_is count_now t in
           absurd {A = ⊥} (omega arith) in
           goes_calmly scene start (at_stage (adds.AddsChange i)) add_it false scene.states here.span
@@ -315,12 +336,13 @@ module _ {T : Type 0} (adding : Adding T) (i : ℕ)
 
     -- ---- the change is counted, and the call ends
 
-    module _ (here : Here (adds.AddsChange i)) (placed : HasPlaced code c i value (sees_now scene))
-        (stood : Stood code c owner i (sees_now scene)) (s : steps ≤ c + 6 + code.size + backs * (c + 1)) where
+    -- the add has placed its value, and counts the change
+    module _ (here : IsAtStage (adds.AddsChange i)) (placed : HasPlaced code c i value (sees_now scene))
+        (stood : Stood code c owner i (sees_now scene)) (few_steps : steps ≤ c + 6 + code.size + backs * (c + 1)) where
       abbrev end_it : Option Ask
       end_it = Some (adds_one (change_word c))
 
-      -- the step in which an add counts the change ends it
+      -- the step in which an add counts its change ends the add
       ends_step : StepOf scene start (at_stage (adds.AddsChange i))
       ends_step =
           let party_after = party_then scene start end_it false (Done (Index i)) in
@@ -332,11 +354,12 @@ module _ {T : Type 0} (adding : Adding T) (i : ℕ)
           (settles (of_set scene) (inv_of_set scene inv) (words_after ws end_it)
           (leaves_behind (of_set scene) (inv_of_set scene inv) (words_after ws end_it) (change_word c) _ (omega arith) new)
           i owner value
-          (λ calm. k.owns (calm_less scene.terms.by events written calm)
+          (λ calm. owns.owns (calm_less scene.terms.by events written calm)
           (lives_settled scene.terms.by p i owner value events acts.alive calm.1)))
           tt well_formed (λ holds. placed (well_formed holds)) new says)
-          ((refl, granted.1), tt) (omega arith) (let paid = k.paid in omega arith)
+          ((refl, granted.1), tt) (omega arith) (let paid = owns.paid in omega arith)
         where
+          -- an index that is announced once the add has ended has a value
           says : WellFormed (before scene) → (a : ℕ)
               → announced_after a (announced_of a events) (Finished p (Container (Add value owner)) (Index i)) ≡ true
               → is_some (contents_of a events) ≡ true
@@ -344,17 +367,18 @@ module _ {T : Type 0} (adding : Adding T) (i : ℕ)
 
 -- ---- any step of an add
 
+-- the add in the turn of the scene
 module _ {T : Type 0} (adding : Adding T) where
   open adding use {scene, value, owner}
 
-  -- any step of an add that stands at a stage, and knows what the stage tells, shows what it has to
-  pub add_step : (stage : AddStage) → IsHere scene (Add value owner) (add_at scene.capacity value owner stage)
+  -- any step of an add, at whatever stage, keeps the invariant
+  pub add_step : (stage : AddStage) → IsUnderWay scene (Add value owner) (add_at scene.capacity value owner stage)
       → AddAt scene.capacity scene.coding.size (all scene) (done scene) owner stage
       → AddKnows scene.coding scene.capacity value owner stage (sees_now scene)
       → scene.steps ≤ add_number scene.capacity scene.coding.size stage scene.backs → StepOf scene (Add value owner) (add_at scene.capacity value owner stage)
-  add_step (adds.Acquires stage) here at add_knows s = acquire_step adding stage here at.1 at.0 add_knows s
-  add_step (adds.LoadsCount i) here at add_knows s = loads_step adding i at.0 add_knows here at.1 s
-  add_step (adds.Hides i count) here at add_knows s = hides_step adding i at.0 add_knows.0 count here at.1 at.2 add_knows.1 s
-  add_step (adds.Stores i word) here at add_knows s = stores_step adding i at.0 add_knows.0 word here at.1 at.2 add_knows.1 s
-  add_step (adds.AddsCount i) here at add_knows s = places_step adding i at.0 add_knows.0 here at.1 add_knows.1 s
-  add_step (adds.AddsChange i) here at add_knows s = ends_step adding i at add_knows.0 here add_knows.1 add_knows.2 s
+  add_step (adds.Acquires stage) here stands add_knows few_steps = acquire_step adding stage here stands.1 stands.0 add_knows few_steps
+  add_step (adds.LoadsCount i) here stands add_knows few_steps = loads_step adding i stands.0 add_knows here stands.1 few_steps
+  add_step (adds.Hides i count) here stands add_knows few_steps = hides_step adding i stands.0 add_knows.0 count here stands.1 stands.2 add_knows.1 few_steps
+  add_step (adds.Stores i word) here stands add_knows few_steps = stores_step adding i stands.0 add_knows.0 word here stands.1 stands.2 add_knows.1 few_steps
+  add_step (adds.AddsCount i) here stands add_knows few_steps = places_step adding i stands.0 add_knows.0 here stands.1 add_knows.1 few_steps
+  add_step (adds.AddsChange i) here stands add_knows few_steps = ends_step adding i stands add_knows.0 here add_knows.1 add_knows.2 few_steps

@@ -1,4 +1,6 @@
--- The steps of an add while it acquires its index: what the acquire of the set leads to, in a call that goes on after the grant.
+-- The steps of an add while it acquires its index: what each step of the acquire of the set leads to,
+-- in a call that goes on after the grant (`AddWrites`). What a step has to show is said by `StepOf`
+-- and `Leads` of `Stages`.
 use Rattle.laws_container.proofs.Names.{inl, inr, ◌∙◌, ⊎_elim, ◌≡◌, ℕ, ◌<◌, ◌≤◌, Bool, false, Option, List, [], ◌∷◌}
 use Rattle.laws_container.proofs.Names.{◌++◌, refl, ap, arith, Err, Ask, After, GoOn, AddStage, first_add}
 use Rattle.laws_container.proofs.Names.{add_acquired, cell_word, empty, went_on, NoPlace, Event, Filled, Granted}
@@ -26,22 +28,26 @@ use Rattle.laws_robust.proofs.Stages as set_stages
 use Rattle.laws_container.proofs.Effects.{OwesStill}
 use Rattle.laws_container.proofs.Invariant.{Scene, Inv, ActsFor, before, after, of_set, inv_of_set}
 use Rattle.laws_container.proofs.SetSteps.{rest_set, wide_set, fills, grants}
-use Rattle.laws_container.proofs.Stages.{IsHere, all, done, Leads, none_lengthens, StepOf, party_then, goes_on, goes_calmly, ends, owes_none, was_well_formed}
+use Rattle.laws_container.proofs.Stages.{IsUnderWay, all, done, Leads, none_lengthens, StepOf, party_then, goes_on}
+use Rattle.laws_container.proofs.Stages.{goes_calmly, ends, owes_none, was_well_formed}
 use Rattle.laws_container.proofs.CallProgress.{add_at}
 use Rattle.laws_container.proofs.Steps.{loads, ends_calmly}
 use Rattle.laws_container.proofs.Turns.{WellFormed}
 
 -- an add by the party of the scene, for an owner that is not gone
 pub record Adding (T : Type 0) : Type 0 where
+  -- the turn, and what holds of the machine before it
   pub scene : Scene T
   pub inv : Inv scene
+  -- the arguments of the call, whose owner can be in a cell and is not gone
   pub value : T
   pub owner : ℕ
   pub fits : owner < empty
   pub acts : ActsFor scene owner
 
+-- the add is in the acquire of the set, at `stage`
 module _ {T : Type 0} (adding : Adding T) (stage : AcquireStage)
-    (here : IsHere adding.scene (Add adding.value adding.owner) (add_at adding.scene.capacity adding.value adding.owner (adds.Acquires stage))) where
+    (here : IsUnderWay adding.scene (Add adding.value adding.owner) (add_at adding.scene.capacity adding.value adding.owner (adds.Acquires stage))) where
   open adding use {scene, inv, value, owner, fits, acts}
   open adding.scene use {capacity as c, party as p, steps, backs}
 
@@ -54,26 +60,30 @@ module _ {T : Type 0} (adding : Adding T) (stage : AcquireStage)
   abbrev flight : ContainerFlight T
   flight = add_at c value owner (adds.Acquires stage)
 
+  -- the add as a call at this stage
   abbrev goes_to : AddStage → ContainerFlight T
   goes_to next = add_at c value owner next
 
-  -- what a step leads to that did this, by how the acquire goes on
-  abbrev Lead : Option Ask → Bool → List (Event T) → After set_calls.Acquire Acquired → Type 0
-  Lead ask back did a =
+  -- what a step of the acquire leads to, as a step of the add
+  abbrev LeadsInAdd : Option Ask → Bool → List (Event T) → After set_calls.Acquire Acquired → Type 0
+  LeadsInAdd ask back did a =
       Leads scene (Add value owner) ask back scene.states (did ++ [])
       (as_call calls.Add added (went_on as_it_is (record { value = value; owner = owner }) tt (add_acquired (first_add c) a)))
 
+  -- the add has done nothing to elements
   module _ (none : done scene ≡ []) where
+    -- an add that acquires its index owes the changes no raise, and so none is missed
     still : (words' : List ℕ) (y : Party T) (es : List (Event T))
         (well_formed : WellFormed (after scene words' y es) → WellFormed (before scene))
         → OwesStill scene inv words' y es well_formed
     still words' y es well_formed = owes_none scene start flight y here refl
 
-    -- an add whose acquire fails ends with that failure
+    -- an add whose acquire fails ends with that failure: the container is locked, or no index was free
     refuses : (failure : UniqueIndexSetAcquireFailure) (ask : Option Ask) (back : Bool)
         → words_after ws ask ≡ ws → WhyNot (of_set scene) (inv_of_set scene inv) owner fits acts.alive 0 failure
         → set_knows.IsPaid (set_stages.sees (of_set scene) ask back)
-        → FewEnd (of_set scene) (inv_of_set scene inv) owner fits acts.alive 0 ask back → Lead ask back [] (Done (Err failure))
+        → FewEnd (of_set scene) (inv_of_set scene inv) owner fits acts.alive 0 ask back → LeadsInAdd ask back [] (Done (Err failure))
+    -- the container is locked
     refuses failures.IsLocked ask back same why paid few =
         let party_after = party_then scene start ask back (Done (NoPlace add_failures.IsLocked)) in
         let written = Finished p (Container start) (NoPlace add_failures.IsLocked) ∷ [] in
@@ -86,6 +96,7 @@ module _ {T : Type 0} (adding : Adding T) (stage : AcquireStage)
         (refl, tt) (tt, tt) (tt, tt))
         why.0 well_formed (λ holds. tt) same (λ i b. refl) (still (words_after ws ask) party_after written well_formed))
         ((refl, why.1), tt) (omega arith) (omega arith)
+    -- each index was filled, or the counter is at its end
     refuses failures.OutOfIndices ask back same why paid few =
         let party_after = party_then scene start ask back (Done (NoPlace add_failures.OutOfSpace)) in
         let written = Finished p (Container start) (NoPlace add_failures.OutOfSpace) ∷ [] in
@@ -104,16 +115,19 @@ module _ {T : Type 0} (adding : Adding T) (stage : AcquireStage)
         ) well_formed (λ holds. tt) same (λ i b. refl) (still (words_after ws ask) party_after written well_formed))
         ((refl, why.2), tt) (omega arith) (omega arith)
 
-    -- what the acquire of the set leads to, in an add: each of its steps, its grant, and each of its failures
-    caller : Caller (of_set scene) (inv_of_set scene inv) owner fits acts.alive 0 Lead
+    -- what the acquire of the set leads to as part of an add: one field for each kind of step of the acquire,
+    -- for its grant, and for its failures
+    caller : Caller (of_set scene) (inv_of_set scene inv) owner fits acts.alive 0 LeadsInAdd
     caller =
         record {
+          -- the acquire goes on in a step that leaves the words
           quiet = λ next ask back same at known few.
               let y = party_then scene start ask back (GoOn (goes_to (adds.Acquires next))) in
               let well_formed = was_well_formed scene start tt here.span (words_after ws ask) y [] tt in
               goes_calmly scene start (goes_to (adds.Acquires next)) ask back scene.states here.span
               (loads scene inv start flight tt here y (words_after ws ask) same well_formed (still (words_after ws ask) y [] well_formed))
               (omega arith) (refl, refl, fits, (at, none)) known;
+          -- the acquire fills a cell
           filled = λ i ask new does below empty_all known few.
               let y =
               party_then scene start ask false
@@ -129,6 +143,7 @@ module _ {T : Type 0} (adding : Adding T) (stage : AcquireStage)
               ((refl, empty_all), tt) (omega arith)
               (refl, refl, fits, ((below, ap (λ d. d ++ Fills i owner ∷ []) empty_all), ap (λ (d : List (Act T)). d ++ []) none)) known;
           fails = refuses;
+          -- the acquire is granted its index, and the add goes on to the number of the element
           grants = λ i ask back below filled mine raised paid few.
               let stays = set_effects.raised_stays (of_set scene) (inv_of_set scene inv) (words_after ws ask) raised in
               let y = party_then scene start ask back (GoOn (goes_to (adds.LoadsCount i))) in
@@ -151,8 +166,10 @@ module _ {T : Type 0} (adding : Adding T) (stage : AcquireStage)
               });
         }
 
+    -- the step of an add in the acquire of the set keeps the invariant
     pub acquire_step : AcquireAt c owner (all scene) stage
         → set_knows.Knows c (acquire_at c owner stage) (set_stages.now (of_set scene))
         → steps ≤ acquire_number c stage backs
         → StepOf scene (Add value owner) (add_at c value owner (adds.Acquires stage))
-    acquire_step at knows s = held_step (of_set scene) (inv_of_set scene inv) owner fits acts.alive 0 Lead caller stage at knows (omega arith)
+    acquire_step stands knows few_steps =
+        held_step (of_set scene) (inv_of_set scene inv) owner fits acts.alive 0 LeadsInAdd caller stage stands knows (omega arith)

@@ -1,4 +1,5 @@
--- All that is shown of the turns of a container, call by call, and so what is proved of every run.
+-- All that is to be shown of the turns of a container, gathered call by call; from it follows what is
+-- promised of every run.
 use Rattle.model.specs.declared.turn.Kind.TheVariants as kinds
 use Rattle.laws_container.proofs.Names.{Keeps}
 use Rattle.laws_container.proofs.AddWrites.{add_step}
@@ -17,7 +18,7 @@ use Rattle.laws_container.proofs.ReplaceFound.{replace_step}
 use Rattle.laws_container.proofs.Sound.{Shown}
 
 module _ {T : Type 0} where
-  -- each step of each call shows what it has to
+  -- each step of each call of a container keeps the invariant
   calls : (scene : Scene T) → Inv scene → CallSteps scene
   calls scene inv =
       record {
@@ -43,7 +44,7 @@ module _ {T : Type 0} where
         lock = λ none here k s. lock_step scene inv here none k s;
       }
 
-  -- all that is shown of the turns of a container
+  -- all that is to be shown of the turns of a container is shown
   pub shown : Shown T
   shown =
       record {
@@ -53,6 +54,6 @@ module _ {T : Type 0} where
         opens = λ terms code c coded some few. opens terms code c coded some few;
       }
 
-  -- what is proved of every run of the container
+  -- what is promised of every run of a container
   pub container_keeps : Keeps T kinds.Container
   container_keeps = keeps shown

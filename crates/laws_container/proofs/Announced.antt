@@ -1,15 +1,15 @@
--- What was announced when a call began, and stood through it, is announced still.
+-- A value that was announced when a call began, and has stood through the call, is announced still.
 use Rattle.laws_container.proofs.Names.{◌≡◌, ℕ, Bool, true, false, Option, Some, None, List, [], ◌∷◌, ◌++◌, refl, sym}
 use Rattle.laws_container.proofs.Names.{ap, subst, ◌∙◌, append_assoc, append-nil, arith, fold-append, Event, Begun}
 use Rattle.laws_container.proofs.Names.{WasAnnounced, StoodThrough, contents_after, contents_of, announced_after}
 use Rattle.laws_container.proofs.Names.{announced_of, BeginsNone}
 
 module _ {T : Type 0} where
-  -- an event after which something stands hides nothing there
+  -- an event after which a value stands at the index leaves it announced
   one_stays : (i : ℕ) (value : T) (e : Event T) (o : Option T) (c : Bool) → contents_after i o e ≡ Some value → c ≡ true → announced_after i c e ≡ true
   one_stays i value e o c here h = grind arith
 
-  -- what was announced, and had its value after each of these events, is announced after them
+  -- a value that was announced, and stood after each of these events, is announced after them
   all_stays : (i : ℕ) (value : T) (es part : List (Event T))
       → ((mid rest : List (Event T)) → es ≡ mid ++ rest → contents_of i (part ++ mid) ≡ Some value)
       → announced_of i part ≡ true → announced_of i (part ++ es) ≡ true
@@ -23,6 +23,7 @@ module _ {T : Type 0} where
       (λ mid rest is. ap (contents_of i) (append_assoc part (e ∷ []) mid) ∙ stood (e ∷ mid) rest (ap (λ (xs : List (Event T)). e ∷ xs) is)) now in
       ap (announced_of i) (sym (append_assoc part (e ∷ []) es)) ∙ later
 
+  -- events that begin no call of the party, without the first ones, begin none either
   none_rest : (p : ℕ) (mid rest : List (Event T)) → BeginsNone p (mid ++ rest) → BeginsNone p rest
   none_rest p [] rest begins_none = begins_none
   none_rest p (Begun q s ∷ es) rest begins_none = none_rest p es rest begins_none.1

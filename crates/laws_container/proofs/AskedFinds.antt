@@ -1,4 +1,5 @@
--- A find that ends writes nothing else in that turn. Unless a decision of no ends it, it has come to each index.
+-- A find that ends writes nothing else in that turn. Unless a no of its caller ends it, it has counted the
+-- whole container.
 use Rattle.laws_container.proofs.Names.{◌≡◌, ℕ, ⊎_elim, Option, Some, List, [], ◌∷◌, ◌++◌, refl, sym, ap, subst, ◌∙◌}
 use Rattle.laws_container.proofs.Names.{append-nil, arith, append_cancel_left, FindStage, ContainerState, Answer}
 use Rattle.laws_container.proofs.Names.{Number, Event, Finished, Container, ContainerFlight, Turn, Coding, after}
@@ -7,7 +8,7 @@ use Rattle.laws_container.proofs.Names.{events_of, after_turn, Trace, no_more}
 use Rattle.steps.specs.declared.copied.Buffer as buffers
 use Rattle.model.specs.declared.families.container.ContainerStart.TheVariants as starts
 use Rattle.model.proofs.Frame as frame
-use Rattle.laws_container.proofs.AskedTurn.{GoesOn, IsCalm, IsGoing, any_turn}
+use Rattle.laws_container.proofs.AskedTurn.{GoesOn, IsCalmTurn, IsGoing, any_turn}
 use Rattle.laws_container.proofs.Invariant.{family_by}
 use Rattle.laws_container.proofs.LooksTell.{container_is, ends_last}
 use Rattle.laws_container.proofs.Sound.{MayGoOn, Shown}
@@ -22,20 +23,25 @@ use Rattle.laws_container.proofs.Terms.{Terms}
 
 -- ---- the step that ends a find
 
+-- a call of party `q` is handed `old`, and its party has the state `state`
 module _ {T : Type 0} (code : Coding T) (q : ℕ) (state : Option (ContainerState T)) (answer : Answer T) where
-  abbrev Silent : ContainerFlight T → ℕ → Type 0
-  Silent flight old = answer_in (any_call (after code state flight old)) ≡ Some answer → effects code q state flight old ++ questions q flight old ≡ []
+  -- a step that ends the call with this answer writes nothing before the end
+  abbrev WritesNothingElse : ContainerFlight T → ℕ → Type 0
+  WritesNothingElse flight old =
+      answer_in (any_call (after code state flight old)) ≡ Some answer → effects code q state flight old ++ questions q flight old ≡ []
 
-  stage_silent : (c owner : ℕ) (room : buffers.Buffer 128) (stage : FindStage) (old : ℕ) → Silent (find_at c owner room stage) old
+  -- a step that ends a find at any stage writes nothing before the end
+  stage_silent : (c owner : ℕ) (room : buffers.Buffer 128) (stage : FindStage) (old : ℕ) → WritesNothingElse (find_at c owner room stage) old
   stage_silent c owner room stage old e = grind arith
 
--- a list that is one event and ends with one has no other
+-- a list with one member that ends with one has nothing before it
 only_one : {A : Type 0} → (x y : A) (before : List A) → x ∷ [] ≡ before ++ y ∷ [] → before ≡ []
-only_one x y [] e = refl
-only_one x y (z ∷ zs) e = let none : [] ≡ zs ++ y ∷ [] = cc in absurd (no_more zs y [] none)
+only_one x y [] split_so = refl
+only_one x y (z ∷ zs) split_so = let none : [] ≡ zs ++ y ∷ [] = cc in absurd (no_more zs y [] none)
 
+-- a find of `owner` by party `p` ends with `number` in this turn
 module _ {T : Type 0} (shown : Shown T) (terms : Terms) (code : Coding T) (t : Trace T)
-    (s : frame.Sound (family_by terms code t.world.capacity) t) (may : MayGoOn terms t) (turn : Turn T)
+    (sound : frame.Sound (family_by terms code t.world.capacity) t) (may : MayGoOn terms t) (turn : Turn T)
     (r : IsAllowed t.world turn) (p owner number : ℕ) where
   abbrev c : ℕ
   c = t.world.capacity
@@ -43,26 +49,27 @@ module _ {T : Type 0} (shown : Shown T) (terms : Terms) (code : Coding T) (t : T
   abbrev last : Event T
   last = Finished p (Container (starts.Find owner)) (Number number)
 
+  -- a step that ends a find of this owner writes nothing before the end
   silent_there : (q old : ℕ) (flight : ContainerFlight T)
       → At c code.size (set_acts_of q t.events) (acts_of q t.events) (starts.Find owner) flight
-      → Silent code q (state_of q s.state.states) (Number number) flight old
+      → WritesNothingElse code q (state_of q sound.state.states) (Number number) flight old
   silent_there = grind (arith, stage_silent)
 
   -- a turn in which a find ends writes nothing before that end
   ends_alone : (wrote : List (Event T)) → events_of t.world turn ≡ wrote ++ Finished p (Container (starts.Find owner)) (Number number) ∷ [] → wrote ≡ []
-  ends_alone wrote e =
+  ends_alone wrote split_so =
       ⊎_elim
-      (λ (calm : IsCalm shown terms code c t s may turn). absurd (calm.ends_none p (Container (starts.Find owner)) (Number number) wrote e))
-      (λ (going : IsGoing shown terms code c t s may turn). by going.party going.goes)
-      (any_turn shown terms code c t s may turn r)
+      (λ (calm : IsCalmTurn shown terms code c t sound may turn). absurd (calm.ends_none p (Container (starts.Find owner)) (Number number) wrote split_so))
+      (λ (going : IsGoing shown terms code c t sound may turn). by going.party going.goes)
+      (any_turn shown terms code c t sound may turn r)
     where
       -- a turn in which a party's call goes on, and that ends a find, writes nothing before that end
-      by : (q : ℕ) → GoesOn shown terms code c t s may turn q → wrote ≡ []
+      by : (q : ℕ) → GoesOn shown terms code c t sound may turn q → wrote ≡ []
       by q goes_on =
-          let state = state_of q s.state.states in
+          let state = state_of q sound.state.states in
           let did = effects code q state goes_on.flight goes_on.answer ++ questions q goes_on.flight goes_on.answer in
           let outcome = answer_in (any_call (after code state goes_on.flight goes_on.answer)) in
-          let whole : did ++ ending_of q (Container goes_on.start) outcome ≡ wrote ++ last ∷ [] = sym goes_on.wrote ∙ e in
+          let whole : did ++ ending_of q (Container goes_on.start) outcome ≡ wrote ++ last ∷ [] = sym goes_on.wrote ∙ split_so in
           let end =
           ends_last turn q p did (Container goes_on.start) (Container (starts.Find owner)) outcome (Number number) wrote
           (all_effects turn q goes_on.mine code state goes_on.flight goes_on.answer) whole in
@@ -73,14 +80,14 @@ module _ {T : Type 0} (shown : Shown T) (terms : Terms) (code : Coding T) (t : T
           (sym (ap (λ es. es ++ ending_of q (Container goes_on.start) outcome) nothing ∙ ap (λ o. ending_of q (Container goes_on.start) o) end.done) ∙ whole)
 
 module _ {T : Type 0} (shown : Shown T) (terms : Terms) (code : Coding T) (t : Trace T)
-    (s : frame.Sound (family_by terms code t.world.capacity) t) (may : MayGoOn terms t) (turn : Turn T)
+    (sound : frame.Sound (family_by terms code t.world.capacity) t) (may : MayGoOn terms t) (turn : Turn T)
     (r : IsAllowed t.world turn)
     (well_formed : Type 0) (so_far : well_formed → IsWellFormedSoFar terms (after_turn t turn).world.latest (after_turn t turn).events) where
-  -- each find that ends in a turn other than a no to its party has counted over the whole container
+  -- each find that ends in a turn other than a no to its party has counted the whole container
   pub finds_all : FindsAllIf well_formed t turn (after_turn t turn)
   finds_all p owner number ends ne =
-      let none = ends_alone shown terms code t s may turn r p owner number ends.wrote (append_cancel_left t.events (events_of t.world turn) _ ends.is) in
+      let none = ends_alone shown terms code t sound may turn r p owner number ends.wrote (append_cancel_left t.events (events_of t.world turn) _ ends.is) in
       let alone = subst (λ w. (after_turn t turn).events ≡ t.events ++ (w ++ Finished p (Container (starts.Find owner)) (Number number) ∷ [])) none ends.is in
       subst (λ w. CountsIf well_formed p owner t.world.capacity number (t.events ++ w)) (sym none)
       (subst (λ es. CountsIf well_formed p owner t.world.capacity number es) (sym (append-nil t.events))
-      (counts_all shown terms code t s may turn r well_formed so_far p owner number alone ne))
+      (counts_all shown terms code t sound may turn r well_formed so_far p owner number alone ne))

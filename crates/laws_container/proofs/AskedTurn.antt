@@ -1,5 +1,6 @@
--- A turn in which a call of the container goes on: what it writes, and what its party asks about then. Another party asks about
--- what it did, and so does each party after a begin or a death.
+-- A turn in which a call of the container goes on: what it writes, and what its party asks about then. In
+-- that turn each other party asks about what it asked about before; and in a begin or a death nobody asks
+-- about anything new.
 use Rattle.std.proofs.Common.{arith}
 use Rattle.laws_container.proofs.Names.{◌≡◌, ◌≢◌, ℕ, ◌⊎◌, ⊎_elim, inl, inr, Bool, true, false, Option, Some}
 use Rattle.laws_container.proofs.Names.{None, is_none, List, [], ◌∷◌, ◌++◌, refl, sym, ap, subst, ◌∙◌, AllByRecursion}
@@ -31,30 +32,35 @@ use Rattle.laws_container.proofs.Allowed.{IsAllowed}
 -- ---- what a party asks about in a machine
 
 module _ {T : Type 0} where
+  -- the index and the value that the party's call under way asks about
   abbrev world_asks : World T → ℕ → Option (ℕ × T)
   world_asks w p = question_in w.coding (flight_in w p)
 
+  -- what a party has under way after a step is the call as it goes on
   doing_call : (changes since : ℕ) (a : After (Flight T) (Answer T)) → flight_of (Some (doing_after changes since a)) ≡ call_in a
   doing_call = grind arith
 
-  -- the party asks as its call does, and any other as before
+  -- party `q`, whose call is `x`, takes a step in which it is handed `answer`
   module _ (w : World T) (q : ℕ) (x : Party T) (since : ℕ) (flight : Flight T) (answer : ℕ) where
     abbrev step_there : Step (Flight T) (Registry T) T
     step_there = step_in w q x flight answer
 
+    -- after the step party `q` asks about what its call asks about
     same_asks : (ask : _) → world_asks (after_step w q x since ask step_there) q ≡ question_in w.coding (call_in step_there.after)
     same_asks = grind (arith, party_put_same, doing_call)
 
+    -- after the step each other party asks about what it asked about before
     other_asks : (ask : _) (p : ℕ) → p ≢ q → world_asks (after_step w q x since ask step_there) p ≡ world_asks w p
     other_asks = grind (arith, party_put_other)
 
 -- ---- a call goes on
 
--- `c` is the capacity, `t` the run so far, and `s` what is sound of it
+-- `c` is the capacity, `t` the run up to this turn, and `s` that it is sound
 module _ {T : Type 0} (shown : Shown T) (terms : Terms) (code : Coding T) (c : ℕ) (t : Trace T)
-    (s : frame.Sound (family_by terms code c) t) (may : MayGoOn terms t) where
-  -- the party's call goes on, handed this answer
+    (sound : frame.Sound (family_by terms code c) t) (may : MayGoOn terms t) where
+  -- the call of party `q` goes on in this turn, handed `answer`
   pub record GoesOn (turn : Turn T) (q : ℕ) : Type 0 where
+    -- the call before the turn: what it asks about, its span, where it stands, and what it knows
     pub start : ContainerStart T
     pub flight : ContainerFlight T
     pub answer : ℕ
@@ -63,16 +69,18 @@ module _ {T : Type 0} (shown : Shown T) (terms : Terms) (code : Coding T) (c : �
     pub asked : question_at t q ≡ question_in code (Some (flights.Container flight))
     pub span : span_of q t.events ≡ Open (Container start) (wrote_of q t.events)
     pub at : At c code.size (set_acts_of q t.events) (acts_of q t.events) start flight
-    pub knows : Knows code c flight (view terms s.state.words s.state.states t.world.latest t.events q since t.world.changes backs)
+    pub knows : Knows code c flight (view terms sound.state.words sound.state.states t.world.latest t.events q since t.world.changes backs)
+    -- what the turn writes, and what each party asks about after it
     pub wrote : events_of t.world turn
-        ≡ (effects code q (state_of q s.state.states) flight answer ++ questions q flight answer)
-        ++ ending_of q (Container start) (answer_in (any_call (after code (state_of q s.state.states) flight answer)))
+        ≡ (effects code q (state_of q sound.state.states) flight answer ++ questions q flight answer)
+        ++ ending_of q (Container start) (answer_in (any_call (after code (state_of q sound.state.states) flight answer)))
     pub asks : question_at (after_turn t turn) q ≡ made code flight answer
     pub others : (p : ℕ) → p ≢ q → question_at (after_turn t turn) p ≡ question_at t p
+    -- the turn is one of party `q`; a yes to a question is the decision `Decide q true`
     pub mine : IsParty turn q
     pub by_yes : is_question (want code flight) ≡ true → answer ≢ 0 → turn ≡ Decide q true
 
-  -- a decision, which it waits for
+  -- the call of party `q` goes on with the decision that it has waited for
   pub record IsDecided (q : ℕ) (said : Bool) : Type 0 where
     pub goes : GoesOn (Decide q said) q
     pub due : is_question (want code goes.flight) ≡ true
@@ -80,35 +88,41 @@ module _ {T : Type 0} (shown : Shown T) (terms : Terms) (code : Coding T) (c : �
 
   -- party `q`, whose call is `x`, takes this turn
   module _ (turn : Turn T) (q answer : ℕ) (mine : IsParty turn q) (x : Party T) (since : ℕ) (found : party_of q t.world.latest ≡ Some x) where
+    -- what the step of the call comes to
     abbrev stepping : Coding T → Registry T → Start T → Flight T → Step (Flight T) (Registry T) T
     stepping y kept a flight = step_of y t.world.words (beside_of t.world.words kept t.world.latest q) q a flight answer kept
 
-    abbrev Wrote : Coding T → Registry T → Start T → Flight T → Type 0
-    Wrote y kept a flight = events_of t.world turn ≡ events_of_step q a (stepping y kept a flight)
+    -- the turn writes what the step of the call writes
+    abbrev WritesStep : Coding T → Registry T → Start T → Flight T → Type 0
+    WritesStep y kept a flight = events_of t.world turn ≡ events_of_step q a (stepping y kept a flight)
 
-    abbrev Asks : Coding T → Registry T → Start T → Flight T → Type 0
-    Asks y kept a flight = question_at (after_turn t turn) q ≡ question_in y (call_in (stepping y kept a flight).after)
+    -- after the turn the party asks about what its call asks about
+    abbrev AsksStep : Coding T → Registry T → Start T → Flight T → Type 0
+    AsksStep y kept a flight = question_at (after_turn t turn) q ≡ question_in y (call_in (stepping y kept a flight).after)
 
-    abbrev ByYes : Coding T → Flight T → Type 0
-    ByYes y flight = is_question (want_of y flight) ≡ true → answer ≢ 0 → turn ≡ Decide q true
+    -- if the call waits for a decision and is told anything but no, the turn is the decision yes
+    abbrev IsByYes : Coding T → Flight T → Type 0
+    IsByYes y flight = is_question (want_of y flight) ≡ true → answer ≢ 0 → turn ≡ Decide q true
 
     -- the turn moves a call of a container on, with this answer
-    pub record Went (flight : Flight T) : Type 0 where
+    pub record HasGoneOn (flight : Flight T) : Type 0 where
       pub on : GoesOn turn q
       pub is : flight ≡ flights.Container on.flight
       pub answered : on.answer ≡ answer
 
-    abbrev From : Coding T → Registry T → Start T → Flight T → Type 0
-    From y kept a flight =
-        Wrote y kept a flight → Asks y kept a flight
-        → ((p : ℕ) → p ≢ q → question_at (after_turn t turn) p ≡ question_at t p) → ByYes y flight
-        → question_at t q ≡ question_in y (Some flight) → Went flight
+    -- if the turn writes and asks what the step of the call does, the call goes on in it
+    abbrev GoesOnFrom : Coding T → Registry T → Start T → Flight T → Type 0
+    GoesOnFrom y kept a flight =
+        WritesStep y kept a flight → AsksStep y kept a flight
+        → ((p : ℕ) → p ≢ q → question_at (after_turn t turn) p ≡ question_at t p) → IsByYes y flight
+        → question_at t q ≡ question_in y (Some flight) → HasGoneOn flight
 
-    -- a call that stands there by the events has gone on in this turn
-    by_names : (a : Start T) (flight : Flight T) → StandsThere (family_by terms code c) t s q x since a flight
-        → From code (kept_now shown terms code c t s) a flight
+    -- a call of the container at its stage, of which the turn writes and asks what its step
+    -- does, goes on in this turn
+    by_names : (a : Start T) (flight : Flight T) → StandsThere (family_by terms code c) t sound q x since a flight
+        → GoesOnFrom code (kept_now shown terms code c t sound) a flight
     by_names (Container start) (flights.Container flight) stands wrote asks others told asked =
-        let there = is_there shown terms code c t s q x since found start flight stands in
+        let there = is_there shown terms code c t sound q x since found start flight stands in
         record {
           on =
               record {
@@ -122,7 +136,7 @@ module _ {T : Type 0} (shown : Shown T) (terms : Terms) (code : Coding T) (c : �
                 at = there.at;
                 knows = there.knows;
                 wrote = wrote;
-                asks = asks ∙ question_left code (state_of q s.state.states) flight answer;
+                asks = asks ∙ question_left code (state_of q sound.state.states) flight answer;
                 others = others;
                 mine = mine;
                 by_yes = told;
@@ -132,18 +146,20 @@ module _ {T : Type 0} (shown : Shown T) (terms : Terms) (code : Coding T) (c : �
         }
     by_names a flight stands wrote asks others told asked = absurd stands.at
 
-    went : (flight : Flight T) → x.doing ≡ Going flight since → From t.world.coding t.world.kept x.start flight
+    -- the party's call under way goes on in this turn, by the machine's own words and states
+    went : (flight : Flight T) → x.doing ≡ Going flight since → GoesOnFrom t.world.coding t.world.kept x.start flight
     went flight doing =
-        subst (λ y. From y t.world.kept x.start flight) (sym s.coding)
-        (subst (λ kept. From code kept x.start flight) (sym s.fit.kept)
-        (by_names x.start flight (stands_there (family_by terms code c) t s q x since flight found doing)))
+        subst (λ y. GoesOnFrom y t.world.kept x.start flight) (sym sound.coding)
+        (subst (λ kept. GoesOnFrom code kept x.start flight) (sym sound.fit.kept)
+        (by_names x.start flight (stands_there (family_by terms code c) t sound q x since flight found doing)))
 
   -- ---- a step
 
+  -- the old value of the word for which the call of the party asks
   abbrev next_number : Party T → Doing T → ℕ
   next_number x doing = old_of t.world.words (ask_of_doing t.world.coding doing)
 
-  -- a step of a party whose call waits for no decision lets its call go on
+  -- a step of a party whose call waits for no decision lets the call go on
   next_by : (q : ℕ) (x : Party T) → party_of q t.world.latest ≡ Some x → is_none (flight_in t.world q) ≡ false
       → is_due t.world.coding (flight_in t.world q) ≡ false → (doing : Doing T) → x.doing ≡ doing → GoesOn (Next q) q
   next_by q x found some free (Over others) same_doing =
@@ -169,23 +185,23 @@ module _ {T : Type 0} (shown : Shown T) (terms : Terms) (code : Coding T) (c : �
 
   -- a step that is not refused lets the party's call go on
   next_goes : (q : ℕ) → call_refusal t.world (Next q) ≡ None → GoesOn (Next q) q
-  next_goes q r = by (party_of q t.world.latest) refl
+  next_goes q unrefused = by (party_of q t.world.latest) refl
     where
       -- whatever that party has under way, its call goes on
       by : (o : Option (Party T)) → party_of q t.world.latest ≡ o → GoesOn (Next q) q
       by None found =
-          let first = row_passed (is_none (flight_in t.world q)) Idle _ r in
+          let first = row_passed (is_none (flight_in t.world q)) Idle _ unrefused in
           let none : is_none (flight_in t.world q) ≡ true = ap (λ o. is_none (flight_of (doing_of o))) found in
           let some = first.0 in
           absurd (cc)
       by (Some x) found =
-          let first = row_passed (is_none (flight_in t.world q)) Idle _ r in
+          let first = row_passed (is_none (flight_in t.world q)) Idle _ unrefused in
           let second = row_passed (is_due t.world.coding (flight_in t.world q)) Undecided _ first.1 in
           next_by q x found first.0 second.0 x.doing refl
 
   -- ---- a decision
 
-  -- a decision of a party whose call waits for one lets it go on with that answer
+  -- a decision that is told to a party whose call waits for one lets the call go on with that answer
   decision_by : (q : ℕ) (said : Bool) (x : Party T) → party_of q t.world.latest ≡ Some x
       → is_due t.world.coding (flight_in t.world q) ≡ true → (doing : Doing T) → x.doing ≡ doing → IsDecided q said
   decision_by q said x found due (Over others) same_doing =
@@ -208,7 +224,7 @@ module _ {T : Type 0} (shown : Shown T) (terms : Terms) (code : Coding T) (c : �
       let asks : is_question (want_of world.coding flight) ≡ true = rw here at due in
       record {
         goes = h.on;
-        due = subst (λ f. is_question (want_of code f) ≡ true) h.is (subst (λ y. is_question (want_of y flight) ≡ true) s.coding asks);
+        due = subst (λ f. is_question (want_of code f) ≡ true) h.is (subst (λ y. is_question (want_of y flight) ≡ true) sound.coding asks);
         answer_is = h.answered;
       }
     where
@@ -216,7 +232,7 @@ module _ {T : Type 0} (shown : Shown T) (terms : Terms) (code : Coding T) (c : �
       is_yes true some = refl
       is_yes false some = absurd (some refl)
 
-  -- a decision that is allowed lets the call that waits for it go on with that answer
+  -- a decision that is not refused lets the call that waits for it go on with that answer
   pub decided : (q : ℕ) (said : Bool) → IsAllowed t.world (Decide q said) → IsDecided q said
   decided q said allowed = by (party_of q t.world.latest) refl
     where
@@ -233,56 +249,58 @@ module _ {T : Type 0} (shown : Shown T) (terms : Terms) (code : Coding T) (c : �
 
   -- ---- a begin, and a death
 
-  -- the turn writes no end, nothing of a question, and no question comes
-  pub record IsCalm (turn : Turn T) : Type 0 where
+  -- a turn that writes no end and nothing that is wrong of a question, and after which nobody
+  -- asks about anything new
+  pub record IsCalmTurn (turn : Turn T) : Type 0 where
     pub right : AllByRecursion (WritesRight t turn (after_turn t turn)) (events_of t.world turn)
     pub ends_none : (p : ℕ) (start : Start T) (answer : Answer T) (wrote : List (Event T)) → events_of t.world turn ≡ wrote ++ Finished p start answer ∷ [] → ⊥
     pub asks : (p index : ℕ) (value : T) → question_at (after_turn t turn) p ≡ Some (index, value) → question_at t p ≡ Some (index, value)
 
-  -- after a begin each party asks only what it asked before
+  -- after a begin each party asks only about what it asked about before
   begun_asks : (q : ℕ) (start : Start T) (o : Option (Flight T))
       → first_of t.world.kind t.world.capacity start t.world.kept ≡ o → (p index : ℕ) (value : T)
       → world_asks (after_begin t.world q start o) p ≡ Some (index, value) → world_asks t.world p ≡ Some (index, value)
-  begun_asks q start None first p index value e = e
-  begun_asks q start (Some flight) first p index value e = ⊎_elim here there (cases_eq p q)
+  begun_asks q start None first p index value asked = asked
+  begun_asks q start (Some flight) first p index value asked = ⊎_elim here there (cases_eq p q)
     where
+      -- a party that does not begin asks about what it asked about before
       there : p ≢ q → world_asks t.world p ≡ Some (index, value)
       there ne =
           sym (ap (λ o. question_in t.world.coding (flight_of (doing_of o)))
           (party_put_other p q (party_at_begin start flight t.world.changes) t.world.latest ne))
-          ∙ e
+          ∙ asked
 
       -- no call begins with a question
       none_of : (start : Start T) (flight : Flight T)
           → first_of kinds.Container t.world.capacity start t.world.kept ≡ Some flight
           → question_in t.world.coding (Some flight) ≡ None
-      none_of (Container a) (flights.Container one) is =
-          let own = begins_own t.world.capacity t.world.kept (Container a) (flights.Container one) is in
+      none_of (Container a) (flights.Container one) begins_so =
+          let own = begins_own t.world.capacity t.world.kept (Container a) (flights.Container one) begins_so in
           subst (λ f. question_in t.world.coding (Some (flights.Container f)) ≡ None) own.0 (question_first t.world.coding t.world.capacity a)
-      none_of a one is = absurd (begins_own t.world.capacity t.world.kept a one is)
+      none_of a one begins_so = absurd (begins_own t.world.capacity t.world.kept a one begins_so)
 
       -- the party that begins asks only what it asked before
       here : p ≡ q → world_asks t.world p ≡ Some (index, value)
-      here is =
+      here same_party =
           let named : first_of kinds.Container t.world.capacity start t.world.kept ≡ Some flight =
-          subst (λ kind. first_of kind t.world.capacity start t.world.kept ≡ Some flight) s.kind first in
+          subst (λ kind. first_of kind t.world.capacity start t.world.kept ≡ Some flight) sound.kind first in
           let none : question_in t.world.coding (Some flight) ≡ None = none_of start flight named in
           let stands : world_asks (after_begin t.world q start (Some flight)) q ≡ question_in t.world.coding (Some flight) =
           ap (λ o. question_in t.world.coding (flight_of (doing_of o))) (party_put_same q (party_at_begin start flight t.world.changes) t.world.latest)
           in
           let moved : world_asks (after_begin t.world q start (Some flight)) q ≡ Some (index, value) =
-          subst (λ n. world_asks (after_begin t.world q start (Some flight)) n ≡ Some (index, value)) is e in
+          subst (λ n. world_asks (after_begin t.world q start (Some flight)) n ≡ Some (index, value)) same_party asked in
           absurd (cc)
 
   -- ---- any turn
 
-  -- some party's call goes on in the turn
+  -- the call of some party goes on in the turn
   pub record IsGoing (turn : Turn T) : Type 0 where
     pub party : ℕ
     pub goes : GoesOn turn party
 
-  -- any turn that is allowed is calm, or lets one party's call go on
-  pub any_turn : (turn : Turn T) → IsAllowed t.world turn → IsCalm turn ⊎ IsGoing turn
+  -- any turn that is not refused is calm, or lets the call of one party go on
+  pub any_turn : (turn : Turn T) → IsAllowed t.world turn → IsCalmTurn turn ⊎ IsGoing turn
   any_turn (Begin q start) allowed =
       inl
       (record {

@@ -1,5 +1,5 @@
--- What a call of the container writes of a question as it goes on: a find and a recovery come to indices that were their owner's
--- and ask at once about what they copy, and a recovery is told by a yes.
+-- What a call of a container writes of questions as it goes on: a find and a recovery come to indices that
+-- were their owner's and ask at once about what they copy, and only a yes tells a recovery to free one.
 use Rattle.laws_container.proofs.Names.{◌≡◌, ◌≢◌, ℕ, true, Option, Some, None, List, [], ◌∷◌, ◌++◌, refl, sym, subst}
 use Rattle.laws_container.proofs.Names.{arith, AllByRecursion, ContainerState, Answer, Event, Container}
 use Rattle.laws_container.proofs.Names.{ContainerStart, ContainerFlight, Turn, Decide, Coding, is_question, want}
@@ -16,42 +16,45 @@ use Rattle.laws_container.proofs.Terms.{Terms}
 
 -- party `q` takes a turn of the run `t`, at the capacity `c`
 module _ {T : Type 0} (code : Coding T) (c : ℕ) (t : Trace T) (turn : Turn T) (q : ℕ) where
-  abbrev R : Event T → Type 0
-  R e = WritesRight t turn (after_turn t turn) e
+  -- the event writes rightly what it says of questions (`WritesRight`, as the promise has it)
+  abbrev IsRightQuestion : Event T → Type 0
+  IsRightQuestion e = WritesRight t turn (after_turn t turn) e
 
-  abbrev All : List (Event T) → Type 0
-  All es = AllByRecursion R es
+  abbrev AreRightQuestions : List (Event T) → Type 0
+  AreRightQuestions es = AllByRecursion IsRightQuestion es
 
-  joined : (xs ys : List (Event T)) → All xs → All ys → All (xs ++ ys)
+  joined : (xs ys : List (Event T)) → AreRightQuestions xs → AreRightQuestions ys → AreRightQuestions (xs ++ ys)
   joined [] ys first_all second_all = second_all
   joined (x ∷ xs) ys first_all second_all = (first_all.0, joined xs ys first_all.1 second_all)
 
   -- ---- any call
 
-  abbrev ByYes : ContainerFlight T → ℕ → Type 0
-  ByYes flight old = is_question (want code flight) ≡ true → old ≢ 0 → turn ≡ Decide q true
+  -- if the call waits for a decision and is handed anything but no, the turn is the decision yes
+  abbrev IsByYes : ContainerFlight T → ℕ → Type 0
+  IsByYes flight old = is_question (want code flight) ≡ true → old ≢ 0 → turn ≡ Decide q true
 
-  -- all that a call writes of a question as it goes on is right
+  -- all that a call writes of questions as it goes on is right
   any_call_right : (state : Option (ContainerState T)) (v : View T) → v.events ≡ t.events → v.party ≡ q
       → (start : ContainerStart T) (flight : ContainerFlight T) (old : ℕ)
       → span_of q t.events ≡ Open (Container start) (wrote_of q t.events)
       → At c code.size (set_acts_of q t.events) (acts_of q t.events) start flight → Knows code c flight v
-      → question_at (after_turn t turn) q ≡ made code flight old → ByYes flight old
-      → All (effects code q state flight old ++ questions q flight old)
-  any_call_right state v same mine start flight old span at knows asks told = grind arith
+      → question_at (after_turn t turn) q ≡ made code flight old → IsByYes flight old
+      → AreRightQuestions (effects code q state flight old ++ questions q flight old)
+  any_call_right state v same mine start flight old span stands knows asks told = grind arith
 
-  end_right : (start : ContainerStart T) (outcome : Option (Answer T)) → All (ending_of q (Container start) outcome)
+  -- the end of a call says nothing wrong of questions
+  end_right : (start : ContainerStart T) (outcome : Option (Answer T)) → AreRightQuestions (ending_of q (Container start) outcome)
   end_right start None = tt
   end_right start (Some answer) = (tt, tt)
 
 module _ {T : Type 0} (shown : Proved T) (terms : Terms) (code : Coding T) (c : ℕ) (t : Trace T)
-    (s : frame.Sound (family_by terms code c) t) (may : MayGoOn terms t) (turn : Turn T) (q : ℕ) where
-  -- what a turn writes in which a call goes on
-  pub goes_right : (g : GoesOn shown terms code c t s may turn q) → AllByRecursion (WritesRight t turn (after_turn t turn)) (events_of t.world turn)
+    (sound : frame.Sound (family_by terms code c) t) (may : MayGoOn terms t) (turn : Turn T) (q : ℕ) where
+  -- what a turn in which a call goes on writes of questions is right
+  pub goes_right : (g : GoesOn shown terms code c t sound may turn q) → AllByRecursion (WritesRight t turn (after_turn t turn)) (events_of t.world turn)
   goes_right g =
       subst (AllByRecursion (WritesRight t turn (after_turn t turn))) (sym g.wrote)
-      (joined code c t turn q (effects code q (state_of q s.state.states) g.flight g.answer ++ questions q g.flight g.answer) _
-      (any_call_right code c t turn q (state_of q s.state.states)
-      (view terms s.state.words s.state.states t.world.latest t.events q g.since t.world.changes g.backs) refl refl
+      (joined code c t turn q (effects code q (state_of q sound.state.states) g.flight g.answer ++ questions q g.flight g.answer) _
+      (any_call_right code c t turn q (state_of q sound.state.states)
+      (view terms sound.state.words sound.state.states t.world.latest t.events q g.since t.world.changes g.backs) refl refl
       g.start g.flight g.answer g.span g.at g.knows g.asks (λ due some. g.by_yes due some))
       (end_right code c t turn q g.start _))

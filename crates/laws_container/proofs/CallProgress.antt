@@ -1,4 +1,5 @@
--- Where a call of the container stands: how many steps it has taken at most, and what it has done to the set and to elements.
+-- Where a call of the container stands at each stage: how many steps it has taken at most, and what it has
+-- done to the set and to elements. `Invariant` keeps this of each call under way.
 use Rattle.laws_container.proofs.Names.{◌≡◌, ◌⊎◌, ℕ, ◌+◌, ◌*◌, ◌%◌, ◌<◌, ◌≤◌, List, [], ◌∷◌, arith, AllByRecursion}
 use Rattle.laws_container.proofs.Names.{AddStage, FindStage, LookStage, RecoverStage, RemoveStage, ReplaceStage}
 use Rattle.laws_container.proofs.Names.{ReleaseMode, LockIfLastIndex, Default, Counting, empty, State, ContainerStart}
@@ -21,7 +22,7 @@ use Rattle.model.specs.declared.families.container.calls.LookOf.TheVariants as k
 use Rattle.model.specs.declared.families.indices.robust.RobustStart.TheVariants as set_starts
 use Rattle.model.specs.Families.Indices.Robust.Bounds as set_bounds
 
--- ---- the calls by their stages
+-- ---- the calls at their stages, as calls of the container
 
 module _ {T : Type 0} where
   -- an add at a stage
@@ -74,20 +75,24 @@ module _ {T : Type 0} where
         room = room;
       })
 
+  -- a look at a stage
   abbrev pub look_at : LookOf → ℕ → LookStage → ContainerFlight T
   look_at which c stage = Look which (record { capacity = c; stage = stage; of = record {} })
 
+  -- a call on the length at a stage
   abbrev pub count_at : CountOf → ℕ → Counting → ContainerFlight T
   count_at which c count =
       Count which
       (record { call = record { capacity = c; count = count }; given = tt; room = tt })
 
+  -- a call that asks whether the container is locked
   abbrev pub lock_at : ContainerFlight T
   lock_at = IsLocked (record { call = record {}; given = tt; room = tt })
 
 -- ---- how many steps they have taken at most, where a value has z words
 
--- an add, after so many turns back
+-- how many steps an add has taken at most at its stage, where it has turned back `backs` times; here as below
+-- `c` is the capacity and `z` the words of a value
 abbrev pub add_number : ℕ → ℕ → AddStage → ℕ → ℕ
 add_number c z (adds.Acquires stage) backs = acquire_number c stage backs
 add_number c z (adds.LoadsCount index) backs = c + 3 + backs * (c + 1)
@@ -96,12 +101,12 @@ add_number c z (adds.Stores index at) backs = c + 5 + at + backs * (c + 1)
 add_number c z (adds.AddsCount index) backs = c + 5 + z + backs * (c + 1)
 add_number c z (adds.AddsChange index) backs = c + 6 + z + backs * (c + 1)
 
--- a release, to its end
+-- how many steps a whole release takes at most, where it has turned back `backs` times
 abbrev pub release_total : ℕ → ℕ → ℕ → ReleaseMode → ℕ → ℕ
 release_total c index owner mode backs =
     set_bounds.most_steps c (set_starts.Release index owner mode) backs
 
--- a remove, whose release alone turns back
+-- how many steps a remove has taken at most at its stage, where its release has turned back `backs` times
 abbrev pub remove_number : ℕ → ℕ → ℕ → ReleaseMode → RemoveStage → ℕ → ℕ
 remove_number c index owner mode removes.Refuses backs = 0
 remove_number c index owner mode removes.LoadsCount backs = 0
@@ -112,7 +117,7 @@ remove_number c index owner mode (removes.Hides count state) backs =
 remove_number c index owner mode (removes.AddsChange state) backs =
     2 + release_total c index owner mode backs
 
--- a replace, which never turns back
+-- how many steps a replace has taken at most at its stage; it never turns back
 abbrev pub replace_number : ℕ → ReplaceStage → ℕ
 replace_number z replaces.Refuses = 0
 replace_number z replaces.LoadsCell = 0
@@ -122,7 +127,7 @@ replace_number z (replaces.Stores at) = 3 + at
 replace_number z replaces.AddsCount = 3 + z
 replace_number z replaces.AddsChange = 4 + z
 
--- a find, which never turns back
+-- how many steps a find has taken at most at its stage; it never turns back
 abbrev pub find_number : ℕ → FindStage → ℕ
 find_number z (finds.LoadsCell index found) = index * (z + 3)
 find_number z (finds.LoadsCount index found) = 1 + index * (z + 3)
@@ -130,16 +135,17 @@ find_number z (finds.LoadsWord index found count at) = 2 + at + index * (z + 3)
 find_number z (finds.ChecksCount index found count) = 2 + z + index * (z + 3)
 find_number z (finds.Asks index found) = 3 + z + index * (z + 3)
 
--- what a turn back takes a recovery, and an index
+-- how many steps a turn back costs a recovery at most
 abbrev pub for_back : ℕ → ℕ → ReleaseMode → ℕ
 for_back c z Default = z + 1
 for_back c z LockIfLastIndex = z + c + 4
 
+-- how many steps an index costs a recovery at most
 abbrev pub for_index : ℕ → ℕ → ReleaseMode → ℕ
 for_index c z Default = z + 7
 for_index c z LockIfLastIndex = z + c + 10
 
--- a recovery, after so many turns back
+-- how many steps a recovery has taken at most at its stage, where it has turned back `backs` times
 abbrev pub recover_number : ℕ → ℕ → ReleaseMode → RecoverStage → ℕ → ℕ
 recover_number c z mode recovers.LoadsCounter backs = 0
 recover_number c z mode (recovers.LoadsCell index) backs =
@@ -165,7 +171,7 @@ recover_number c z mode recovers.LoadsCounterAgain backs =
 recover_number c z mode (recovers.AddsChange state) backs =
     2 + c * for_index c z mode + backs * for_back c z mode
 
--- a look, after so many turns back
+-- how many steps a look has taken at most at its stage, where it has turned back `backs` times
 abbrev pub look_number : ℕ → LookStage → ℕ → ℕ
 look_number z looks.LoadsChange backs = 0
 look_number z (looks.LoadsCount index) backs = 1 + index * (z + 2) + backs * (z + 1)
@@ -174,7 +180,7 @@ look_number z (looks.LoadsWord index count at) backs =
 look_number z (looks.ChecksCount index count) backs =
     2 + z + index * (z + 2) + backs * (z + 1)
 
--- any call at its stage, after so many turns back
+-- how many steps a call has taken at most at its stage, where it has turned back `backs` times
 abbrev pub number_of : {T : Type 0} → ℕ → ℕ → ContainerFlight T → ℕ → ℕ
 number_of c z (Add run) backs = add_number c z run.call.stage backs
 number_of c z (Remove run) backs =
@@ -188,16 +194,17 @@ number_of c z (IsLocked run) backs = 0
 
 -- ---- where they stand, and what they have done to the set and to elements
 
--- it has come to lower ones than this
+-- each of these indices is below the bound
 abbrev pub AreBelow : ℕ → List ℕ → Type 0
 AreBelow bound indices = AllByRecursion (λ i. i < bound) indices
 
 -- `c` is the capacity, `z` the words of a value; the call has done `all` to the set, and `done` to elements
 module _ {T : Type 0} (c z : ℕ) (all : List SetAct) (done : List (Act T)) where
-  -- it may have hidden what an earlier owner left
+  -- the call has done nothing to elements but perhaps to hide what an earlier owner left at the index
   abbrev pub MayHaveHidden : ℕ → Type 0
   MayHaveHidden index = (done ≡ []) ⊎ (done ≡ Hides index ∷ [])
 
+  -- the call was granted the index for the owner, and has done nothing else to the set
   abbrev pub IsGranted : ℕ → ℕ → Type 0
   IsGranted owner index = (index < c) × (all ≡ Fills index owner ∷ Grants index owner ∷ [])
 
@@ -237,7 +244,7 @@ module _ {T : Type 0} (c z : ℕ) (all : List SetAct) (done : List (Act T)) wher
   ReplaceAt index replaces.AddsCount = (index < c) × (all ≡ []) × MayHaveHidden index
   ReplaceAt index replaces.AddsChange = (index < c) × (all ≡ [])
 
-  -- a copy of the element at an index, of which so many words are read under this number
+  -- the call copies the element at `index`, of which `at` words are read under the odd number `count`
   abbrev pub CopiesAt : ℕ → ℕ → ℕ → Type 0
   CopiesAt index count at = (index < c) × AreBelow index (seen_in done) × (count % 2 ≡ 1)
 
@@ -253,15 +260,18 @@ module _ {T : Type 0} (c z : ℕ) (all : List SetAct) (done : List (Act T)) wher
   FindAt (finds.Asks index found) =
       (all ≡ []) × (index < c) × AreBelow (index + 1) (seen_in done)
 
-  -- it was asked about, or shown to be nothing
+  -- the call has asked about the index, or was shown that nothing stood there
   abbrev pub AskedOrShown : ℕ → ℕ → Type 0
   AskedOrShown owner index = IsOneOf (Asks index owner) all ⊎ IsOneOf (Sees index) done
 
-  -- a recovery has come to indices below this one, and has asked about each that it has freed, or was shown it
+  -- a recovery is at `index`, has seen and asked about indices below `bound`, and has asked about each that
+  -- it has freed, or was shown it
   pub record IsInCourse (owner index bound : ℕ) : Type 0 where
+    -- the index is below the capacity, and those seen and asked about are below `bound`
     pub within : index < c
     pub seen : AreBelow bound (seen_in done)
     pub asked : AreBelow bound (asked_in all)
+    -- each index that the recovery has freed it has asked about, or was shown
     pub freed : (i : ℕ) → IsOneOf (Frees i owner) all → AskedOrShown owner i
 
   -- a recovery at its stage: how far it has come, and what it has asked, freed or hidden last
@@ -298,7 +308,8 @@ module _ {T : Type 0} (c z : ℕ) (all : List SetAct) (done : List (Act T)) wher
       (all ≡ []) × CopiesAt index count at × (at < z)
   LookAt (looks.ChecksCount index count) = (all ≡ []) × CopiesAt index count z
 
-  -- where a call of this name stands
+  -- where a call of each name stands: it is that call, of the right arguments, and at its stage it has done
+  -- what the stage says
   abbrev pub At : ContainerStart T → ContainerFlight T → Type 0
   At (starts.Add value owner) (Add run) =
       (run.call.capacity ≡ c) × (run.given ≡ record { value = value; owner = owner })
@@ -329,6 +340,6 @@ module _ {T : Type 0} (c z : ℕ) (all : List SetAct) (done : List (Act T)) wher
   At starts.IsLocked (IsLocked run) = all ≡ []
   At start flight = ⊥
 
--- an index of the container is placed as it is, and any other at its end
+-- the place of an index below the capacity is the index itself
 pub place_is : (c index : ℕ) → index < c → place_of c index ≡ index
 place_is c index below = grind arith

@@ -1,5 +1,5 @@
--- What an operation of a call of a container makes of the counter of its set, which is the first word, and what it finds, as
--- in `Counter` of `laws_robust`.
+-- What an operation of a call of a container makes of the counter of its set, which is the first word, and
+-- what it is handed. `Counter` of `laws_robust` says the same of the calls of a robust set.
 use Rattle.std.proofs.Common.{◌≡◌, ℕ, ◌<◌, true, Some, List, length, get_or, refl, arith}
 use Rattle.steps.specs.Container.Add.{add_asks}
 use Rattle.steps.specs.Container.Find.{find_asks}
@@ -37,27 +37,33 @@ use Rattle.laws_robust.proofs.Counter.{counter_of, count_finds, lock_finds, acqu
 use Rattle.laws_robust.proofs.Counter.{first_then, other_then, count_leaves, lock_leaves, acquire_leaves, release_leaves, raise_leaves}
 use Rattle.laws_robust.proofs.Counter.{raise_then, lock_then, lock_old, count_then, acquire_then, acquire_old, release_then, release_old}
 
+-- the counter after an operation of an add: only the acquire of the set moves it
 abbrev pub add_then : AddStage → ℕ → ℕ
 add_then (adds.Acquires stage) n = acquire_then stage n
 add_then stage n = n
 
+-- what an add is handed: the counter where its acquire reads it, and else the value of its word
 abbrev pub add_old : AddStage → ℕ → ℕ → ℕ
 add_old (adds.Acquires stage) n cell = acquire_old stage n cell
 add_old stage n cell = cell
 
+-- the counter after an operation of a remove: only the release of the set moves it
 abbrev pub remove_then : RemoveStage → ℕ → ℕ
 remove_then (removes.Releases count stage) n = release_then stage n
 remove_then stage n = n
 
+-- what a remove is handed: the counter where its release reads it, and else the value of its word
 abbrev pub remove_old : RemoveStage → ℕ → ℕ → ℕ
 remove_old (removes.Releases count stage) n cell = release_old stage n cell
 remove_old stage n cell = cell
 
+-- the counter after an operation of a recovery: only its raise and its lock move it
 abbrev pub recover_then : RecoverStage → ℕ → ℕ
 recover_then (recovers.Raises index raise) n = raise_then raise n
 recover_then (recovers.Locks index lock) n = lock_then lock n
 recover_then stage n = n
 
+-- what a recovery is handed: the counter where it reads it, and else the value of its word
 abbrev pub recover_old : RecoverStage → ℕ → ℕ → ℕ
 recover_old (recovers.Raises index raise) n cell = n
 recover_old (recovers.Locks index lock) n cell = lock_old lock n cell
@@ -81,13 +87,13 @@ module _ {T : Type 0} where
   container_old flight n cell = cell
 
 module _ {T : Type 0} (code : Coding T) (words : List ℕ) where
-  -- what an operation of any call finds is what is told of its stage: the counter where the
-  -- call of the set does its operation there, and else the word's own value
+  -- what a call is handed by its operation is what `container_old` says of its stage: the counter where the
+  -- operation is on it, and else the value of the operation's own word
   pub container_finds : (flight : ContainerFlight T)
       → old_of words (ask_of (want code flight)) ≡ container_old flight (counter_of words) (old_of words (ask_of (want code flight)))
   container_finds (Add run) = add_finds run.call.stage
     where
-      -- an add finds what is told of its stage
+      -- an add is handed what `add_old` says of its stage
       add_finds : (stage : AddStage)
           → old_of words (ask_of (add_asks code.words_of code.size run.call.capacity stage run.given))
           ≡ add_old stage (counter_of words) (old_of words (ask_of (add_asks code.words_of code.size run.call.capacity stage run.given)))
@@ -99,7 +105,7 @@ module _ {T : Type 0} (code : Coding T) (words : List ℕ) where
       add_finds (adds.AddsChange index) = refl
   container_finds (Remove run) = remove_finds run.call.stage
     where
-      -- a remove finds what is told of its stage
+      -- a remove is handed what `remove_old` says of its stage
       remove_finds : (stage : RemoveStage)
           → old_of words (ask_of (remove_asks run.call.capacity stage run.given))
           ≡ remove_old stage (counter_of words) (old_of words (ask_of (remove_asks run.call.capacity stage run.given)))
@@ -112,7 +118,7 @@ module _ {T : Type 0} (code : Coding T) (words : List ℕ) where
   container_finds (Find run) = refl
   container_finds (Recover run) = recover_finds run.call.stage
     where
-      -- a recovery finds what is told of its stage
+      -- a recovery is handed what `recover_old` says of its stage
       recover_finds : (stage : RecoverStage)
           → old_of words (ask_of (recover_asks code.size run.call.capacity stage run.given.owner))
           ≡ recover_old stage (counter_of words) (old_of words (ask_of (recover_asks code.size run.call.capacity stage run.given.owner)))
@@ -133,18 +139,20 @@ module _ {T : Type 0} (code : Coding T) (words : List ℕ) where
   container_finds (IsLocked run) = refl
 
   module _ (some : 0 < length words) (c : ℕ) where
-    -- neither the counts of elements nor their words are the counter
+    -- adding 1 to the number of changes leaves the counter
     change_leaves : counter_of (words_after words (Some (record { word = change_word c; op = AddBy 1 }))) ≡ counter_of words
     change_leaves = other_then words some (change_word c) (AddBy 1) (omega arith)
 
+    -- an operation on the number of an element leaves the counter
     count_leaves_it : (index : ℕ) (op : Op) → counter_of (words_after words (Some (record { word = count_word c index; op = op }))) ≡ counter_of words
     count_leaves_it index op = other_then words some (count_word c index) op (omega arith)
 
+    -- an operation on a data word of an element leaves the counter
     element_leaves : (size index at : ℕ) (op : Op)
         → counter_of (words_after words (Some (record { word = element_word c size index at; op = op }))) ≡ counter_of words
     element_leaves size index at op = other_then words some (element_word c size index at) op (omega arith)
 
-    -- what an operation of an add leaves in the counter
+    -- after an operation of an add the counter is what `add_then` says of its stage
     add_leaves : (stage : AddStage) (given : Owned T)
         → counter_of (words_after words (ask_of (add_asks code.words_of code.size c stage given))) ≡ add_then stage (counter_of words)
     add_leaves (adds.Acquires stage) given = acquire_leaves words some stage given.owner
@@ -154,7 +162,7 @@ module _ {T : Type 0} (code : Coding T) (words : List ℕ) where
     add_leaves (adds.AddsCount index) given = count_leaves_it index (AddBy 1)
     add_leaves (adds.AddsChange index) given = change_leaves
 
-    -- what an operation of a remove leaves in the counter
+    -- after an operation of a remove the counter is what `remove_then` says of its stage
     remove_leaves : (stage : RemoveStage) (given : GiveBack)
         → counter_of (words_after words (ask_of (remove_asks c stage given))) ≡ remove_then stage (counter_of words)
     remove_leaves removes.Refuses given = refl
@@ -182,7 +190,7 @@ module _ {T : Type 0} (code : Coding T) (words : List ℕ) where
     find_leaves (finds.ChecksCount index found count) = count_leaves_it index (Exchange count count)
     find_leaves (finds.Asks index found) = refl
 
-    -- what an operation of a recovery leaves in the counter
+    -- after an operation of a recovery the counter is what `recover_then` says of its stage
     recover_leaves : (stage : RecoverStage) (owner : ℕ)
         → counter_of (words_after words (ask_of (recover_asks code.size c stage owner))) ≡ recover_then stage (counter_of words)
     recover_leaves recovers.LoadsCounter owner = first_then words some Load
@@ -198,13 +206,14 @@ module _ {T : Type 0} (code : Coding T) (words : List ℕ) where
     recover_leaves recovers.LoadsCounterAgain owner = first_then words some Load
     recover_leaves (recovers.AddsChange state) owner = change_leaves
 
+    -- no operation of a look changes the counter
     look_leaves : (stage : LookStage) → counter_of (words_after words (ask_of (look_asks code.size c stage))) ≡ counter_of words
     look_leaves looks.LoadsChange = other_then words some (change_word c) Load (omega arith)
     look_leaves (looks.LoadsCount index) = count_leaves_it index Load
     look_leaves (looks.LoadsWord index count at) = element_leaves code.size index at Load
     look_leaves (looks.ChecksCount index count) = count_leaves_it index (Exchange count count)
 
-  -- what an operation of any call leaves in the counter is what is told of its stage
+  -- after an operation of any call the counter is what `container_then` says of its stage
   pub container_leaves : 0 < length words → (flight : ContainerFlight T)
       → counter_of (words_after words (ask_of (want code flight))) ≡ container_then flight (counter_of words)
   container_leaves some (Add run) = add_leaves some run.call.capacity run.call.stage run.given
@@ -217,7 +226,7 @@ module _ {T : Type 0} (code : Coding T) (words : List ℕ) where
   container_leaves some (IsLocked run) = first_then words some Load
 
 module _ {T : Type 0} (code : Coding T) where
-  -- a question leaves the counter, and is handed the decision
+  -- at a question a call leaves the counter, and is handed the decision
   pub container_asks : (flight : ContainerFlight T) (n cell : ℕ) → is_question (want code flight) ≡ true
       → (n ≡ container_then flight n) × (cell ≡ container_old flight n cell)
   container_asks flight n cell due = grind arith

@@ -1,5 +1,6 @@
--- What a turn does to the elements, by what it changes: nothing of them; the number of changes; a word of an element; or the
--- number of an element, where a value is placed or hidden.
+-- What a turn does to the elements (`KeepsElements`), by what it changes: nothing of them; the number of
+-- changes; a word of an element, by a party that writes there; or the number of an element, where a
+-- value is placed or hidden.
 use Rattle.laws_container.proofs.Names.{◌≡◌, ◌≢◌, inl, ℕ, ◌+◌, ◌%◌, ◌<◌, ◌≤◌, Bool, true, false, Option, Some}
 use Rattle.laws_container.proofs.Names.{is_some, List, ◌++◌, length, get_or, set, fold, sym, ap, subst, ◌∙◌, arith}
 use Rattle.laws_container.proofs.Names.{get_or-set_other, length-set, fold-append, change_word, count_word}
@@ -8,15 +9,16 @@ use Rattle.laws_container.proofs.Names.{contents_of, announced_after, announced_
 use Rattle.laws_container.proofs.Names.{doing_of, flight_of, Open, span_of, IsShut, others_begin_none, party_put_same}
 use Rattle.laws_container.proofs.Names.{party_put_other, AreOwn, is_gone}
 use Rattle.laws_container.proofs.Alone.{alone_less, others_shut}
-use Rattle.laws_container.proofs.Contents.{IsWhole, Writing, Stands, stands_on, store_whole}
+use Rattle.laws_container.proofs.Contents.{IsWhole, Writing, WordsShow, stands_on, store_whole}
 use Rattle.laws_container.proofs.Core.{count_at, change_at, counts_stay, data_stay, count_set, count_stays}
 use Rattle.laws_container.proofs.Core.{data_all_stay, change_set, changes_no_count, changes_no_datum}
-use Rattle.laws_container.proofs.Invariant.{Scene, Inv, Elements, Changes, before, after}
+use Rattle.laws_container.proofs.Invariant.{Scene, Inv, Elements, KeepsElements, before, after}
 use Rattle.laws_container.proofs.Left.{left_after, left_of}
 use Rattle.laws_container.proofs.Terms.{Keeps}
 use Rattle.laws_container.proofs.Turns.{Owing, owes, Now, WellFormed, count_in, datum_in, change_in}
 use Rattle.laws_container.proofs.Writers.{IsWriter}
 
+-- the turn of the scene leaves the words `words'` and the call `y` of its party, and writes the events `es`
 module _ {T : Type 0} (scene : Scene T) (inv : Inv scene) (words' : List ℕ) (y : Party T) (es : List (Event T))
     (well_formed : WellFormed (after scene words' y es) → WellFormed (before scene)) where
   open scene use {coding as code, capacity as c, party as p, turns as turns, latest as latest, events as events}
@@ -33,41 +35,44 @@ module _ {T : Type 0} (scene : Scene T) (inv : Inv scene) (words' : List ℕ) (y
   e : Elements code c m scene.states turns
   e = inv.elements
 
-  -- the party owes the changes a raise still
+  -- a raise that the party owed to the changes it owes still
   abbrev pub OwesStill : Type 0
   OwesStill =
       owes (flight_of (doing_of (party_of p latest))) ≡ true → owes (flight_of (Some y.doing)) ≡ true
 
+  -- where a raise is owed before the turn, one is owed after it, if the party still owes its own
   owing_still : OwesStill → Owing latest → Owing (put p y latest)
   owing_still still o =
       let here = party_put_same p y latest in let there = party_put_other o.party p y latest in grind arith
 
-  -- it owes one from now on
+  -- after the turn the party owes the changes a raise
   owing_now : owes (flight_of (Some y.doing)) ≡ true → Owing (put p y latest)
   owing_now is = record { party = p; is = ap (λ x. owes (flight_of (doing_of x))) (party_put_same p y latest) ∙ is }
 
-  -- it writes nothing of elements
-  pub record IsCalm : Type 0 where
+  -- the events change nothing of what stands, of what is announced and of what is left
+  pub record LeavesReadings : Type 0 where
     pub contents : (i : ℕ) → contents_of i (events ++ es) ≡ contents_of i events
     pub announced : (i : ℕ) → announced_of i (events ++ es) ≡ announced_of i events
     pub left : (i : ℕ) → left_of i events ≡ true → left_of i (events ++ es) ≡ true
-    -- it frees no index where another writes
+    -- it frees no index where another party writes
     pub spares : WellFormed m' → (q : ℕ) → q ≢ p → (i o : ℕ) → is_gone scene.terms.by o events ≡ false
         → IsWriter q i o events → left_of i events ≡ false → left_of i (events ++ es) ≡ false
 
-  -- so it is where its events change no reading of the elements
+  -- events that change no reading of the elements are calm
   pub reads_same : ((i : ℕ) (o : Option T) → fold (contents_after i) o es ≡ o) → ((i : ℕ) (b : Bool) → fold (announced_after i) b es ≡ b)
-      → ((i : ℕ) (b : Bool) → fold (left_after i) b es ≡ b) → IsCalm
+      → ((i : ℕ) (b : Bool) → fold (left_after i) b es ≡ b) → LeavesReadings
   reads_same = grind (arith, fold-append, false, left_after)
 
+  -- where numbers, words and contents stay, the words still say what stands
   still_stands : ((i : ℕ) → i < c → count_in code c m' i ≡ count_in code c m i)
       → ((i : ℕ) → i < c → (j : ℕ) → j < code.size → datum_in code c m' i j ≡ datum_in code c m i j)
       → ((i : ℕ) → contents_of i (events ++ es) ≡ contents_of i events) → WellFormed m' → IsWhole code c words' (events ++ es)
   still_stands = grind (arith, stands_on)
 
-  -- ---- nothing of them
+  -- ---- a turn that leaves the words of the elements and the number of changes
 
-  module _ (rest : (n : ℕ) → 1 + c ≤ n → get_or words' n 0 ≡ get_or ws n 0) (wide : length words' ≡ length ws) (calm : IsCalm) (still : OwesStill) where
+  -- all words behind the counter and the cells stay, and the events of the turn are calm
+  module _ (rest : (n : ℕ) → 1 + c ≤ n → get_or words' n 0 ≡ get_or ws n 0) (wide : length words' ≡ length ws) (calm : LeavesReadings) (still : OwesStill) where
     same_count : (i : ℕ) → i < c → count_in code c m' i ≡ count_in code c m i
     same_count i low = rest (count_word c i) (omega arith)
 
@@ -77,9 +82,9 @@ module _ {T : Type 0} (scene : Scene T) (inv : Inv scene) (words' : List ℕ) (y
     same_change : change_in code c m' ≡ change_in code c m
     same_change = rest (change_word c) (omega arith)
 
-    -- a turn that leaves the numbers and the words of the elements, and writes nothing of them,
-    -- does to them what it may
-    pub calmly : Changes scene words' y es
+    -- a turn that leaves the words of the elements, and whose events are calm, leaves the
+    -- elements as a turn must
+    pub calmly : KeepsElements scene words' y es
     calmly =
         record {
           passes =
@@ -99,8 +104,9 @@ module _ {T : Type 0} (scene : Scene T) (inv : Inv scene) (words' : List ℕ) (y
           whole = still_stands same_count (λ i low j js. same_datum i j) calm.contents;
         }
 
-  -- ---- the number of changes
+  -- ---- a turn that raises the number of changes
 
+  -- the turn raises the number of changes, and its events announce only what stands
   module _ (new : words' ≡ set ws (change_word c) (one_more (change_in code c m))) (contents : (i : ℕ) → contents_of i (events ++ es) ≡ contents_of i events)
       (left : (i : ℕ) → left_of i (events ++ es) ≡ left_of i events)
       (says : WellFormed m' → (i : ℕ) → announced_of i (events ++ es) ≡ true → is_some (contents_of i events) ≡ true) where
@@ -119,16 +125,17 @@ module _ {T : Type 0} (scene : Scene T) (inv : Inv scene) (words' : List ℕ) (y
     datum_as_it_was : (i j : ℕ) → datum_in code c m' i j ≡ datum_in code c m i j
     datum_as_it_was = grind (arith, changes_no_datum, one_more)
 
-    -- a turn that counts a change, and announces only what stands, does to the elements what it may
-    pub counts_change : Changes scene words' y es
+    -- a turn that raises the number of changes, and announces only what stands, leaves the
+    -- elements as a turn must
+    pub counts_change : KeepsElements scene words' y es
     counts_change = grind (arith, count_as_it_was, datum_as_it_was, raised, raised_few, length, length-set, one_more, is_some, still_stands)
 
-  -- ---- a word of an element, by one who writes there
+  -- ---- a turn that stores a word of an element, by the party that writes there
 
-  -- word `k` of the value is stored at index `i`
+  -- the turn stores word `k` of `value` at index `i`, where its party writes and has stored the words before
   module _ (i : ℕ) (below : i < c) (k : ℕ) (ks : k < code.size) (value : T) (owner : ℕ)
       (mine : WellFormed m → IsWriter p i owner events) (writing : WellFormed m → Writing code c ws i value k)
-      (new : words' ≡ set ws (element_word c code.size i k) (get_or (code.words_of value) k 0)) (calm : IsCalm) (still : OwesStill) where
+      (new : words' ≡ set ws (element_word c code.size i k) (get_or (code.words_of value) k 0)) (calm : LeavesReadings) (still : OwesStill) where
     count_kept : (a : ℕ) → a < c → count_in code c m' a ≡ count_in code c m a
     count_kept a low = ap (λ w. count_at c w a) new ∙ counts_stay c code.size ws i k _ a low
 
@@ -138,7 +145,7 @@ module _ {T : Type 0} (scene : Scene T) (inv : Inv scene) (words' : List ℕ) (y
     change_kept : change_in code c m' ≡ change_in code c m
     change_kept = grind (arith, get_or-set_other)
 
-    -- what stands under an odd number is elsewhere
+    -- what stands under an odd number is not at the index where the party writes
     elsewhere : WellFormed m' → (a : ℕ) → count_in code c m a % 2 ≡ 1 → a ≢ i
     elsewhere holds a odd same = grind arith
 
@@ -146,8 +153,9 @@ module _ {T : Type 0} (scene : Scene T) (inv : Inv scene) (words' : List ℕ) (y
     not_theirs : WellFormed m' → (q : ℕ) → q ≢ p → (a o : ℕ) → IsWriter q a o events → a ≢ i
     not_theirs holds q ne a o theirs same = grind arith
 
-    -- a turn that stores a word of a value, by the one who may write there, does to the elements what it may
-    pub stores : Changes scene words' y es
+    -- a turn that stores a word of a value, by a party that may write there, leaves the
+    -- elements as a turn must
+    pub stores : KeepsElements scene words' y es
     stores =
         record {
           passes =
@@ -174,11 +182,13 @@ module _ {T : Type 0} (scene : Scene T) (inv : Inv scene) (words' : List ℕ) (y
               let all : IsWhole code c words' events =
               subst (λ w. IsWhole code c w events) (sym new)
               (store_whole code c ws events (e.whole h) e.wide i below value k ks (writing h)) in
-              subst (Stands code c words' a) (sym (calm.contents a)) (all a low);
+              subst (WordsShow code c words' a) (sym (calm.contents a)) (all a low);
         }
 
-  -- ---- the number of an element
+  -- ---- a turn that raises the number of an element
 
+  -- the turn raises the number of the element at index `i` by one, and its party owes the
+  -- changes a raise after it
   module _ (i : ℕ) (below : i < c) (new : words' ≡ set ws (count_word c i) (one_more (count_in code c m i)))
       (own : AreOwn p es) (start : Start T) (wrote : List (Event T)) (open_now : span_of p events ≡ Open start wrote)
       (owed : owes (flight_of (Some y.doing)) ≡ true) where
@@ -197,29 +207,34 @@ module _ {T : Type 0} (scene : Scene T) (inv : Inv scene) (words' : List ℕ) (y
     change_same : change_in code c m' ≡ change_in code c m
     change_same = grind (arith, get_or-set_other)
 
-    -- a number that stays is another's
+    -- where a number has stayed, the index is not `i`
     moved : (a : ℕ) → count_in code c m' a ≡ count_in code c m a → a ≢ i
     moved a is same = let by_count_here = count_here in grind arith
 
-    -- no other party has run alone since the call began
+    -- while another party's call was alone, this party could not take the turn
     not_alone : {A : Type 0} → (q : ℕ) → q ≢ p → WasAlone q (events ++ es) → A
     not_alone q ne was =
         absurd (subst IsShut open_now (others_shut q p events (λ e. ne (sym e)) (alone_less q events es (others_begin_none q p es ne own) was)))
 
-    -- what is so where the turn adds one to the count of index `i` and changes no other word of the elements
+    -- what the events of the turn say, where it raises the number at index `i`: of what stands, is announced
+    -- and is left, at `i` and elsewhere; and that no other party was writing there
     pub record IsCounted : Type 0 where
+      -- at other indices nothing changes of what stands and of what is left, and nothing is announced anew
       pub contents : (a : ℕ) → a ≢ i → contents_of a (events ++ es) ≡ contents_of a events
       pub announced : WellFormed m' → (a : ℕ) → announced_of a (events ++ es) ≡ true → (a ≢ i) × (announced_of a events ≡ true)
       pub left : (a : ℕ) → a ≢ i → left_of a (events ++ es) ≡ left_of a events
+      -- no other party was writing at `i`; and a value does not stand there both before and after the turn
       pub placed : WellFormed m' → (q : ℕ) → q ≢ p → (o : ℕ) → IsWriter q i o events → left_of i events ≡ false → is_some (contents_of i events) ≡ true → ⊥
       pub stood : WellFormed m' → is_some (contents_of i events) ≡ true → is_some (contents_of i (events ++ es)) ≡ true → ⊥
       pub under : WellFormed m' → (q : ℕ) → q ≢ p → (a o : ℕ) → IsWriter q a o events → count_in code c m a % 2 ≡ 0 → a ≢ i
       pub over : WellFormed m' → (q : ℕ) → q ≢ p → (o : ℕ) → IsWriter q i o events → one_more (count_in code c m i) % 2 ≡ 0
+      -- an owner who is gone may lose what stands at his index; and the words say what stands
       pub lost : WellFormed m' → (o : ℕ) → is_gone scene.terms.by o events ≡ true → filled_of i events ≡ Some o → count_in code c m i % 2 ≡ 1
       pub whole : WellFormed m' → IsWhole code c words' (events ++ es)
 
-    -- a turn that adds one to the number of an element, as it may be counted, does to the elements what it may
-    pub counts_one : IsCounted → Changes scene words' y es
+    -- a turn that raises the number of an element, where the events are as `IsCounted` says, leaves the
+    -- elements as a turn must
+    pub counts_one : IsCounted → KeepsElements scene words' y es
     counts_one counted =
         record {
           passes =

@@ -1,4 +1,6 @@
--- A find checks the number of what it has copied, and is told whether to go on; and any step of one.
+-- The last steps of a find at an index: it checks the number under which it has copied the element, and is
+-- told whether to go on. At last, any step of a find, and any decision that one waits for. What a step has to
+-- show is said by `StepOf` and `Leads` of `Stages`.
 use Rattle.laws_container.proofs.Names.{◌≡◌, ◌≢◌, ⊎_elim, ℕ, ◌+◌, ◌*◌, ◌≤◌, ◌==◌, if◌then◌else◌, Bool, false}
 use Rattle.laws_container.proofs.Names.{true, Option, Some, None, is_some, List, [], ◌∷◌, ◌++◌, set, refl, sym, ap}
 use Rattle.laws_container.proofs.Names.{subst, ◌∙◌, arith, cases_eq, nat_tests, set-get_or, Ask, After, GoOn}
@@ -18,7 +20,7 @@ use Rattle.laws_container.proofs.Copies.{copied_value}
 use Rattle.laws_container.proofs.Invariant.{before}
 use Rattle.laws_container.proofs.Knows.{View, FindKnows, Knows}
 use Rattle.laws_container.proofs.Silent.{silently}
-use Rattle.laws_container.proofs.Stages.{IsHere, all, done, sees_now, StepOf, AnswerOf, Leads}
+use Rattle.laws_container.proofs.Stages.{IsUnderWay, all, done, sees_now, StepOf, AnswerOf, Leads}
 use Rattle.laws_container.proofs.Stages.{acts_more, goes_on}
 use Rattle.laws_container.proofs.Stages.{owes_none, was_well_formed}
 use Rattle.laws_container.proofs.CallProgress.{find_at, find_number, FindAt}
@@ -27,6 +29,7 @@ use Rattle.laws_container.proofs.Finds.{Finding, below_more, cell_step, comes_to
 use Rattle.laws_container.proofs.Finds.{has_last, has_more, seen_more, then_at, word_step}
 use Rattle.laws_robust.proofs.Cases.{on_bool}
 
+-- the steps of one find, whose party sees `v` of the machine
 module _ {T : Type 0} (finding : Finding T) where
   open finding use {scene, inv, owner, fits}
   open finding.scene use {coding as code, capacity as c, party as p, steps, events}
@@ -43,6 +46,7 @@ module _ {T : Type 0} (finding : Finding T) where
   abbrev v : View T
   v = sees_now scene
 
+  -- how the find goes on, as a call of the container
   abbrev as_find : buffers.Buffer 128 → After (find_calls.Find T (buffers.Buffer 128)) ℕ → After (ContainerFlight T) (Answer T)
   as_find room a = as_call calls.Find answers.Number (went_on as_it_is owner room a)
 
@@ -51,10 +55,11 @@ module _ {T : Type 0} (finding : Finding T) where
 
   -- ---- its number is checked
 
+  -- the find has read all words of the element at index `k` under the number `count`, and checks that number
   module _ (room : buffers.Buffer 128) (k found count : ℕ)
-      (here : IsHere scene (Find owner) (find_at c owner room (finds.ChecksCount k found count)))
+      (here : IsUnderWay scene (Find owner) (find_at c owner room (finds.ChecksCount k found count)))
       (stands : FindAt c z (all scene) (done scene) (finds.ChecksCount k found count))
-      (h : FindKnows code c owner room (finds.ChecksCount k found count) v) (s : steps ≤ 2 + z + k * (z + 3)) where
+      (knows : FindKnows code c owner room (finds.ChecksCount k found count) v) (few_steps : steps ≤ 2 + z + k * (z + 3)) where
     abbrev count_now : ℕ
     count_now = count_in code c (before scene) k
 
@@ -67,9 +72,11 @@ module _ {T : Type 0} (finding : Finding T) where
     abbrev copying : List (Event T)
     copying = Copied p k value ∷ []
 
-    -- the copy is whole
+    -- where the number is still the one under which the words were read, the copy is whole, and
+    -- the find asks about it
     copies : count_now ≡ count → Leads scene start check_it false scene.states copying (GoOn (find_at c owner room (finds.Asks k found)))
     copies is =
+        -- the check leaves the words, since it exchanges the number for itself
         let same : words_after ws check_it ≡ ws =
         exchange_sets ws (count_word c k) count count is ∙ (ap (set ws (count_word c k)) (sym is) ∙ set-get_or ws (count_word c k) 0) in
         let party_after = then_at finding room (finds.ChecksCount k found count) here stands.0 room (finds.Asks k found) check_it in
@@ -80,15 +87,18 @@ module _ {T : Type 0} (finding : Finding T) where
         (silently scene inv (words_after ws check_it) same party_after copying (tt, tt) (refl, tt) start
         (find_at c owner room (finds.ChecksCount k found count)) tt here well_formed
         (owes_none scene start (find_at c owner room (finds.ChecksCount k found count)) party_after here refl)
+        -- its event is right: the copy is the value that stands
         (record {
           asks = (tt, tt);
           recovers = (tt, tt);
           answers = (tt, tt);
           contains =
-              λ holds. (copied_value code c v k count room.words inv.elements.coded inv.elements.whole h.2 is (well_formed holds), tt);
+              λ holds. (copied_value code c v k count room.words inv.elements.coded inv.elements.whole knows.2 is (well_formed holds), tt);
           places = λ holds. (tt, tt);
         }))
         (stands.1.1, tt) (omega arith) (
+          -- where the find stands at its question: it has come past the index, and has done
+          -- nothing to the set
           refl,
           refl,
           fits,
@@ -98,13 +108,14 @@ module _ {T : Type 0} (finding : Finding T) where
             seen_more (k + 1) (done scene) (Copies k value) (below_more k (k + 1) _ (omega arith) stands.1.1) (omega arith, tt),
           ),
         ) (
-          h.2.room,
+          -- what the find knows at its question: it has copied the counted indices up to this one
+          knows.2.room,
           (
             (
-              let paid = h.0.0 in omega arith,
-              count_later p (IsFilledWith owner) (k + 1) found events h.0.1 copying tt,
+              let paid = knows.0.0 in omega arith,
+              count_later p (IsFilledWith owner) (k + 1) found events knows.0.1 copying tt,
               λ holds.
-                  let g = h.0.2 (well_formed holds) in
+                  let g = knows.0.2 (well_formed holds) in
                   record {
                     count =
                         record {
@@ -129,15 +140,16 @@ module _ {T : Type 0} (finding : Finding T) where
           ),
         )
 
-    -- a find whose check finds another number passes the index without having copied it
+    -- a find whose check finds another number passes the index without a copy
     fails : count_now ≢ count → Leads scene start check_it false scene.states [] (as_find room (find_comes_to first (k + 1) found))
     fails other =
         comes_to_next finding room (finds.ChecksCount k found count) here stands.0 check_it
-        (fails_same ws (count_word c k) count count other) k found stands.1.0 h.0.0 (omega arith)
-        (below_more k (k + 1) _ (omega arith) stands.1.1) h.0.1
-        (found_past finding k found (λ holds through. other (h.1 holds through)) h.0.2) h.2.room
+        (fails_same ws (count_word c k) count count other) k found stands.1.0 knows.0.0 (omega arith)
+        (below_more k (k + 1) _ (omega arith) stands.1.1) knows.0.1
+        (found_past finding k found (λ holds through. other (knows.1 holds through)) knows.0.2) knows.2.room
 
-    -- the step in which a find checks the number shows what it has to, whether it is the same or not
+    -- the step in which a find checks the number: it asks about its copy if the number is the same, and else
+    -- passes the index
     check_step : StepOf scene start (find_at c owner room (finds.ChecksCount k found count))
     check_step =
         on_bool (λ b. Leads scene start (Some (exchanges (count_word c k) count count)) false scene.states
@@ -149,31 +161,32 @@ module _ {T : Type 0} (finding : Finding T) where
 
   -- ---- it is told whether to go on
 
-  -- any answer to a question of a find leads on: a no to its end, and a yes to the next index
+  -- a find that is told no ends with its count, and one that is told yes goes on to the next index
   pub find_decided : (room : buffers.Buffer 128) (k found : ℕ)
       → FindAt c z (all scene) (done scene) (finds.Asks k found)
-      → IsHere scene (Find owner) (find_at c owner room (finds.Asks k found))
+      → IsUnderWay scene (Find owner) (find_at c owner room (finds.Asks k found))
       → Knows code c (find_at c owner room (finds.Asks k found)) v
       → steps ≤ find_number z (finds.Asks k found) → (answer : ℕ)
       → AnswerOf scene (Find owner) (find_at c owner room (finds.Asks k found)) None answer
-  find_decided room k found at here knows s answer = go (answer == 0)
+  find_decided room k found stands here knows few_steps answer = go (answer == 0)
     where
-      -- a find that was told ends, or goes to the next index
+      -- the cases are whether the find was told no
       go : (b : Bool) → Leads scene start None false scene.states [] (as_find room (if b then Done found else find_comes_to first (k + 1) found))
-      go true = let all_of = times_below c k (z + 3) at.1 in
-          let below = at.1 in
-          ends_there finding room (finds.Asks k found) here at.0 None refl (k + 1) found (omega arith) knows.1.0.0 (omega arith) knows.1.0.1
+      go true = let all_of = times_below c k (z + 3) stands.1 in
+          let below = stands.1 in
+          ends_there finding room (finds.Asks k found) here stands.0 None refl (k + 1) found (omega arith) knows.1.0.0 (omega arith) knows.1.0.1
       go false =
-          comes_to_next finding room (finds.Asks k found) here at.0 None refl k found at.1 knows.1.0.0 (omega arith) at.2 knows.1.0.1 knows.1.0.2 knows.0
+          comes_to_next finding room (finds.Asks k found) here stands.0 None refl k found stands.1 knows.1.0.0
+          (omega arith) stands.2 knows.1.0.1 knows.1.0.2 knows.0
 
   -- ---- any step
 
-  -- any step of a find that stands at a stage, and knows what the stage tells, shows what it has to
+  -- any step of a find, at whatever stage, keeps the invariant
   pub find_step : (room : buffers.Buffer 128) (stage : FindStage) → FindAt c z (all scene) (done scene) stage
-      → IsHere scene (Find owner) (find_at c owner room stage) → Knows code c (find_at c owner room stage) v
+      → IsUnderWay scene (Find owner) (find_at c owner room stage) → Knows code c (find_at c owner room stage) v
       → steps ≤ find_number z stage → StepOf scene (Find owner) (find_at c owner room stage)
-  find_step room (finds.LoadsCell k found) at here knows s = cell_step finding room knows.0 k found here at knows.1 s
-  find_step room (finds.LoadsCount k found) at here knows s = count_step finding room knows.0 k found here at knows.1 s
-  find_step room (finds.LoadsWord k found count word) at here knows s = word_step finding room k found count word here at knows.1 s
-  find_step room (finds.ChecksCount k found count) at here knows s = check_step room k found count here at knows.1 s
-  find_step room (finds.Asks k found) at here knows s = find_decided room k found at here knows s 0
+  find_step room (finds.LoadsCell k found) stands here knows few_steps = cell_step finding room knows.0 k found here stands knows.1 few_steps
+  find_step room (finds.LoadsCount k found) stands here knows few_steps = count_step finding room knows.0 k found here stands knows.1 few_steps
+  find_step room (finds.LoadsWord k found count word) stands here knows few_steps = word_step finding room k found count word here stands knows.1 few_steps
+  find_step room (finds.ChecksCount k found count) stands here knows few_steps = check_step room k found count here stands knows.1 few_steps
+  find_step room (finds.Asks k found) stands here knows few_steps = find_decided room k found stands here knows few_steps 0

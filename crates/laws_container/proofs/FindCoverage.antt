@@ -1,5 +1,6 @@
--- A find that ends has come to the indices of the whole container, or to those up to the one that it asked about where a no
--- ends it; and in a well-formed run it has copied what stood at each that it has counted.
+-- A find that ends has counted its owner's indices in the whole container, or up to the index that it
+-- asked about if a no of its caller ended it. In a well-formed run it has copied what stood at each
+-- index that it counted.
 use Rattle.laws_container.proofs.Names.{◌≡◌, ◌≢◌, ℕ, ◌+◌, ◌==◌, ◌<◌, ◌≤◌, if◌then◌else◌, nat_lt, Bool, true, false}
 use Rattle.laws_container.proofs.Names.{Option, Some, None, is_none, is_some, List, [], ◌∷◌, ◌++◌, refl, sym, ap}
 use Rattle.laws_container.proofs.Names.{subst, ◌∙◌, arith, nat_tests, append_cancel_left, After, GoOn, FindStage}
@@ -28,7 +29,7 @@ use Rattle.laws_container.proofs.Invariant.{Scene, Inv, before, family_by}
 use Rattle.laws_container.proofs.Knows.{HasFoundBelow, Knows}
 use Rattle.laws_container.proofs.WellFormed.{IsWellFormedSoFar}
 use Rattle.laws_container.proofs.Sound.{MayGoOn, Shown, kept_now, scene_of, inv_with, is_there}
-use Rattle.laws_container.proofs.Stages.{IsHere, all, done, sees_now, any_call, was_well_formed}
+use Rattle.laws_container.proofs.Stages.{IsUnderWay, all, done, sees_now, any_call, was_well_formed}
 use Rattle.laws_container.proofs.CallProgress.{find_at, At, FindAt}
 use Rattle.laws_container.proofs.Terms.{Terms}
 use Rattle.laws_container.proofs.Turns.{WellFormed, count_in}
@@ -39,14 +40,16 @@ use Rattle.laws_container.proofs.Allowed.{IsAllowed}
 
 -- ---- a find that ends
 
+-- `scene` is a turn of party `p` with the machine before it, and `inv` what holds there; a find for `owner`
+-- is under way
 module _ {T : Type 0} (scene : Scene T) (inv : Inv scene) (owner : ℕ) (fits : owner < empty) where
   open scene use {coding as code, capacity as c, party as p, events as events}
 
   abbrev finding : Finding T
   finding = record { scene = scene; inv = inv; owner = owner; fits = fits }
 
-  -- so many indices below the bound have the owner, and in a well-formed run it has copied what stood at them
-  pub record Has (bound number : ℕ) : Type 0 where
+  -- the count below `bound` is `number`, and in a well-formed run what stood at each counted index is copied
+  pub record HasCounted (bound number : ℕ) : Type 0 where
     pub count : IsCount p (IsFilledWith owner) bound number events
     pub whole : WellFormed (before scene) → IsFoundWhole p owner bound number events
 
@@ -58,77 +61,75 @@ module _ {T : Type 0} (scene : Scene T) (inv : Inv scene) (owner : ℕ) (fits : 
 
   done_is : (room : buffers.Buffer 128) (number : ℕ) (r : After (find_calls.Find T (buffers.Buffer 128)) ℕ)
       → answer_in (as_find room r) ≡ Some (Number number) → r ≡ Done number
-  done_is room number (GoOn call) e = absurd (cc)
-  done_is room number (Done found) e = cc
+  done_is room number (GoOn call) ends_so = absurd (cc)
+  done_is room number (Done found) ends_so = cc
 
   abbrev at_stage : FindStage → find_calls.Find T (buffers.Buffer 128)
   at_stage stage = record { capacity = c; stage = stage; of = record {} }
 
-  -- it has come to the last cell
+  -- a find that ends as it passes index `k` has no index behind it, and answers what it has found
   comes_is : (stage : FindStage) (k found number : ℕ) → find_comes_to (at_stage stage) (k + 1) found ≡ Done number → (c ≤ k + 1) × (found ≡ number)
-  comes_is stage k found number e = go (nat_lt (k + 1) c) refl e
+  comes_is stage k found number ends_so = go (nat_lt (k + 1) c) refl ends_so
     where
       go : (b : Bool) → nat_lt (k + 1) c ≡ b
           → (if b then GoOn (at_find (at_stage stage) (finds.LoadsCell (k + 1) found)) else Done found) ≡ Done number
           → (c ≤ k + 1) × (found ≡ number)
-      go true t e = absurd (cc)
-      go false t e = (grind (arith, nat_tests), cc)
+      go true next_test ends_so = absurd (cc)
+      go false next_test ends_so = (grind (arith, nat_tests), cc)
 
-  ended : (k found number : ℕ) → k < c → (c ≤ k + 1) × (found ≡ number) → Has (k + 1) found → Has c number
+  ended : (k found number : ℕ) → k < c → (c ≤ k + 1) × (found ≡ number) → HasCounted (k + 1) found → HasCounted c number
   ended = grind arith
 
-  -- a find that stands there, and ends with this number when it is handed what it loaded, or a
-  -- yes, has counted over the whole container
-  abbrev Tells : ℕ → Bool → ContainerFlight T → Type 0
-  Tells number due flight =
-      IsHere scene (Find owner) flight → Knows code c flight (sees_now scene) → is_question (want code flight) ≡ due
+  -- a find at this stage, handed what it loaded or a yes, ends with `number` only if it has counted all
+  abbrev CountsAllAtEnd : ℕ → Bool → ContainerFlight T → Type 0
+  CountsAllAtEnd number due flight =
+      IsUnderWay scene (Find owner) flight → Knows code c flight (sees_now scene) → is_question (want code flight) ≡ due
       → (answer : ℕ) → (due ≡ false → answer ≡ old_of scene.words (ask_of (want code flight)))
       → (due ≡ true → answer ≢ 0)
-      → answer_in (any_call (after code (state_of p scene.states) flight answer)) ≡ Some (Number number) → Has c number
+      → answer_in (any_call (after code (state_of p scene.states) flight answer)) ≡ Some (Number number) → HasCounted c number
 
-  -- a find that has its answer to a load, or a yes, and so ends with a number, has that number
-  -- for the whole container, whatever its stage
+  -- whatever its stage, a find that ends with a number after a load or a yes has counted all
   stage_tells : (number : ℕ) (due : Bool) (room : buffers.Buffer 128) (stage : FindStage)
-      → FindAt c code.size (all scene) (done scene) stage → Tells number due (find_at c owner room stage)
-  stage_tells number due room (finds.LoadsCell k found) at here h asks answer loads told e = go (answer == owner) refl (done_is _ number _ e)
+      → FindAt c code.size (all scene) (done scene) stage → CountsAllAtEnd number due (find_at c owner room stage)
+  stage_tells number due room (finds.LoadsCell k found) stands here h asks answer loads told e = go (answer == owner) refl (done_is _ number _ e)
     where
       -- the cases are whether the cell has the owner
       go : (b : Bool) → (answer == owner) ≡ b
           → (if b then GoOn (at_find (at_stage (finds.LoadsCell k found)) (finds.LoadsCount k (one_more found)))
           else find_comes_to (at_stage (finds.LoadsCell k found)) (k + 1) found)
           ≡ Done number
-          → Has c number
-      go true t r = absurd (cc)
-      go false t r =
+          → HasCounted c number
+      go true owner_test ends_so = absurd (cc)
+      go false owner_test ends_so =
           let answer_is : answer ≡ cell scene.words k = loads (sym asks) in
           let other : cell scene.words k ≢ owner = grind (arith, nat_tests) in
-          ended k found number at.1 (comes_is (finds.LoadsCell k found) k found number r)
+          ended k found number stands.1 (comes_is (finds.LoadsCell k found) k found number ends_so)
           (record {
-            count = none_counts finding k found at.1 other h.1.1;
-            whole = λ well_formed. whole_of (k + 1) found (found_none finding k found at.1 other h.1.2 well_formed);
+            count = none_counts finding k found stands.1 other h.1.1;
+            whole = λ well_formed. whole_of (k + 1) found (found_none finding k found stands.1 other h.1.2 well_formed);
           })
-  stage_tells number due room (finds.LoadsCount k found) at here h asks answer loads told e = go (is_even answer) refl (done_is _ number _ e)
+  stage_tells number due room (finds.LoadsCount k found) stands here h asks answer loads told e = go (is_even answer) refl (done_is _ number _ e)
     where
       -- the cases are whether the count is even (nothing stands there)
       go : (b : Bool) → is_even answer ≡ b
           → (if b then find_comes_to (at_stage (finds.LoadsCount k found)) (k + 1) found else GoOn
           (at_find (at_stage (finds.LoadsCount k found)) (finds.LoadsWord k found answer 0)))
           ≡ Done number
-          → Has c number
-      go true t r =
+          → HasCounted c number
+      go true even_test ends_so =
           let answer_is : answer ≡ count_in code c (before scene) k = loads (sym asks) in
-          let even : is_even (count_in code c (before scene) k) ≡ true = subst (λ n. is_even n ≡ true) answer_is t in
-          ended k found number at.1 (comes_is (finds.LoadsCount k found) k found number r)
+          let even : is_even (count_in code c (before scene) k) ≡ true = subst (λ n. is_even n ≡ true) answer_is even_test in
+          ended k found number stands.1 (comes_is (finds.LoadsCount k found) k found number ends_so)
           (record {
             count = h.1.0.1;
             whole = λ well_formed. whole_of (k + 1) found (found_past finding k found (λ holds through. both_ways (is_some (contents_of k events))
-                (nothing_stands code c scene.words k (contents_of k events) (inv.elements.whole holds k at.1)
+                (nothing_stands code c scene.words k (contents_of k events) (inv.elements.whole holds k stands.1)
                 (even_is (count_in code c (before scene) k) even))
                 (through_now p (λ part. is_some (contents_of k part) ≡ true) events through))
                 h.1.0.2 well_formed);
           })
-      go false t r = absurd (cc)
-  stage_tells number due room (finds.LoadsWord k found count word) at here h asks answer loads told e =
+      go false even_test ends_so = absurd (cc)
+  stage_tells number due room (finds.LoadsWord k found count word) stands here h asks answer loads told e =
       go (nat_lt (word + 1) code.size) (done_is _ number _ e)
     where
       -- the cases are whether a further word of the value follows; the find goes on in both
@@ -138,10 +139,10 @@ module _ {T : Type 0} (scene : Scene T) (inv : Inv scene) (owner : ℕ) (fits : 
           else GoOn
           (at_find (at_stage (finds.LoadsWord k found count word)) (finds.ChecksCount k found count)))
           ≡ Done number
-          → Has c number
-      go true r = absurd (cc)
-      go false r = absurd (cc)
-  stage_tells number due room (finds.ChecksCount k found count) at here h asks answer loads told e =
+          → HasCounted c number
+      go true ends_so = absurd (cc)
+      go false ends_so = absurd (cc)
+  stage_tells number due room (finds.ChecksCount k found count) stands here h asks answer loads told e =
       go (answer == count) refl (done_is _ number _ e)
     where
       -- the cases are whether the count is still what was read
@@ -149,49 +150,49 @@ module _ {T : Type 0} (scene : Scene T) (inv : Inv scene) (owner : ℕ) (fits : 
           → (if b then GoOn (at_find (at_stage (finds.ChecksCount k found count)) (finds.Asks k found))
           else find_comes_to (at_stage (finds.ChecksCount k found count)) (k + 1) found)
           ≡ Done number
-          → Has c number
-      go true t r = absurd (cc)
-      go false t r =
+          → HasCounted c number
+      go true number_test ends_so = absurd (cc)
+      go false number_test ends_so =
           let answer_is : answer ≡ count_in code c (before scene) k = loads (sym asks) in
           let other : count_in code c (before scene) k ≢ count = grind (arith, nat_tests) in
-          ended k found number at.1.0 (comes_is (finds.ChecksCount k found count) k found number r)
+          ended k found number stands.1.0 (comes_is (finds.ChecksCount k found count) k found number ends_so)
           (record {
             count = h.1.0.1;
             whole =
                 λ well_formed. whole_of (k + 1) found (found_past finding k found (λ holds through. other (h.1.1 holds through)) h.1.0.2 well_formed);
           })
-  stage_tells number due room (finds.Asks k found) at here h asks answer loads told e = go (answer == 0) refl (done_is _ number _ e)
+  stage_tells number due room (finds.Asks k found) stands here h asks answer loads told e = go (answer == 0) refl (done_is _ number _ e)
     where
       go : (b : Bool) → (answer == 0) ≡ b
           → (if b then Done found else find_comes_to (at_stage (finds.Asks k found)) (k + 1) found) ≡ Done number
-          → Has c number
+          → HasCounted c number
       go = grind (arith, ended, comes_is, whole_of, nat_tests)
 
-  -- a no ends it where it asked
-  abbrev Stops : ℕ → ℕ → T → ContainerFlight T → Type 0
-  Stops number index value flight =
+  -- a find whose caller says no ends, and has counted the indices up to the one that it asked about
+  abbrev CountsUpToNo : ℕ → ℕ → T → ContainerFlight T → Type 0
+  CountsUpToNo number index value flight =
       Knows code c flight (sees_now scene)
       → question_in code (Some (flights.Container flight)) ≡ Some (index, value)
       → answer_in (any_call (after code (state_of p scene.states) flight 0)) ≡ Some (Number number)
-      → Has (index + 1) number
+      → HasCounted (index + 1) number
 
-  stage_stops : (number index : ℕ) (value : T) (room : buffers.Buffer 128) (stage : FindStage) → Stops number index value (find_at c owner room stage)
+  stage_stops : (number index : ℕ) (value : T) (room : buffers.Buffer 128) (stage : FindStage) → CountsUpToNo number index value (find_at c owner room stage)
   stage_stops = grind (arith, read_in, whole_of)
 
 module _ {T : Type 0} (scene : Scene T) (inv : Inv scene) (owner : ℕ) where
   open scene use {coding as code, capacity as c, party as p, events as events}
 
-  -- the owner of a find is one
+  -- the owner of a find under way is a number that a cell can hold
   owner_fits : (flight : ContainerFlight T) → At c code.size (all scene) (done scene) (Find owner) flight → owner < empty
-  owner_fits (calls.Find run) at = at.2
-  owner_fits flight at = absurd at
+  owner_fits (calls.Find run) stands = stands.2
+  owner_fits flight stands = absurd stands
 
   -- a find that ends when it is handed what it has loaded, or a yes, has its number for the whole container
   find_tells : (number : ℕ) (due : Bool) (flight : ContainerFlight T)
       → (at : At c code.size (all scene) (done scene) (Find owner) flight) → (fits : owner < empty)
-      → Tells scene inv owner fits number due flight
+      → CountsAllAtEnd scene inv owner fits number due flight
   find_tells number due (calls.Find run) at fits =
-      subst (Tells scene inv owner fits number due)
+      subst (CountsAllAtEnd scene inv owner fits number due)
       (sym (ap (λ n. find_at n run.given run.room run.call.stage) at.0 ∙ ap (λ o. find_at c o run.room run.call.stage) at.1))
       (stage_tells scene inv owner fits number due run.room run.call.stage at.3)
   find_tells number due flight at fits = absurd at
@@ -199,12 +200,12 @@ module _ {T : Type 0} (scene : Scene T) (inv : Inv scene) (owner : ℕ) where
   -- a find that a no ends has its number for the indices up to the one that it asked about, that one among them
   find_stops : (number index : ℕ) (value : T) (flight : ContainerFlight T)
       → At c code.size (all scene) (done scene) (Find owner) flight → (fits : owner < empty)
-      → Stops scene inv owner fits number index value flight
-  find_stops number index value (calls.Find run) at fits =
-      subst (Stops scene inv owner fits number index value)
-      (sym (ap (λ n. find_at n run.given run.room run.call.stage) at.0 ∙ ap (λ o. find_at c o run.room run.call.stage) at.1))
+      → CountsUpToNo scene inv owner fits number index value flight
+  find_stops number index value (calls.Find run) stands fits =
+      subst (CountsUpToNo scene inv owner fits number index value)
+      (sym (ap (λ n. find_at n run.given run.room run.call.stage) stands.0 ∙ ap (λ o. find_at c o run.room run.call.stage) stands.1))
       (stage_stops scene inv owner fits number index value run.room run.call.stage)
-  find_stops number index value flight at fits = absurd at
+  find_stops number index value flight stands fits = absurd stands
 
 module _ {T : Type 0} where
   -- a call's name is a find's where it reads as one
@@ -242,53 +243,53 @@ module _ {T : Type 0} (handed : Handed T) where
   abbrev inv : Inv scene
   inv = inv_with shown terms code c t s q x since found may
 
-  -- it wrote that a find is done, and nothing else
-  abbrev Wrote : Coding T → Registry T → Start T → Flight T → Type 0
-  Wrote y kept start flight =
+  -- the step of this call wrote that the find of party `p` is done, and nothing else
+  abbrev WroteTheEnd : Coding T → Registry T → Start T → Flight T → Type 0
+  WroteTheEnd y kept start flight =
       events_of_step q start (step_of y t.world.words (beside_of t.world.words kept t.world.latest q) q start flight answer kept)
       ≡ Finished p (Container (Find owner)) (Number number) ∷ []
 
   abbrev end_of : ContainerFlight T → Option (Answer T)
   end_of flight = answer_in (any_call (after code (state_of q s.state.states) flight answer))
 
-  -- a step that wrote only that the find of this party is done was a step of that party, of a
-  -- call of that name, which ended with that number
+  -- a step that wrote only the end of the find of `p` was a step of `p` in this find, and
+  -- ended it with this number
   wrote_end : (start : ContainerStart T) (flight : ContainerFlight T)
-      → Wrote code (kept_now shown terms code c t s) (Container start) (flights.Container flight)
+      → WroteTheEnd code (kept_now shown terms code c t s) (Container start) (flights.Container flight)
       → IsEnd q p (Container start) (Container (Find owner)) (end_of flight) (Number number)
   wrote_end start flight wrote =
       ends_alone turn q p (effects code q (state_of q s.state.states) flight answer ++ questions q flight answer)
       (Container start) (Container (Find owner)) (end_of flight) (Number number)
       (all_effects turn q mine code (state_of q s.state.states) flight answer) wrote
 
-  -- what is said of an ended find, and where its run was well-formed a turn ago
-  pub record Ends (bound : ℕ) : Type 0 where
+  -- what is known of an ended find: its party, its count below `bound`, and, in a well-formed run, its copies
+  pub record IsEndKnown (bound : ℕ) : Type 0 where
     pub party : q ≡ p
     pub count : IsCount p (IsFilledWith owner) bound number t.events
     pub whole : (y : Party T)
         → IsWellFormedSoFar terms (put q y t.world.latest) (t.events ++ Finished p (Container (Find owner)) (Number number) ∷ [])
         → IsFoundWhole p owner bound number t.events
 
-  -- what a find has for the indices below a bound is so of its end
+  -- what a find has counted below a bound is known of it when it ends
   ends_with : (bound : ℕ) (flight : ContainerFlight T) → q ≡ p
-      → IsHere scene (Find owner) flight → (fits : owner < empty)
-      → Has scene inv owner fits bound number
-      → Ends bound
-  ends_with bound flight is here fits found_so_far =
+      → IsUnderWay scene (Find owner) flight → (fits : owner < empty)
+      → HasCounted scene inv owner fits bound number
+      → IsEndKnown bound
+  ends_with bound flight same_party here fits found_so_far =
       record {
-        party = is;
-        count = subst (λ n. IsCount n (IsFilledWith owner) bound number t.events) is found_so_far.count;
+        party = same_party;
+        count = subst (λ n. IsCount n (IsFilledWith owner) bound number t.events) same_party found_so_far.count;
         whole = λ y well_formed.
-            subst (λ n. IsFoundWhole n owner bound number t.events) is (found_so_far.whole (was_well_formed scene (Find owner) tt here.span s.state.words y
-            (Finished p (Container (Find owner)) (Number number) ∷ []) (ap Some (sym is), tt) well_formed));
+            subst (λ n. IsFoundWhole n owner bound number t.events) same_party
+            (found_so_far.whole (was_well_formed scene (Find owner) tt here.span s.state.words y
+            (Finished p (Container (Find owner)) (Number number) ∷ []) (ap Some (sym same_party), tt) well_formed));
       }
 
-  -- a call that stands there, was handed what it has loaded, or a yes, and wrote that the find
-  -- is done, has counted over the whole container
+  -- a call that was handed what it loaded, or a yes, and wrote only that the find is done, has counted all
   counted : (due : Bool) → (due ≡ true → answer ≢ 0) → (start : Start T) (flight : Flight T)
       → StandsThere (family_by terms code c) t s q x since start flight → is_question (want_of code flight) ≡ due
       → (due ≡ false → answer ≡ old_of s.state.words (ask_of (want_of code flight)))
-      → Wrote code (kept_now shown terms code c t s) start flight → Ends c
+      → WroteTheEnd code (kept_now shown terms code c t s) start flight → IsEndKnown c
   counted due told (Container start) (flights.Container flight) standing asks loads wrote =
       let end = wrote_end start flight wrote in
       let name = find_name start owner end.name in
@@ -299,12 +300,11 @@ module _ {T : Type 0} (handed : Handed T) where
       there.here there.knows asks answer loads told end.done)
   counted due told start flight standing asks loads wrote = absurd standing.at
 
-  -- a call that stands there, was told no about an index, and wrote that the find is done, has
-  -- counted over the indices up to that one
+  -- a call that was told no about an index, and wrote only that the find is done, has counted up to that one
   stopped : (index : ℕ) (value : T) → answer ≡ 0 → (start : Start T) (flight : Flight T)
       → StandsThere (family_by terms code c) t s q x since start flight
-      → question_in code (Some flight) ≡ Some (index, value) → Wrote code (kept_now shown terms code c t s) start flight
-      → Ends (index + 1)
+      → question_in code (Some flight) ≡ Some (index, value) → WroteTheEnd code (kept_now shown terms code c t s) start flight
+      → IsEndKnown (index + 1)
   stopped index value zero (Container start) (flights.Container flight) standing asks wrote =
       let end = wrote_end start flight wrote in
       let name = find_name start owner end.name in
@@ -316,25 +316,25 @@ module _ {T : Type 0} (handed : Handed T) where
   stopped index value zero start flight standing asks wrote = absurd standing.at
 
   own_end : (start : Start T) (flight : Flight T) → StandsThere (family_by terms code c) t s q x since start flight
-      → Wrote code (kept_now shown terms code c t s) start flight → q ≡ p
+      → WroteTheEnd code (kept_now shown terms code c t s) start flight → q ≡ p
   own_end = grind (arith, wrote_end)
 
-  -- the call under way stands there, by the words and what is kept beside them
-  module _ (flight : Flight T) (doing : x.doing ≡ Going flight since) (e : Wrote t.world.coding t.world.kept x.start flight) where
+  -- the call under way writes this by the machine's own words, and by what is kept beside them
+  module _ (flight : Flight T) (doing : x.doing ≡ Going flight since) (e : WroteTheEnd t.world.coding t.world.kept x.start flight) where
     there_is : StandsThere (family_by terms code c) t s q x since x.start flight
     there_is = stands_there (family_by terms code c) t s q x since flight found doing
 
-    by_now : Wrote code (kept_now shown terms code c t s) x.start flight
+    by_now : WroteTheEnd code (kept_now shown terms code c t s) x.start flight
     by_now =
-        subst (λ kept. Wrote code kept x.start flight) s.fit.kept
-        (subst (λ y. Wrote y t.world.kept x.start flight) s.coding e)
+        subst (λ kept. WroteTheEnd code kept x.start flight) s.fit.kept
+        (subst (λ y. WroteTheEnd y t.world.kept x.start flight) s.coding e)
 
     pub own_party : q ≡ p
     own_party = own_end x.start flight there_is by_now
 
     -- a find that wrote its end when it was handed what it had loaded, or a yes, has counted over the whole container
     pub all_counted : (due : Bool) → (due ≡ true → answer ≢ 0) → is_question (want_of t.world.coding flight) ≡ due
-        → (due ≡ false → answer ≡ old_of t.world.words (ask_of (want_of t.world.coding flight))) → Ends c
+        → (due ≡ false → answer ≡ old_of t.world.words (ask_of (want_of t.world.coding flight))) → IsEndKnown c
     all_counted due told asks loads =
         counted due told x.start flight there_is (subst (λ y. is_question (want_of y flight) ≡ due) s.coding asks)
         (λ no. loads no
@@ -342,20 +342,20 @@ module _ {T : Type 0} (handed : Handed T) where
         ∙ ap (λ y. old_of s.state.words (ask_of (want_of y flight))) s.coding))
         by_now
 
-    pub all_stopped : (index : ℕ) (value : T) → answer ≡ 0 → question_in t.world.coding (Some flight) ≡ Some (index, value) → Ends (index + 1)
+    pub all_stopped : (index : ℕ) (value : T) → answer ≡ 0 → question_in t.world.coding (Some flight) ≡ Some (index, value) → IsEndKnown (index + 1)
     all_stopped index value zero asks =
         stopped index value zero x.start flight there_is
         (subst (λ y. question_in y (Some flight) ≡ Some (index, value)) s.coding asks) by_now
 
 -- ---- any turn
 
--- `c` is the capacity, `t` the run so far, `s` what is sound of it; party `p` finds for the owner
+-- `c` is the capacity, `t` the run up to this turn, `s` that it is sound; party `p` has the find for `owner`
 module _ {T : Type 0} (shown : Shown T) (terms : Terms) (code : Coding T) (c : ℕ) (t : Trace T)
     (s : frame.Sound (family_by terms code c) t) (p owner number : ℕ) where
-  abbrev Ended : List (Event T) → Type 0
-  Ended es = es ≡ Finished p (Container (Find owner)) (Number number) ∷ []
+  abbrev WroteOnlyEnd : List (Event T) → Type 0
+  WroteOnlyEnd es = es ≡ Finished p (Container (Find owner)) (Number number) ∷ []
 
-  -- this step of the call of party `q`, as the record above has it
+  -- the record `Handed` of this step of the call of party `q`
   abbrev handed : (q : ℕ) {x : Party T} → MayGoOn terms t → party_of q t.world.latest ≡ Some x → ℕ → (turn : Turn T) → IsParty turn q → ℕ → Handed T
   handed q {x} may found since turn mine answer =
       record {
@@ -378,23 +378,23 @@ module _ {T : Type 0} (shown : Shown T) (terms : Terms) (code : Coding T) (c : �
         number = number;
       }
 
-  -- what the turn tells that leaves this machine
-  abbrev Told : ℕ → List (ℕ × Party T) → Type 0
-  Told bound latest =
+  -- what is known of the find that ended in a turn that leaves the calls `latest`: its count, and its copies
+  abbrev TellsCount : ℕ → List (ℕ × Party T) → Type 0
+  TellsCount bound latest =
       IsCount p (IsFilledWith owner) bound number t.events
       × (IsWellFormedSoFar terms latest (t.events ++ Finished p (Container (Find owner)) (Number number) ∷ [])
       → IsFoundWhole p owner bound number t.events)
 
-  -- a step that wrote only that the find is done tells of the whole container
+  -- a step that wrote only that the find is done tells that the find has counted the whole container
   next_tells : (q : ℕ) → MayGoOn terms t → is_due t.world.coding (flight_in t.world q) ≡ false
-      → (o : Option (Party T)) → party_of q t.world.latest ≡ o → Ended (events_of_next t.world q o)
-      → Told c (after_next t.world q o).latest
+      → (o : Option (Party T)) → party_of q t.world.latest ≡ o → WroteOnlyEnd (events_of_next t.world q o)
+      → TellsCount c (after_next t.world q o).latest
   next_tells q may free None found ended = absurd (cc)
   next_tells q may free (Some x) found ended = go x.doing refl ended
     where
       -- the cases are whether the party's call is over or under way
-      go : (doing : Doing T) → x.doing ≡ doing → Ended (events_of_answer t.world q x (old_of t.world.words (ask_of_doing t.world.coding doing)) doing)
-          → Told c (after_answer t.world q x (ask_of_doing t.world.coding doing) (old_of t.world.words (ask_of_doing t.world.coding doing)) doing).latest
+      go : (doing : Doing T) → x.doing ≡ doing → WroteOnlyEnd (events_of_answer t.world q x (old_of t.world.words (ask_of_doing t.world.coding doing)) doing)
+          → TellsCount c (after_answer t.world q x (ask_of_doing t.world.coding doing) (old_of t.world.words (ask_of_doing t.world.coding doing)) doing).latest
       go (Over others) same_doing ended = absurd (cc)
       go (Going flight since) same_doing ended =
           let here : flight_in t.world q ≡ Some flight = ap (λ o. flight_of (doing_of o)) found ∙ ap (λ d. flight_of (Some d)) same_doing in
@@ -404,57 +404,59 @@ module _ {T : Type 0} (shown : Shown T) (terms : Terms) (code : Coding T) (c : �
           (λ told. absurd (cc)) (rw here at free) (λ no. refl) in
           (h.count, h.whole _)
 
-  -- a decision that wrote only that the find is done, other than a no to its party, tells of the whole container
+  -- a decision other than a no to the find's party, which wrote only the end of the find,
+  -- tells that all is counted
   decision_tells : (q : ℕ) (said : Bool) → MayGoOn terms t → is_due t.world.coding (flight_in t.world q) ≡ true
       → ◌≢◌ {A = Turn T} (Decide q said) (Decide p false) → (o : Option (Party T)) → party_of q t.world.latest ≡ o
-      → Ended (events_of_decision t.world q said o)
-      → Told c (after_decision t.world q said o).latest
+      → WroteOnlyEnd (events_of_decision t.world q said o)
+      → TellsCount c (after_decision t.world q said o).latest
   decision_tells q said may due ne None found ended = absurd (cc)
   decision_tells q said may due ne (Some x) found ended = go x.doing refl ended
     where
-      go : (doing : Doing T) → x.doing ≡ doing → Ended (events_of_answer t.world q x (number_of said) doing)
-          → Told c (after_answer t.world q x None (number_of said) doing).latest
+      go : (doing : Doing T) → x.doing ≡ doing → WroteOnlyEnd (events_of_answer t.world q x (number_of said) doing)
+          → TellsCount c (after_answer t.world q x None (number_of said) doing).latest
       go (Over others) same_doing ended = absurd (cc)
       go (Going flight since) same_doing ended = by said refl
         where
           -- the cases are whether the decision was yes
-          by : (b : Bool) → said ≡ b → Told c (after_answer t.world q x None (number_of said) (Going flight since)).latest
-          by true is =
+          by : (b : Bool) → said ≡ b → TellsCount c (after_answer t.world q x None (number_of said) (Going flight since)).latest
+          by true said_test =
               let here : flight_in t.world q ≡ Some flight =
               ap (λ o. flight_of (doing_of o)) found ∙ ap (λ d. flight_of (Some d)) same_doing in
               let h =
               all_counted (handed q may found since (Decide q said) refl (number_of said)) flight same_doing ended true
-              (λ told zero. let one : number_of said ≡ 1 = ap number_of is in absurd (omega arith)) (rw here at due)
+              (λ told zero. let one : number_of said ≡ 1 = ap number_of said_test in absurd (omega arith)) (rw here at due)
               (λ no. absurd (cc)) in
               (h.count, h.whole _)
-          by false is =
+          by false said_test =
               let party = own_party (handed q may found since (Decide q said) refl (number_of said)) flight same_doing ended in
-              absurd (ne (ap (λ n. Decide n said) party ∙ ap (λ b. Decide p b) is))
+              absurd (ne (ap (λ n. Decide n said) party ∙ ap (λ b. Decide p b) said_test))
 
-  -- a no to a find about an index, which wrote only that it is done, tells of the indices up to that one
+  -- a no about an index that wrote only that the find is done tells that the indices up to it are counted
   stop_tells : (index : ℕ) (value : T) → MayGoOn terms t → (o : Option (Party T)) → party_of p t.world.latest ≡ o
       → question_in t.world.coding (flight_of (doing_of o)) ≡ Some (index, value)
-      → Ended (events_of_decision t.world p false o) → Told (index + 1) (after_decision t.world p false o).latest
+      → WroteOnlyEnd (events_of_decision t.world p false o) → TellsCount (index + 1) (after_decision t.world p false o).latest
   stop_tells index value may None found asks ended = absurd (cc)
   stop_tells index value may (Some x) found asks ended = go x.doing refl asks ended
     where
       -- the cases are whether the party's call is over or under way
       go : (doing : Doing T) → x.doing ≡ doing
           → question_in t.world.coding (flight_of (Some doing)) ≡ Some (index, value)
-          → Ended (events_of_answer t.world p x (number_of false) doing)
-          → Told (index + 1) (after_answer t.world p x None (number_of false) doing).latest
+          → WroteOnlyEnd (events_of_answer t.world p x (number_of false) doing)
+          → TellsCount (index + 1) (after_answer t.world p x None (number_of false) doing).latest
       go (Over others) same_doing asks ended = absurd (cc)
       go (Going flight since) same_doing asks ended =
           let h = all_stopped (handed p may found since (Decide p false) refl (number_of false)) flight same_doing ended index value refl asks in
           (h.count, h.whole _)
 
-  -- no decision is due in a step
+  -- a step is refused to a party that waits for a decision
   not_due : (q : ℕ) → call_refusal t.world (Next q) ≡ None → is_due t.world.coding (flight_in t.world q) ≡ false
   not_due = grind (arith, row_passed, is_none)
 
-  -- a turn that wrote only that the find is done, other than a no to its party, tells of the whole container
-  tells : MayGoOn terms t → (turn : Turn T) → IsAllowed t.world turn → Ended (events_of t.world turn)
-      → turn ≢ Decide p false → Told c (after_turn t turn).world.latest
+  -- a turn other than a no to the find's party, which wrote only the end of the find,
+  -- tells that all is counted
+  tells : MayGoOn terms t → (turn : Turn T) → IsAllowed t.world turn → WroteOnlyEnd (events_of t.world turn)
+      → turn ≢ Decide p false → TellsCount c (after_turn t turn).world.latest
   tells may (Begin q start) allowed ended ne = absurd (cc)
   tells may (Next q) allowed ended ne = next_tells q may (not_due q allowed) (party_of q t.world.latest) refl ended
   tells may (Decide q said) allowed ended ne =
@@ -462,33 +464,33 @@ module _ {T : Type 0} (shown : Shown T) (terms : Terms) (code : Coding T) (c : �
   tells may (Die o) allowed ended ne = absurd (cc)
 
 module _ {T : Type 0} (shown : Shown T) (terms : Terms) (code : Coding T) (t : Trace T)
-    (s : frame.Sound (family_by terms code t.world.capacity) t) (may : MayGoOn terms t) (turn : Turn T)
+    (sound : frame.Sound (family_by terms code t.world.capacity) t) (may : MayGoOn terms t) (turn : Turn T)
     (r : IsAllowed t.world turn)
     (well_formed : Type 0) (so_far : well_formed → IsWellFormedSoFar terms (after_turn t turn).world.latest (after_turn t turn).events) where
-  -- as the promise says it of the machine after the turn
+  -- what the turn tells of the find's count is the count of the promise `CountsIf`
   right : (p owner number bound : ℕ)
       → (after_turn t turn).events ≡ t.events ++ Finished p (Container (Find owner)) (Number number) ∷ []
-      → Told shown terms code t.world.capacity t s p owner number bound (after_turn t turn).world.latest
+      → TellsCount shown terms code t.world.capacity t sound p owner number bound (after_turn t turn).world.latest
       → CountsIf well_formed p owner bound number t.events
   right = grind (arith, after_turn)
 
-  -- a find that ends in a turn other than a no to its party has counted right over the whole container
+  -- a find that ends in a turn other than a no to its party has counted the whole container right
   pub counts_all : (p owner number : ℕ)
       → (after_turn t turn).events ≡ t.events ++ Finished p (Container (Find owner)) (Number number) ∷ []
       → turn ≢ Decide p false → CountsIf well_formed p owner t.world.capacity number t.events
-  counts_all p owner number is ne =
-      right p owner number t.world.capacity is
-      (tells shown terms code t.world.capacity t s p owner number may turn r
-      (append_cancel_left t.events (events_of t.world turn) _ is) ne)
+  counts_all p owner number split_so ne =
+      right p owner number t.world.capacity split_so
+      (tells shown terms code t.world.capacity t sound p owner number may turn r
+      (append_cancel_left t.events (events_of t.world turn) _ split_so) ne)
 
-  -- a find that a no about an index ends has counted right over the indices up to that one
+  -- a find that a no about an index ends has counted the indices up to that one right
   pub counts_up_to : (p owner number index : ℕ) (value : T)
       → (after_turn t turn).events ≡ t.events ++ Finished p (Container (Find owner)) (Number number) ∷ []
       → turn ≡ Decide p false → question_at t p ≡ Some (index, value)
       → CountsIf well_formed p owner (index + 1) number t.events
-  counts_up_to p owner number index value is stops asks =
-      right p owner number (index + 1) is
-      (subst (λ u. Told shown terms code t.world.capacity t s p owner number (index + 1) (after_turn t u).world.latest) (sym stops)
-      (stop_tells shown terms code t.world.capacity t s p owner number index value may (party_of p t.world.latest) refl asks
+  counts_up_to p owner number index value split_so stops asks =
+      right p owner number (index + 1) split_so
+      (subst (λ u. TellsCount shown terms code t.world.capacity t sound p owner number (index + 1) (after_turn t u).world.latest) (sym stops)
+      (stop_tells shown terms code t.world.capacity t sound p owner number index value may (party_of p t.world.latest) refl asks
       (subst (λ u. events_of t.world u ≡ Finished p (Container (Find owner)) (Number number) ∷ []) stops
-      (append_cancel_left t.events (events_of t.world turn) _ is))))
+      (append_cancel_left t.events (events_of t.world turn) _ split_so))))

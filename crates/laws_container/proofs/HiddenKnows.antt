@@ -1,5 +1,6 @@
--- What a call knows of an index that it will free, or has freed: that its number is the one that it has loaded, or is even; then,
--- that what stands there stands under that number still, or that nothing has stood there since.
+-- What a call knows of an index that it will free: its number is the one that was loaded, or is even.
+-- And of one that it has freed: what stood there stands under that number still, or nothing has stood
+-- there at a moment since.
 use Rattle.laws_container.proofs.Names.{◌≡◌, ◌⊎◌, ℕ, ◌%◌, false, true, Some, is_some, List, Event, Finished}
 use Rattle.laws_container.proofs.Names.{Container, Index, State, Coding, contents_of, EmptySinceFreed, HidesRight}
 use Rattle.laws_container.proofs.Names.{PlacesRight, Frees, filled_of, settled_of, set_acts_of, IsOneOf, SinceBegin}
@@ -9,29 +10,32 @@ use Rattle.model.specs.declared.families.container.ContainerStart.TheVariants.{A
 use Rattle.laws_container.proofs.Turns.{Now, WellFormed, count_in}
 
 module _ {T : Type 0} (code : Coding T) (c : ℕ) where
-  -- the number is the one that was loaded, or somebody has hidden what stood there
+  -- the number at the index is the one that was loaded, or somebody has hidden what stood there
   abbrev pub Covered : ℕ → ℕ → Now T → Type 0
   Covered index count m =
       (count_in code c m index ≡ count) ⊎ (count_in code c m index % 2 ≡ 0)
 
-  -- so it is before a remove that may give the index back
+  -- what a remove knows before it frees its index: in a well-formed run, if its owner is not gone and had the
+  -- index settled when the remove began, the loaded number covers what stands there
   abbrev pub RemoveCovers : ℕ → ℕ → ℕ → ℕ → Now T → Type 0
   RemoveCovers p owner index count m =
       WellFormed m → is_gone m.terms.by owner m.events ≡ false
       → SinceBegin p (λ part since. settled_of index part ≡ Some owner) m.events
       → Covered index count m
 
-  -- what a recovery knows before it may free an index, while its owner fills it
+  -- what a recovery knows before it frees an index: in a well-formed run, while its owner fills the index,
+  -- the loaded number covers what stands there
   abbrev pub RecoverCovers : ℕ → ℕ → ℕ → Now T → Type 0
   RecoverCovers owner index count m =
       WellFormed m → filled_of index m.events ≡ Some owner → Covered index count m
 
-  -- something stands at the index under the number that was loaded
+  -- the index `i` is `index`, and a value stands there under the number that was loaded
   abbrev pub StillStands : ℕ → ℕ → Now T → ℕ → Type 0
   StillStands index count m i =
       (i ≡ index) × (count_in code c m index ≡ count) × (is_some (contents_of index m.events) ≡ true)
 
-  -- at each index that it has freed nothing has stood since, but those that are exempt
+  -- in a well-formed run, at each index that the call has freed for the owner nothing stood at a moment
+  -- since, except where `But` says
   abbrev pub HasHidden : ℕ → ℕ → (ℕ → Type 0) → Now T → Type 0
   HasHidden p owner But m =
       WellFormed m → (i : ℕ) → IsOneOf (Frees i owner) (set_acts_of p m.events)
@@ -44,7 +48,8 @@ no_index i = ⊥
 -- ---- what a finished call has done to elements
 
 module _ {T : Type 0} where
-  -- an add and a replace placed their value, and a remove and a recovery hid what they freed
+  -- an add and a replace that succeeded have placed their value, and a remove and a recovery have
+  -- hidden what they freed
   abbrev pub EndsRight : List (Event T) → Event T → Type 0
   EndsRight before (Finished p (Container (Add value owner)) (Index index)) =
       PlacesRight before (Finished p (Container (Add value owner)) (Index index))

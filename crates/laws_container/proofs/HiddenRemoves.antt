@@ -1,4 +1,6 @@
--- The end of a remove: it hides what stands there, unless that has changed, and counts its change.
+-- The last two steps of a remove: it hides what stood at its index, unless the number of the
+-- element has changed, and it counts its change and ends. What a step has to show is said by
+-- `StepOf` and `Leads` of `Stages`.
 use Rattle.laws_container.proofs.Names.{◌≡◌, ◌≢◌, ⊎_elim, inl, inr, ℕ, ◌+◌, ◌%◌, ◌<◌, ◌≤◌, ◌==◌, if◌then◌else◌, Bool}
 use Rattle.laws_container.proofs.Names.{false, true, Option, Some, List, [], ◌∷◌, ◌++◌, refl, sym, ap, subst, ◌∙◌}
 use Rattle.laws_container.proofs.Names.{append-nil, arith, nat_tests, Ask, GoOn, RemoveStage, ReleaseMode}
@@ -21,7 +23,7 @@ use Rattle.model.proofs.Locks.{locked_later}
 use Rattle.laws_container.proofs.Knows.{RemoveSays, RemoveKnows}
 use Rattle.laws_container.proofs.Left.{left_of}
 use Rattle.laws_container.proofs.Sets.{leaves_behind}
-use Rattle.laws_container.proofs.Stages.{IsHere, all, done, sees_now, then_sees, StepOf, Leads, none_lengthens}
+use Rattle.laws_container.proofs.Stages.{IsUnderWay, all, done, sees_now, then_sees, StepOf, Leads, none_lengthens}
 use Rattle.laws_container.proofs.Stages.{party_then, backs_then, goes_on, ends, was_well_formed}
 use Rattle.laws_container.proofs.CallProgress.{remove_at, release_total, RemoveAt, place_is}
 use Rattle.laws_container.proofs.Steps.{loads, hides, ends_counted}
@@ -29,12 +31,12 @@ use Rattle.laws_container.proofs.Turns.{count_in}
 use Rattle.laws_container.proofs.Writing.{adds_one, adds_to_change, hides_count}
 use Rattle.laws_robust.proofs.Cases.{by_bool, on_bool}
 
--- a release and 3 steps
+-- the steps of a remove are those of its release and three more
 pub total_is : (c z index owner : ℕ) (mode : ReleaseMode) (backs : ℕ) (T : Type 0)
     → 3 + release_total c index owner mode backs ≡ most_steps {T = T} c z (Remove index owner mode) backs
 total_is = grind arith
 
--- it has freed its index
+-- a remove that answers a state has freed its index
 removed_frees : (T : Type 0) (index owner : ℕ) (mode : ReleaseMode) (state : ReleaseState) (made : List SetAct)
     → HasDone {T = T} (Remove index owner mode) (answers.State state) made [] → IsOneOf (Frees index owner) made
 removed_frees T index owner Default states.Locked made has_done = absurd has_done
@@ -46,23 +48,28 @@ removed_frees T index owner LockIfLastIndex states.Locked made has_done =
 removed_frees T index owner LockIfLastIndex states.Unlocked made has_done =
     subst (IsOneOf (Frees index owner)) (sym has_done) (record { before = []; after = []; is = refl })
 
--- whatever it has done to elements
+-- what a remove that answers a state has done to the set is right, whatever it has done to elements
 removed_done : {T : Type 0} (index owner : ℕ) (mode : ReleaseMode) (state : ReleaseState) (made : List SetAct) (done : List (Act T))
     → HasDone {T = T} (Remove index owner mode) (answers.State state) made []
     → HasDone {T = T} (Remove index owner mode) (answers.State state) made done
 removed_done index owner mode state made acts has_done = grind arith
 
--- a remove by the party of the scene, for an owner that is not gone
+-- a remove by the party of the scene, of a handle whose index is below the capacity, for an
+-- owner that is not gone
 pub record Removing (T : Type 0) : Type 0 where
+  -- the turn, and what holds of the machine before it
   pub scene : Scene T
   pub inv : Inv scene
+  -- the arguments of the call
   pub index : ℕ
   pub owner : ℕ
   pub mode : ReleaseMode
+  -- the owner can be in a cell and is not gone, and the index is below the capacity
   pub fits : owner < empty
   pub acts : ActsFor scene owner
   pub below : index < scene.capacity
 
+-- the steps of one remove
 module _ {T : Type 0} (removing : Removing T) where
   open removing use {scene, inv, index, owner, mode, fits, below}
   open removing.scene use {coding as code, capacity as c, party as p, steps, backs, events}
@@ -76,28 +83,32 @@ module _ {T : Type 0} (removing : Removing T) where
   abbrev start : ContainerStart T
   start = Remove index owner mode
 
+  -- the remove as a call at this stage
   abbrev at_stage : RemoveStage → ContainerFlight T
   at_stage stage = remove_at c index owner mode stage
 
-  abbrev Here : RemoveStage → Type 0
-  Here stage = IsHere scene (Remove index owner mode) (remove_at c index owner mode stage)
+  -- the party's call under way is this remove, at this stage
+  abbrev IsAtStage : RemoveStage → Type 0
+  IsAtStage stage = IsUnderWay scene (Remove index owner mode) (remove_at c index owner mode stage)
 
+  -- the party after the step by which the remove comes to stage `next`
   abbrev then_at : RemoveStage → Option Ask → Bool → Party T
   then_at next ask back = party_then scene start ask back (GoOn (at_stage next))
 
   given_is : ◌≡◌ {A = GiveBack} (record { index = index; owner = owner; mode = mode }) (record { index = place_of c index; owner = owner; mode = mode })
   given_is = grind (arith, place_is)
 
-  -- no turn back was counted
+  -- the step turns back no loop, so the steps that are allowed stay the same
   same_total : release_total c index owner mode (backs_then scene false) ≡ release_total c index owner mode backs
   same_total = grind arith
 
   -- ---- what stands there is hidden
 
-  module _ (count : ℕ) (state : ReleaseState) (here : Here (removes.Hides count state))
+  -- the remove has freed its index, and hides the element there if it has the odd number `count` still
+  module _ (count : ℕ) (state : ReleaseState) (here : IsAtStage (removes.Hides count state))
       (stands : RemoveAt c z (all scene) (done scene) index owner mode (removes.Hides count state))
-      (k : RemoveKnows code c index owner mode (removes.Hides count state) (sees_now scene))
-      (s : steps ≤ 1 + release_total c index owner mode backs) where
+      (knows : RemoveKnows code c index owner mode (removes.Hides count state) (sees_now scene))
+      (few_steps : steps ≤ 1 + release_total c index owner mode backs) where
     abbrev hide_it : Option Ask
     hide_it = Some (exchanges (count_word c index) count (one_more count))
 
@@ -107,7 +118,7 @@ module _ {T : Type 0} (removing : Removing T) where
     abbrev next : RemoveStage
     next = removes.AddsChange state
 
-    -- the exchange leaves the counter
+    -- a counter at its end is at its end after the exchange
     counter_stays : counter_of ws ≡ greatest → counter_of (words_after ws hide_it) ≡ greatest
     counter_stays end =
         by_bool (count_now == count)
@@ -120,7 +131,7 @@ module _ {T : Type 0} (removing : Removing T) where
         let other : count_now ≢ count = grind (arith, nat_tests) in
         ap counter_of (fails_same ws (count_word c index) count (one_more count) other) ∙ end)
 
-    -- what a remove's state will say is so still after the exchange
+    -- what the state that a remove answers says before the exchange, it says after it
     says_then : (m : ReleaseMode) (t : ReleaseState) (es : List (Event T)) → BeginsNone p es → (y : Party T)
         → RemoveSays code c index owner m t (sees_now scene)
         → RemoveSays code c index owner m t (then_sees scene hide_it false scene.states y es)
@@ -134,13 +145,14 @@ module _ {T : Type 0} (removing : Removing T) where
           remove_says.1,
     )
 
-    -- the step in which a remove hides what stands at its index shows what it has to, whether
-    -- it finds the number or another
+    -- the step in which a remove hides what stood at its index: it goes on to count its change, whether it
+    -- finds the loaded number or another one
     pub hides_step : StepOf scene start (at_stage (removes.Hides count state))
     hides_step =
         on_bool (λ b. Leads scene start (Some (exchanges (count_word c index) count (one_more count))) false scene.states
         ((if b then Hidden p index ∷ [] else []) ++ []) (GoOn (at_stage (removes.AddsChange state))))
         (count_now == count)
+        -- the number is the one that was loaded: the step hides what stood there
         (λ t.
         let same_count : count_now ≡ count = grind (arith, nat_tests) in
         let party_after = then_at next hide_it false in
@@ -150,7 +162,7 @@ module _ {T : Type 0} (removing : Removing T) where
         goes_on scene start (at_stage next) hide_it false scene.states written here.span (λ start w. refl)
         (hides scene inv start (at_stage (removes.Hides count state)) tt here party_after
         (words_after ws hide_it) index below (hides_count scene inv index count below same_count) refl odd
-        (λ holds q ne o theirs fresh. both_ways (left_of index events) fresh (k.2.left holds same_count))
+        (λ holds q ne o theirs fresh. both_ways (left_of index events) fresh (knows.2.left holds same_count))
         (was_well_formed scene start tt here.span (words_after ws hide_it) party_after written (refl, tt)))
         ((refl, stands.2, stands.3), tt) (omega arith) (
           refl,
@@ -161,11 +173,12 @@ module _ {T : Type 0} (removing : Removing T) where
             subst (λ d. HasDone {T = T} (Remove index owner mode) (answers.State state) d []) (sym (append-nil (all scene))) stands.1,
           ),
         ) (
-          let paid = k.0 in
+          let paid = knows.0 in
               omega arith,
-          says_then mode state written tt party_after k.1,
-          hides_it scene start tt here.span owner (words_after ws hide_it) party_after index count k.3,
+          says_then mode state written tt party_after knows.1,
+          hides_it scene start tt here.span owner (words_after ws hide_it) party_after index count knows.3,
         ))
+        -- the number is another one: another call has hidden what stood there, and the step changes nothing
         (λ t.
         let other : count_now ≢ count = grind (arith, nat_tests) in
         let party_after = then_at next hide_it false in
@@ -183,34 +196,37 @@ module _ {T : Type 0} (removing : Removing T) where
             subst (λ d. HasDone {T = T} (Remove index owner mode) (answers.State state) d []) (sym (append-nil (all scene))) stands.1,
           ),
         ) (
-          let paid = k.0 in omega arith,
-          says_then mode state [] tt party_after k.1,
+          let paid = knows.0 in omega arith,
+          says_then mode state [] tt party_after knows.1,
           hidden_on scene start tt here.span owner (words_after ws hide_it) party_after [] tt tt none_lengthens
               (λ i was. subst (IsOneOf (Frees i owner)) (append-nil (all scene)) was)
-              (hidden_other code c p owner index count (before scene) other k.3),
+              (hidden_other code c p owner index count (before scene) other knows.3),
         ))
 
   -- ---- the change is counted, and the call ends
 
-  module _ (state : ReleaseState) (here : Here (removes.AddsChange state))
+  -- the remove has hidden what stood at its index, and counts its change
+  module _ (state : ReleaseState) (here : IsAtStage (removes.AddsChange state))
       (has_done : HasDone {T = T} (Remove index owner mode) (answers.State state) (all scene) [])
-      (k : RemoveKnows code c index owner mode (removes.AddsChange state) (sees_now scene))
-      (s : steps ≤ 2 + release_total c index owner mode backs) where
+      (knows : RemoveKnows code c index owner mode (removes.AddsChange state) (sees_now scene))
+      (few_steps : steps ≤ 2 + release_total c index owner mode backs) where
     abbrev end_it : Option Ask
     end_it = Some (adds_one (change_word c))
 
+    -- a counter at its end is at its end after the change is counted
     counter_stays_then : counter_of ws ≡ greatest → counter_of (words_after ws end_it) ≡ greatest
     counter_stays_then end =
         (leaves_behind (of_set scene) (inv_of_set scene inv) (words_after ws end_it) (change_word c) _ (omega arith)
         (adds_to_change scene inv)).stuck
         end
 
+    -- the answer of the remove is right, from what the remove knows of its state (`RemoveSays`)
     answers_right : (m : ReleaseMode) (t : ReleaseState) → RemoveSays code c index owner m t (sees_now scene)
         → AnswersBy scene.terms.by (IsWorn scene.terms.by (words_after ws end_it)) c events
         (Finished p (Container (Remove index owner m)) (answers.State t))
     answers_right = grind (arith, inl, worn_on, counter_stays_then, inr)
 
-    -- the step in which a remove counts the change ends it
+    -- the step in which a remove counts its change ends the remove
     pub end_step : StepOf scene start (at_stage (removes.AddsChange state))
     end_step =
         let party_after = party_then scene start end_it false (Done (answers.State state)) in
@@ -225,8 +241,8 @@ module _ {T : Type 0} (removing : Removing T) where
         (leaves_behind (of_set scene) (inv_of_set scene inv) (words_after ws end_it) (change_word c) _ (omega arith) new)
         (quiet_end p (Container start) (answers.State state) (λ i o. refl) (λ i r. refl))
         (refl, tt) (tt, tt) (tt, tt))
-        (answers_right mode state k.1) well_formed
+        (answers_right mode state knows.1) well_formed
         (λ holds. ⊎_elim (λ empty. empty) (λ never. absurd never)
-        (k.2 (well_formed holds) index (removed_frees T index owner mode state (all scene) has_done)))
+        (knows.2 (well_formed holds) index (removed_frees T index owner mode state (all scene) has_done)))
         new (λ holds i said. inv.elements.announced holds i said))
-        ((refl, removed_done index owner mode state (all scene) (done scene) has_done), tt) (omega arith) (let paid = k.0 in omega arith)
+        ((refl, removed_done index owner mode state (all scene) (done scene) has_done), tt) (omega arith) (let paid = knows.0 in omega arith)

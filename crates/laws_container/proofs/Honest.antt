@@ -1,5 +1,5 @@
--- A faithful turn of an open run is honest: who takes no step for an owner who is gone fills, is granted and gives back nothing
--- for one.
+-- A faithful turn of an open run leaves the run honest: a turn that is no step for an owner who is gone
+-- fills, grants and gives back no index for such an owner.
 use Rattle.laws_container.proofs.Names.{◌≡◌, ◌⊎◌, ⊎_elim, inl, inr, ℕ, Bool, true, false, Option, Some, None, IfSome}
 use Rattle.laws_container.proofs.Names.{List, [], ◌∷◌, ◌++◌, refl, sym, ap, subst, ◌∙◌, append_assoc, append-nil}
 use Rattle.laws_container.proofs.Names.{arith, AllByRecursion, fold-append, ReleaseMode, Answer, Event, Begun, Start}
@@ -28,73 +28,82 @@ use Rattle.laws_container.proofs.Written.{all_effects}
 -- ---- for whom a call is
 
 module _ {T : Type 0} (events : List (Event T)) where
-  -- it fills, or gives back, for no owner who is gone
+  -- the call is for no owner who is gone, if it is one that fills an index or gives one back
   abbrev IsForLiving : ContainerStart T → Type 0
   IsForLiving (Add value owner) = is_gone Word owner events ≡ false
   IsForLiving (Remove index owner mode) = is_gone Word owner events ≡ false
   IsForLiving start = Unit {0}
 
-  -- `c` is the capacity, `z` the words of a value; the call has done `all` to the set, and
-  -- `done` to elements
+  -- `c` is the capacity, `z` the words of a value; the call has done `all` to the set, and `done` to elements
   module _ (code : Coding T) (c z : ℕ) (all : List SetAct) (done : List (Act T)) where
+    -- a call that acts for nobody who is gone is for no such owner by its name either
     living_by : (start : ContainerStart T) (flight : ContainerFlight T) → At c z all done start flight → acts_for_gone Word events flight ≡ false
         → IsForLiving start
-    living_by start flight at alive = grind arith
+    living_by start flight stands alive = grind arith
 
-    -- a call that asks a question is for an owner who lives
+    -- a call that asks a question is none that fills an index or gives one back
     living_asked : (start : ContainerStart T) (flight : ContainerFlight T) → At c z all done start flight → is_question (want code flight) ≡ true
         → IsForLiving start
-    living_asked start flight at asks = grind arith
+    living_asked start flight stands asks = grind arith
 
 -- ---- one event that a step writes
 
 module _ (p : ℕ) where
+  -- what holds of the party of an event that has one holds of `p`
   at_party : (o : Option ℕ) (P : ℕ → Type 0) → o ≡ Some p → IfSome o P → P p
   at_party = grind arith
 
 module _ {T : Type 0} (p : ℕ) where
+  -- an event that a step of party `p` writes is of that party
   effect_own : (e : Event T) → IsEffectOf (Next p) e → whose e ≡ Some p
   effect_own e its = grind arith
 
+  -- an event that a step writes and that stands right in a span may stand there
   stand_by : (c : ℕ) (e : Event T) → IsEffectOf (Next p) e → (span : Span T) → Stands promise c e span → may_stand e span
   stand_by c e its span stands = grind arith
 
+  -- an event that a step writes makes the span of an open call longer
   longer_by : (start : Start T) (e : Event T) → IsEffectOf (Next p) e → (wrote : List (Event T)) → own_after (Open start wrote) e ≡ Open start (wrote ++ e ∷ [])
   longer_by start e its wrote = grind arith
 
-  -- an add and a remove are told nothing
+  -- no event that a step of an add writes makes an owner gone
   add_leaves : (value : T) (o : ℕ) (wrote : List (Event T)) (e : Event T) → IsEffectOf (Next p) e → may_stand e (Open (Container (Add value o)) wrote)
       → (owner : ℕ) (gone : Bool) → gone_after owner gone e ≡ gone
-  add_leaves value o wrote e its h owner gone = grind arith
+  add_leaves value o wrote e its may_be owner gone = grind arith
 
+  -- no event that a step of a remove writes makes an owner gone
   remove_leaves : (index o : ℕ) (mode : ReleaseMode) (wrote : List (Event T)) (e : Event T) → IsEffectOf (Next p) e
       → may_stand e (Open (Container (Remove index o mode)) wrote) → (owner : ℕ) (gone : Bool) → gone_after owner gone e ≡ gone
-  remove_leaves index o mode wrote e its h owner gone = grind arith
+  remove_leaves index o mode wrote e its may_be owner gone = grind arith
 
   module _ (wrote events : List (Event T)) where
+    -- the span of a call that has written `wrote`
     abbrev at : ContainerStart T → Span T
     at start = Open (Container start) wrote
 
+    -- an event of a call that is for no owner who is gone leaves it one for no such owner
     stays : (start : ContainerStart T) (e : Event T) → IsEffectOf (Next p) e → may_stand e (at start) → IsForLiving events start
         → IsForLiving (events ++ e ∷ []) start
     stays = grind (arith, fold-append, false, add_leaves, remove_leaves)
 
+    -- an event that a step writes for a call that is for no owner who is gone is honest
     acts_right : (start : ContainerStart T) (e : Event T) → IsEffectOf (Next p) e → span_of p events ≡ at start → may_stand e (at start)
         → IsForLiving events start → ActsForRight events e
-    acts_right start e its is h live = grind arith
+    acts_right start e its span_is may_be live = grind arith
 
   -- ---- all that a step writes
 
   module _ (c : ℕ) (start : ContainerStart T) where
-    -- the party's call is under way, for none who is gone
-    record Goes (events : List (Event T)) : Type 0 where
+    -- the call of party `p` is under way, and is for no owner who is gone
+    record ActsForLiving (events : List (Event T)) : Type 0 where
       pub wrote : List (Event T)
       pub span : span_of p events ≡ Open (Container start) wrote
       pub living : IsForLiving events start
 
-    -- an event that a step writes for a call that acts for nobody who is gone is honest, and leaves the call so
-    one : (events : List (Event T)) (e : Event T) → IsEffectOf (Next p) e → StandsRight promise c events e → Goes events
-        → ActsForRight events e × Goes (events ++ e ∷ [])
+    -- an event that a step writes for a call which is for no owner who is gone is honest, and the call is for
+    -- no such owner still
+    one : (events : List (Event T)) (e : Event T) → IsEffectOf (Next p) e → StandsRight promise c events e → ActsForLiving events
+        → ActsForRight events e × ActsForLiving (events ++ e ∷ [])
     one events e its right goes =
         let own = effect_own e its in
         let there = stand_by c e its (span_of p events) (at_party p (whose e) (λ q. Stands promise c e (span_of q events)) own right) in
@@ -107,22 +116,26 @@ module _ {T : Type 0} (p : ℕ) where
           },
         )
 
-    -- all that a step writes for such a call is honest, and leaves the call so
-    all_right : (events es : List (Event T)) → AllByRecursion (IsEffectOf (Next p)) es → Each (StandsRight promise c) (events ++ es) → Goes events
-        → AreRight ActsForRight events es × Goes (events ++ es)
-    all_right events [] its spans goes = (tt, subst Goes (sym (append-nil events)) goes)
+    -- all that a step writes for a call which is for no owner who is gone is honest, and the call is for no
+    -- such owner still
+    all_right : (events es : List (Event T)) → AllByRecursion (IsEffectOf (Next p)) es → Each (StandsRight promise c) (events ++ es) → ActsForLiving events
+        → AreRight ActsForRight events es × ActsForLiving (events ++ es)
+    all_right events [] its spans goes = (tt, subst ActsForLiving (sym (append-nil events)) goes)
     all_right events (e ∷ es) its spans goes =
         let joined : (events ++ e ∷ []) ++ es ≡ events ++ e ∷ es = append_assoc events (e ∷ []) es in
         let first = one events e its.0 (spans events es e refl) goes in
         let rest = all_right (events ++ e ∷ []) es its.1 (subst (Each (StandsRight promise c)) (sym joined) spans) first.1 in
-        ((first.0, rest.0), subst Goes joined rest.1)
+        ((first.0, rest.0), subst ActsForLiving joined rest.1)
 
+    -- the end of a call that is for no owner who is gone is honest
     end_right : (events : List (Event T)) (outcome : Option (Answer T)) → IsForLiving events start
         → AreRight ActsForRight events (ending_of p (Container start) outcome)
     end_right events outcome live = grind arith
 
-    -- an honest run is honest after a step of such a call, and after its end
-    honest_more : (events did : List (Event T)) (outcome : Option (Answer T)) → AllByRecursion (IsEffectOf (Next p)) did → Goes events → IsHonest events
+    -- an honest run is honest after a step of a call that is for no owner who is gone, and after
+    -- the end of that call
+    honest_more : (events did : List (Event T)) (outcome : Option (Answer T))
+        → AllByRecursion (IsEffectOf (Next p)) did → ActsForLiving events → IsHonest events
         → Each (StandsRight promise c) (events ++ (did ++ ending_of p (Container start) outcome))
         → IsHonest (events ++ (did ++ ending_of p (Container start) outcome))
     honest_more events did outcome its goes honest spans =
@@ -135,99 +148,110 @@ module _ {T : Type 0} (p : ℕ) where
 
 -- ---- one turn
 
--- `c` is the capacity, `t` the run so far, and `s` what is sound of it
-module _ {T : Type 0} (terms : Terms) (code : Coding T) (c : ℕ) (t : Trace T) (s : frame.Sound (family_by terms code c) t) (honest : IsHonest t.events) where
-  abbrev Spans : List (Event T) → Type 0
-  Spans es = Each (StandsRight promise c) (t.events ++ es)
+-- `c` is the capacity, `t` the run up to this turn, `s` that it is sound, and `honest` that it is honest
+module _ {T : Type 0} (terms : Terms) (code : Coding T) (c : ℕ) (t : Trace T)
+    (sound : frame.Sound (family_by terms code c) t) (honest : IsHonest t.events) where
+  -- the run with these events keeps what is said of where events may stand
+  abbrev StandRightWith : List (Event T) → Type 0
+  StandRightWith es = Each (StandsRight promise c) (t.events ++ es)
 
-  abbrev Honest : List (Event T) → Type 0
-  Honest es = IsHonest (t.events ++ es)
+  -- the run with these events is honest
+  abbrev IsHonestWith : List (Event T) → Type 0
+  IsHonestWith es = IsHonest (t.events ++ es)
 
-  -- a call that acts for none who is gone, or waits for an answer
-  abbrev Minds : Flight T → Type 0
-  Minds (flights.Container flight) = (acts_for_gone Word t.events flight ≡ false) ⊎ (is_question (want t.world.coding flight) ≡ true)
-  Minds flight = Unit {0}
+  -- the call acts for nobody who is gone, or waits for a decision
+  abbrev MayWrite : Flight T → Type 0
+  MayWrite (flights.Container flight) = (acts_for_gone Word t.events flight ≡ false) ⊎ (is_question (want t.world.coding flight) ≡ true)
+  MayWrite flight = Unit {0}
 
-  -- the call `x` of party `p` is handed this answer
+  -- the call `x` of party `p` is handed `answer`
   module _ (p answer : ℕ) (x : Party T) (since : ℕ) where
     abbrev writes : Registry T → Start T → Flight T → List (Event T)
     writes kept start flight =
         events_of_step p start (step_of t.world.coding t.world.words (beside_of t.world.words kept t.world.latest p) p start flight answer kept)
 
-    -- a call that stands there by the events, and acts for nobody who is gone or waits for an
-    -- answer, leaves the run honest
-    by_name : (start : Start T) (flight : Flight T) → StandsThere (family_by terms code c) t s p x since start flight → Minds flight
-        → Spans (writes (registries.Container s.state.dead s.state.states) start flight)
-        → Honest (writes (registries.Container s.state.dead s.state.states) start flight)
+    -- the run stays honest with what the call writes, if it acts for nobody who is gone or
+    -- waits for a decision
+    by_name : (start : Start T) (flight : Flight T) → StandsThere (family_by terms code c) t sound p x since start flight → MayWrite flight
+        → StandRightWith (writes (registries.Container sound.state.dead sound.state.states) start flight)
+        → IsHonestWith (writes (registries.Container sound.state.dead sound.state.states) start flight)
     by_name (Container start) (flights.Container flight) stands minds spans =
-        let state = state_of p s.state.states in
+        let state = state_of p sound.state.states in
         let did : List (Event T) = effects t.world.coding p state flight answer ++ questions p flight answer in
         let live : IsForLiving t.events start =
         ⊎_elim (λ alive. living_by t.events t.world.coding c code.size _ _ start flight stands.at alive)
         (λ asks. living_asked t.events t.world.coding c code.size _ _ start flight stands.at asks) minds in
         honest_more p c start t.events did (answer_in (any_call (after t.world.coding state flight answer)))
         (all_effects (Next p) p refl t.world.coding state flight answer)
-        (record { wrote = wrote_of p s.state.events; span = stands.span; living = live }) honest spans
+        (record { wrote = wrote_of p sound.state.events; span = stands.span; living = live }) honest spans
     by_name start flight stands minds spans = absurd stands.at
 
-    went : (flight : Flight T) → party_of p t.world.latest ≡ Some x → x.doing ≡ Going flight since → Minds flight → Spans (writes t.world.kept x.start flight)
-        → Honest (writes t.world.kept x.start flight)
+    -- the run stays honest with what the party's call under way writes, by the machine's own words and states
+    went : (flight : Flight T) → party_of p t.world.latest ≡ Some x → x.doing ≡ Going flight since → MayWrite flight
+        → StandRightWith (writes t.world.kept x.start flight)
+        → IsHonestWith (writes t.world.kept x.start flight)
     went flight found doing minds =
-        subst (λ kept. Spans (writes kept x.start flight) → Honest (writes kept x.start flight)) (sym s.fit.kept)
-        (by_name x.start flight (stands_there (family_by terms code c) t s p x since flight found doing) minds)
+        subst (λ kept. StandRightWith (writes kept x.start flight) → IsHonestWith (writes kept x.start flight)) (sym sound.fit.kept)
+        (by_name x.start flight (stands_there (family_by terms code c) t sound p x since flight found doing) minds)
 
-  -- what its word holds
+  -- the old value of the word for which the call asks
   abbrev old : Doing T → ℕ
   old doing = old_of t.world.words (ask_of_doing t.world.coding doing)
 
-  same : Honest []
+  -- the run with no further event is honest
+  same : IsHonestWith []
   same = subst IsHonest (sym (append-nil t.events)) honest
 
-  by_steps : (flight : Flight T) → is_for_gone t.events (Some flight) ≡ false → Minds flight
+  -- a call that takes no step for an owner who is gone acts for nobody who is gone
+  by_steps : (flight : Flight T) → is_for_gone t.events (Some flight) ≡ false → MayWrite flight
   by_steps (flights.Container flight) owner_lives = inl owner_lives
   by_steps flight owner_lives = tt
 
-  by_question : (flight : Flight T) → is_question (want_of t.world.coding flight) ≡ true → Minds flight
+  -- a call that is at its question waits for a decision
+  by_question : (flight : Flight T) → is_question (want_of t.world.coding flight) ≡ true → MayWrite flight
   by_question (flights.Container flight) asks = inr asks
   by_question flight asks = tt
 
+  -- what a party has under way is the call that the machine finds
   flies : (p : ℕ) (x : Party T) (flight : Flight T) (since : ℕ) → party_of p t.world.latest ≡ Some x → x.doing ≡ Going flight since
       → flight_in t.world p ≡ Some flight
-  flies p x flight since e d = ap (λ o. flight_of (doing_of o)) e ∙ ap (λ d. flight_of (Some d)) d
+  flies p x flight since found doing_is = ap (λ o. flight_of (doing_of o)) found ∙ ap (λ doing_is. flight_of (Some doing_is)) doing_is
 
-  -- a step of a party that takes none for one who is gone leaves the run honest
+  -- a step of a party whose call acts for nobody who is gone leaves the run honest
   next_honest : (p : ℕ) → is_for_gone t.events (flight_in t.world p) ≡ false → (o : Option (Party T)) → party_of p t.world.latest ≡ o
-      → Spans (events_of_next t.world p o) → Honest (events_of_next t.world p o)
-  next_honest p steps None e spans = same
-  next_honest p steps (Some x) e spans = go x.doing refl spans
+      → StandRightWith (events_of_next t.world p o) → IsHonestWith (events_of_next t.world p o)
+  next_honest p steps None party_is spans = same
+  next_honest p steps (Some x) party_is spans = go x.doing refl spans
     where
       -- the cases are whether the party's call is over or under way
-      go : (doing : Doing T) → x.doing ≡ doing → Spans (events_of_answer t.world p x (old doing) doing)
-          → Honest (events_of_answer t.world p x (old doing) doing)
+      go : (doing : Doing T) → x.doing ≡ doing → StandRightWith (events_of_answer t.world p x (old doing) doing)
+          → IsHonestWith (events_of_answer t.world p x (old doing) doing)
       go (Over others) same_doing spans = same
       go (Going flight since) same_doing spans =
-          went p (old (Going flight since)) x since flight e same_doing
-          (by_steps flight (subst (λ o. is_for_gone t.events o ≡ false) (flies p x flight since e same_doing) steps)) spans
+          went p (old (Going flight since)) x since flight party_is same_doing
+          (by_steps flight (subst (λ o. is_for_gone t.events o ≡ false) (flies p x flight since party_is same_doing) steps)) spans
 
   -- a decision leaves the run honest
   decision_honest : (p : ℕ) (said : Bool) → is_due t.world.coding (flight_in t.world p) ≡ true → (o : Option (Party T)) → party_of p t.world.latest ≡ o
-      → Spans (events_of_decision t.world p said o) → Honest (events_of_decision t.world p said o)
-  decision_honest p said due None e spans = same
-  decision_honest p said due (Some x) e spans = go x.doing refl spans
+      → StandRightWith (events_of_decision t.world p said o) → IsHonestWith (events_of_decision t.world p said o)
+  decision_honest p said due None party_is spans = same
+  decision_honest p said due (Some x) party_is spans = go x.doing refl spans
     where
       -- the cases are whether the party's call is over or under way
-      go : (doing : Doing T) → x.doing ≡ doing → Spans (events_of_answer t.world p x (number_of said) doing)
-          → Honest (events_of_answer t.world p x (number_of said) doing)
+      go : (doing : Doing T) → x.doing ≡ doing → StandRightWith (events_of_answer t.world p x (number_of said) doing)
+          → IsHonestWith (events_of_answer t.world p x (number_of said) doing)
       go (Over others) same_doing spans = same
       go (Going flight since) same_doing spans =
-          went p (number_of said) x since flight e same_doing
-          (by_question flight (subst (λ o. is_due t.world.coding o ≡ true) (flies p x flight since e same_doing) due))
+          went p (number_of said) x since flight party_is same_doing
+          (by_question flight (subst (λ o. is_due t.world.coding o ≡ true) (flies p x flight since party_is same_doing) due))
           spans
 
-  -- a turn that an open run does not refuse, and that takes no step for one who is gone, leaves the run honest
+  -- a turn that an open run does not refuse, and that is no step for an owner who is gone,
+  -- leaves the run honest
   pub turn_honest : (turn : Turn T) → open_refusal t.world turn ≡ None → steps_for_gone t turn ≡ false
       → frame.Sound (family_by terms code c) (after_turn t turn) → IsHonest (after_turn t turn).events
-  turn_honest (Begin p start) e steps next = Each-append ActsForRight t.events (Begun p start ∷ []) honest (tt, tt)
-  turn_honest (Next p) e steps next = next_honest p steps (party_of p t.world.latest) refl next.inv.spans
-  turn_honest (Decide p said) e steps next = decision_honest p said (allowed_open t.world (Decide p said) e) (party_of p t.world.latest) refl next.inv.spans
-  turn_honest (Die owner) e steps next = absurd (cc)
+  turn_honest (Begin p start) unrefused steps next = Each-append ActsForRight t.events (Begun p start ∷ []) honest (tt, tt)
+  turn_honest (Next p) unrefused steps next = next_honest p steps (party_of p t.world.latest) refl next.inv.spans
+  turn_honest (Decide p said) unrefused steps next =
+      decision_honest p said (allowed_open t.world (Decide p said) unrefused) (party_of p t.world.latest) refl next.inv.spans
+  turn_honest (Die owner) unrefused steps next = absurd (cc)

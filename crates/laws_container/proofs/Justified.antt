@@ -1,4 +1,5 @@
--- What a turn writes down: what the step did to the container, then the end. No call of the container acts.
+-- What a turn of a container writes down: what its step did to the container, and then the end of its call if
+-- it ends. With it all that the frame asks of the family, and so all that is promised of every run.
 use Rattle.std.proofs.Common.{arith}
 use Rattle.laws_container.proofs.Names.{◌≡◌, ℕ, Option, None, List, refl, sym, subst}
 use Rattle.laws_container.proofs.Names.{Start, Container, Flight, Turn, Next}
@@ -24,30 +25,31 @@ use Rattle.laws_container.proofs.TurnPromises.{tells_if}
 use Rattle.laws_container.proofs.Written.{all_effects}
 
 module _ {T : Type 0} (shown : Shown T) (code : Coding T) (c : ℕ) where
-  -- what a step of a call that stands there writes down is effects of the step's party, and then the call's end
+  -- what a step of a call at its stage writes are effects of the step's party, and then the end of the call
+  -- if it ends
   writes : (t : Trace T) (turn : Turn T) (p : ℕ) → IsParty turn p → (answer : ℕ) (s : ContainerNow T) (start : Start T) (flight : Flight T)
       → (family code c).At s p start flight
       → Writes (outline dying) t turn (answered_from t p t.world.coding answer s.words (registries.Container s.dead s.states) start flight)
-  writes t turn p mine answer s (Container start) (flights.Container flight) at =
+  writes t turn p mine answer s (Container start) (flights.Container flight) stands =
       only_effects (outline dying) t turn _ (all_effects turn p mine t.world.coding (state_of p s.states) flight answer)
-  writes t turn p mine answer s start flight at = absurd at
+  writes t turn p mine answer s start flight stands = absurd stands
 
-  -- a call of the container goes on as its table says
+  -- what becomes of a call by a step is decided by its stage and by what is kept beside the words
   told : (s : ContainerNow T) (p : ℕ) (start : Start T) (flight : Flight T) → (family code c).At s p start flight
       → (z : Coding T) (words : List ℕ) (beside : Option (ℕ × ℕ)) (answer : ℕ)
       → (step_of z words beside p start flight answer (registries.Container s.dead s.states)).after
       ≡ goes_of z p flight answer (registries.Container s.dead s.states)
-  told s p start flight at z words beside answer = grind arith
+  told s p start flight stands z words beside answer = grind arith
 
-  -- a turn that the rows allow tells all that the promise says
+  -- a turn that the rows do not refuse tells all that the promise says
   tells_all : (t : Trace T) (turn : Turn T) → refusal_of t.world turn ≡ None
       → frame.Sound (family code c) t → promise.tells t turn (after_turn t turn)
-  tells_all t turn e sound = here (subst (λ n. frame.Sound (family code n) t) (sym sound.capacity) sound)
+  tells_all t turn unrefused sound = here (subst (λ n. frame.Sound (family code n) t) (sym sound.capacity) sound)
     where
-      -- a turn that the rows allow tells all that the promise says by the machine's own capacity
+      -- the turn tells this by the machine's own capacity
       here : frame.Sound (family code t.world.capacity) t → promise.tells t turn (after_turn t turn)
       here sound =
-          let passed = passes t.world turn e in
+          let passed = passes t.world turn unrefused in
           let new : Trace T = after_turn t turn in
           let tells =
           tells_if shown dying code t sound (may_go_on dying code t.world.capacity t sound passed.turns) turn
@@ -65,7 +67,7 @@ module _ {T : Type 0} (shown : Shown T) (code : Coding T) (c : ℕ) where
             visits = tells.visits;
           }
 
-  -- all that the frame asks of a family is so of the container's
+  -- all that the frame asks of a family holds of the container's
   owed : Owed (outline dying) code c
   owed =
       record {
@@ -79,6 +81,6 @@ module _ {T : Type 0} (shown : Shown T) (code : Coding T) (c : ℕ) where
       }
 
 module _ {T : Type 0} (shown : Shown T) where
-  -- what is proved of every run of the container
+  -- all that is promised of every run of a container holds
   pub keeps : Keeps T kinds.Container
   keeps = laws.keeps (outline dying) (May shown) (all_turns shown) (λ code c coded admitted. owed shown code c)

@@ -1,4 +1,5 @@
--- What a recovery and a look know stays known while others take turns; and so of any call.
+-- What a recovery and a look know at their stages they know still after any turn of another party; and with
+-- `Keeping`, so does any call of a container.
 use Rattle.std.proofs.Common.{arith}
 use Rattle.laws_container.proofs.Names.{◌≡◌, ◌⊎◌, inl, inr, ℕ, ◌+◌, ◌<◌, Some, None, List, ◌++◌, refl}
 use Rattle.laws_container.proofs.Names.{◌∙◌, LookStage, RecoverStage, ReleaseMode, ReleaseState, Event}
@@ -30,7 +31,8 @@ use Rattle.laws_container.proofs.Keeping.{find_knows, found, has_copied, has_lef
 use Rattle.laws_container.proofs.Keeping.{replaces_know, set_knows, worn}
 use Rattle.model.proofs.Locks.{locked_later}
 
--- `c` is the capacity, and `v` what the party sees
+-- `c` is the capacity, `v` what the party sees before the turn of another party, and `later`
+-- what it sees after it
 module _ {T : Type 0} (code : Coding T) (c : ℕ) (v : View T) (turn : OthersTurn code c v) where
   open turn use {
     words_then as words',
@@ -49,6 +51,7 @@ module _ {T : Type 0} (code : Coding T) (c : ℕ) (v : View T) (turn : OthersTur
   abbrev pub later : View T
   later = keeping.later code c v turn
 
+  -- the party that knows
   abbrev q : ℕ
   q = v.party
 
@@ -57,30 +60,34 @@ module _ {T : Type 0} (code : Coding T) (c : ℕ) (v : View T) (turn : OthersTur
 
   -- ---- a recovery
 
-  -- what it was told or shown by now, it was before
+  -- what the recovery was told or shown by the end of the turn, it was told or shown before the turn
   told_before : (i owner : ℕ) → IsOneOf (Yes i owner) (set_acts_of q (events ++ es)) ⊎ WasShown q i (events ++ es)
       → IsOneOf (Yes i owner) (set_acts_of q events) ⊎ WasShown q i events
   told_before = grind (arith, inl, set_acts_same, inr, acts_same)
 
+  -- what the recovery has asked about, or was shown, it has asked about or was shown still
   asked_later : (i owner : ℕ) → IsOneOf (Asks i owner) (set_acts_of q events) ⊎ WasShown q i events
       → IsOneOf (Asks i owner) (set_acts_of q (events ++ es)) ⊎ WasShown q i (events ++ es)
   asked_later = grind (arith, inl, set_acts_same, inr, acts_same)
 
+  -- the recovery has still asked about each index below `k` that it must free, or was shown it
   asked_below : (owner k : ℕ) → AskedBelow code c owner k v → AskedBelow code c owner k later
-  asked_below owner k h i below through =
-      asked_later i owner (h i below (through_less q (StillToFree q owner i) events es spares.none through))
+  asked_below owner k asked_so i below through =
+      asked_later i owner (asked_so i below (through_less q (StillToFree q owner i) events es spares.none through))
 
+  -- in an honest run an owner who is gone fills no index in the turn
   lost : (i owner : ℕ) → IsHonestBy v.terms.by (events ++ es) → IsGone owner v → filled_of i (events ++ es) ≡ Some owner → filled_of i events ≡ Some owner
   lost i owner honest dead filled = stays_lost v.terms.by events es goes.fills i owner honest dead filled
 
+  -- an owner who is gone stays gone
   still_gone : (owner : ℕ) → IsGone owner v → IsGone owner later
   still_gone owner dead = gone_more v.terms.by owner events es dead
 
-  -- nobody who is gone fills an index, so one that he has lost stays lost to him
+  -- nobody who is gone fills an index, so an index that such an owner has lost stays lost to him
   gone_but : (owner : ℕ) (Here : ℕ → Type 0) → IsGone owner v → GoneBut code c owner Here v → GoneBut code c owner Here later
   gone_but = grind (arith, inl, lost, inr, honest_less, told_before)
 
-  -- what a recovery knows it knows after another party's turn, where what it has hidden stays so
+  -- what a recovery knows of the indices below `k` it knows still, if what it has freed is hidden still
   recovers_then : (owner k : ℕ) (Here But But' : ℕ → Type 0)
       → (HasHidden code c q owner But (now v) → HasHidden code c q owner But' (now later))
       → Recovers code c owner k Here But v → Recovers code c owner k Here But' later
@@ -93,16 +100,18 @@ module _ {T : Type 0} (code : Coding T) (c : ℕ) (v : View T) (turn : OthersTur
         hidden = stays recovered_so.hidden;
       }
 
+  -- what a recovery that has hidden all that it freed knows of the indices below `k` it knows still
   recovers_on : (owner k : ℕ) (Here : ℕ → Type 0) → Recovers code c owner k Here no_index v → Recovers code c owner k Here no_index later
   recovers_on owner k Here recovered_so =
       recovers_then owner k Here no_index no_index (λ g. hidden_later code c q owner no_index (now v) words' latest' es spares passes g) recovered_so
 
+  -- where the owner fills the index still, the loaded number covers what stands there still
   covers_on : (owner index count : ℕ) → index < c → IsGone owner v → RecoverCovers code c owner index count (now v)
       → RecoverCovers code c owner index count (now later)
   covers_on owner index count below dead covered =
       recover_covers code c q owner index count (now v) words' latest' es goes spares passes leaves below dead covered
 
-  -- an owner who was recovered before another party's turn is so after it
+  -- what a recovery of an owner must have done by its end is done still
   recovered : (owner : ℕ) → IsGone owner v → HasRecoveredBy v.terms.by q owner events → HasRecoveredBy v.terms.by q owner (events ++ es)
   recovered owner dead had_recovered =
       record {
@@ -112,7 +121,7 @@ module _ {T : Type 0} (code : Coding T) (c : ℕ) (v : View T) (turn : OthersTur
         asked = λ i through. asked_later i owner (had_recovered.asked i (through_less q (StillToFree q owner i) events es spares.none through));
       }
 
-  -- what the state says with which a recovery will end holds after another party's turn
+  -- what the state says with which a recovery will end holds still
   recover_says : (owner : ℕ) (mode : ReleaseMode) (state : ReleaseState) → RecoverSays code c owner mode state v → RecoverSays code c owner mode state later
   recover_says owner mode states.Locked said = locked_later events es said
   recover_says owner mode states.Unlocked said = (
@@ -122,17 +131,20 @@ module _ {T : Type 0} (code : Coding T) (c : ℕ) (v : View T) (turn : OthersTur
     each_later q owner (Worn v) (Worn later) (worn code c v turn) mode events es spares.none (set_acts_same code c v turn) said.3,
   )
 
+  -- what a recovery knows of its locks it knows still, with the same exempt indices
   fills : (owner : ℕ) (mode : ReleaseMode) (But : ℕ → Type 0) → FilledBut (Worn v) mode q owner But events
       → FilledBut (Worn later) mode q owner But (events ++ es)
   fills = grind (arith, filled_then, worn, inl, set_acts_same, locked_later)
 
+  -- what a recovery knows of its locks it knows still
   recover_fills : (owner : ℕ) (mode : ReleaseMode) (stage : RecoverStage) → RecoverFills code c owner mode stage v → RecoverFills code c owner mode stage later
   recover_fills = grind (arith, fills, says_later, set_acts_same)
 
+  -- no index is exempt
   abbrev none : ℕ → Type 0
   none i = ⊥
 
-  -- a recovery at any stage knows after another party's turn what it knew
+  -- a recovery at any stage knows what it knew before
   recover_knows : (owner : ℕ) (mode : ReleaseMode) (room : buffers.Buffer 128) (stage : RecoverStage)
       → RecoverKnows code c owner mode room stage v → RecoverKnows code c owner mode room stage later
   recover_knows owner mode room recovers.LoadsCounter knew = (
@@ -140,6 +152,8 @@ module _ {T : Type 0} (code : Coding T) (c : ℕ) (v : View T) (turn : OthersTur
     still_gone owner knew.1,
     gone_but owner none knew.1 knew.2,
   )
+  -- before the question: the turns back stay paid for, and the words read are still those
+  -- of the loaded number
   recover_knows owner mode room (recovers.LoadsCell index) h = (paid code c v turn h.0, recovers_on owner index none h.1)
   recover_knows owner mode room (recovers.LoadsCount index) h = (
     paid code c v turn h.0,
@@ -160,6 +174,7 @@ module _ {T : Type 0} (code : Coding T) (c : ℕ) (v : View T) (turn : OthersTur
     copying code c v turn index count room.words code.size h.3,
     covers_on owner index count h.3.within h.1.dead h.4,
   )
+  -- at the question, and once the recovery may free the index
   recover_knows owner mode room (recovers.Asks index count) h = (
     paid code c v turn h.0,
     recovers_on owner (index + 1) none h.1,
@@ -175,6 +190,7 @@ module _ {T : Type 0} (code : Coding T) (c : ℕ) (v : View T) (turn : OthersTur
     count_below code c v turn index count h.2 h.3,
     covers_on owner index count h.2 h.1.dead h.4,
   )
+  -- once the index is freed: what stood there stands under the loaded number, or is hidden
   recover_knows owner mode room (recovers.Hides index count) h = (
     paid code c v turn h.0,
     recovers_then owner (index + 1) none (StillStands code c index count (now v))
@@ -192,6 +208,7 @@ module _ {T : Type 0} (code : Coding T) (c : ℕ) (v : View T) (turn : OthersTur
     recovers_on owner (index + 1) none h.1,
     still_scanned v.terms.by v.words words' events es q v.since v.changes changes' v.backs goes spares seen (set.lock_scan c lock) h.2,
   )
+  -- behind the last index
   recover_knows owner mode room recovers.LoadsCounterAgain h = (paid code c v turn h.0, recovers_on owner c none h.1)
   recover_knows owner mode room (recovers.AddsChange state) h = (
     paid code c v turn h.0,
@@ -204,10 +221,11 @@ module _ {T : Type 0} (code : Coding T) (c : ℕ) (v : View T) (turn : OthersTur
   abbrev m' : Now T
   m' = record { terms = v.terms; words = words'; latest = latest'; events = events ++ es }
 
+  -- the turn of another party is no part of the look, so the call goes on and has copied nothing more
   calls_on : CallsOn q None events (events ++ es)
   calls_on = calls_same q events (events ++ es) span
 
-  -- a look has gone over the same indices after another party's turn
+  -- a look has gone over the same indices still
   looks_on : (k x : ℕ) → Looks code c k x v → Looks code c k x later
   looks_on k x looked =
       record {
@@ -216,7 +234,7 @@ module _ {T : Type 0} (code : Coding T) (c : ℕ) (v : View T) (turn : OthersTur
         course = course_later code c (now v) m' es refl passes q looked.state calls_on spares.none leaves.alone k x looked.course;
       }
 
-  -- a look that copies an element copies it still after another party's turn
+  -- the words of a copy in a look are still those that stand under the loaded number
   look_copies : (index count k : ℕ) → LookCopies code c index count k v → LookCopies code c index count k later
   unfolding looks_on
   look_copies index count k h =
@@ -226,17 +244,17 @@ module _ {T : Type 0} (code : Coding T) (c : ℕ) (v : View T) (turn : OthersTur
         copying = copying code c v turn index count h.looks.state.shown.copy k h.copying;
       }
 
-  -- a state that rests does so after another party's turn
+  -- a state at rest is at rest still
   look_rests : LookRests code c v → LookRests code c later
-  look_rests h =
+  look_rests at_rest =
       record {
-        state = h.state;
-        found = same_state ∙ h.found;
-        rests = rests_later code c (now v) m' es refl passes q h.state h.rests;
-        own = own_later q None events (events ++ es) calls_on h.state c h.own;
+        state = at_rest.state;
+        found = same_state ∙ at_rest.found;
+        rests = rests_later code c (now v) m' es refl passes q at_rest.state at_rest.rests;
+        own = own_later q None events (events ++ es) calls_on at_rest.state c at_rest.own;
       }
 
-  -- a look at any stage knows after another party's turn what it knew
+  -- a look at any stage knows what it knew before
   look_knows : (stage : LookStage) → LookKnows code c stage v → LookKnows code c stage later
   look_knows looks.LoadsChange knew = (paid code c v turn knew.0, look_rests knew.1)
   look_knows (looks.LoadsCount index) knew = (paid code c v turn knew.0, looks_on index c knew.1)
@@ -249,7 +267,7 @@ module _ {T : Type 0} (code : Coding T) (c : ℕ) (v : View T) (turn : OthersTur
 
   -- ---- any call
 
-  -- any call knows after another party's turn what it knew
+  -- any call of a container knows at its stage what it knew before
   pub still_knows : (flight : ContainerFlight T) → Knows code c flight v → Knows code c flight later
   still_knows (Add run) knows = add_knows code c v turn run.given.value run.given.owner run.call.stage knows
   still_knows (Remove run) knows = remove_knows code c v turn run.given.index run.given.owner run.given.mode run.call.stage knows

@@ -1,4 +1,5 @@
--- What a get_state shows, it has itself copied: how that is said, and that it stays so while the call goes on.
+-- Each value that the state of a `get_state` shows, that call has itself copied: how this is said
+-- (`ShowsOwn`), and that it holds while the call goes on.
 use Rattle.laws_container.proofs.Names.{◌≡◌, ◌≢◌, ℕ, Option, Some, None, List, [], ◌∷◌, ◌++◌, fold, length}
 use Rattle.laws_container.proofs.Names.{ap, ◌∙◌, append-nil, append_assoc, arith, flat_map-append, slice_get_past}
 use Rattle.laws_container.proofs.Names.{ContainerState, Answer, Event, Copied, Start, Container}
@@ -13,14 +14,16 @@ module _ {T : Type 0} where
   name_of (Open start wrote) = Some start
   name_of (Ended start answer wrote) = Some start
 
+  -- the latest call of the party is a `get_state`
   abbrev pub IsGetting : ℕ → List (Event T) → Type 0
   IsGetting p events = name_of (span_of p events) ≡ Some (Container GetState)
 
-  -- the party's latest call has copied this
+  -- the party's latest call has copied this value from this index
   abbrev pub HasCopied : ℕ → ℕ → T → List (Event T) → Type 0
   HasCopied p i value events = IsOneOf (Copies i value) (acts_of p events)
 
-  -- what a get_state shows, but for the index that it copies
+  -- each value that the state of a `get_state` shows was copied by the call, except at the
+  -- index that it is copying
   abbrev pub ShowsOwn : ℕ → ContainerState T → ℕ → List (Event T) → Type 0
   ShowsOwn p s copying events =
       IsGetting p events → (i : ℕ) (value : T) → i ≢ copying → shows s i ≡ Some value
@@ -31,30 +34,35 @@ module _ {T : Type 0} where
   copies_of p None = []
   copies_of p (Some copy) = Copied p copy.0 copy.1 ∷ []
 
-  -- the party's call has gone on, and has copied this
+  -- the party's call has gone on, and has copied `what`: it is a `get_state` if it was one, and has copied
+  -- what it had
   pub record CallsOn (p : ℕ) (what : Option (ℕ × T)) (events events' : List (Event T)) : Type 0 where
+    -- the call is a `get_state` after these events if and only if it was one before
     pub getting : IsGetting p events' → IsGetting p events
     pub still : IsGetting p events → IsGetting p events'
+    -- what the call had copied it has copied, and it has copied `what`
     pub has : (i : ℕ) (value : T) → HasCopied p i value events → HasCopied p i value events'
     pub now : (i : ℕ) (value : T) → what ≡ Some (i, value) → HasCopied p i value events'
 
+  -- what is said of a `get_state` holds when the call has gone on
   pub own_later : (p : ℕ) (what : Option (ℕ × T)) (events events' : List (Event T)) → CallsOn p what events events'
       → (s : ContainerState T) (copying : ℕ) → ShowsOwn p s copying events → ShowsOwn p s copying events'
-  own_later p what events events' on s copying h getting i value ne e = on.has i value (h (on.getting getting) i value ne e)
+  own_later p what events events' calls_on s copying shows_own getting i value ne e = calls_on.has i value (shows_own (calls_on.getting getting) i value ne e)
 
-  -- nothing is shown past the elements
+  -- a state shows no value past its elements
   not_past : (c : ℕ) (s : ContainerState T) (i : ℕ) (value : T) → length s.shown.elements ≡ c → shows s i ≡ Some value → i ≢ c
   not_past = grind (arith, shows, slice_get_past, some_none)
 
-  -- what a get_state that was under way shows then
+  -- each value that the state shows was copied by the `get_state` that was under way before these events
   abbrev pub ShowsCopied : ℕ → ContainerState T → List (Event T) → List (Event T) → Type 0
   ShowsCopied p s events events' =
       IsGetting p events → (i : ℕ) (value : T) → shows s i ≡ Some value
       → HasCopied p i value events'
 
+  -- a `get_state` that has gone over all indices has copied each value that it shows
   pub own_then : (p c : ℕ) (what : Option (ℕ × T)) (events events' : List (Event T)) → CallsOn p what events events'
       → (s : ContainerState T) → length s.shown.elements ≡ c → ShowsOwn p s c events' → ShowsCopied p s events events'
-  own_then p c what events events' on s wide h getting i value e = h (on.still getting) i value (not_past c s i value wide e) e
+  own_then p c what events events' calls_on s wide shows_own getting i value e = shows_own (calls_on.still getting) i value (not_past c s i value wide e) e
 
   -- where the span is the same the call goes on and copies nothing
   pub calls_same : (p : ℕ) (events events' : List (Event T)) → span_of p events' ≡ span_of p events → CallsOn p None events events'
@@ -67,6 +75,7 @@ module _ {T : Type 0} where
 
   -- the call of party `p` has written `w`
   module _ (p : ℕ) (events : List (Event T)) (start : Start T) (w : List (Event T)) (here : span_of p events ≡ Open start w) where
+    -- the call writes `es`, of which `what` is the copy
     module _ (what : Option (ℕ × T)) (es : List (Event T)) (own : AreOwn p es) (span : Span T)
         (is : fold own_after (Open start w) es ≡ span) (name : name_of span ≡ Some start)
         (wrote : wrote_in span ≡ w ++ copies_of p what) where
@@ -79,9 +88,10 @@ module _ {T : Type 0} where
       acts_now : acts_of p events ≡ acts w
       acts_now = ap (λ a. acts (wrote_in a)) here
 
+      -- the call has gone on, and has copied `what`
       calls : CallsOn p what events (events ++ es)
       calls = grind (arith, has_more, span_then, acts_then, acts_now)
 
-    -- it goes on, or ends
+    -- the call goes on, or ends with its end written, and has copied `what`
     pub calls_on : (what : Option (ℕ × T)) (outcome : Option (Answer T)) → CallsOn p what events (events ++ (copies_of p what ++ ending_of p start outcome))
     calls_on = grind (arith, calls, append-nil)

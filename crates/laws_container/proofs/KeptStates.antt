@@ -1,4 +1,5 @@
--- A turn moves a party's state in a look of its own alone, and an update that answers false has taken one step.
+-- A turn moves a party's state only in a look of that party, and an update that answers false has taken one
+-- step and left its party's state.
 use Rattle.laws_container.proofs.Names.{◌≡◌, ◌≢◌, ◌⊎◌, inr, ℕ, ◌==◌, ◌&&◌, ◌≤◌, if◌then◌else◌, Bool, true}
 use Rattle.laws_container.proofs.Names.{false, Option, Some, None, is_some, List, refl, sym, ap, subst, ◌∙◌, arith}
 use Rattle.laws_container.proofs.Names.{nat_tests, LookStage, ContainerState, Truth, Start, Container, Loan, Flight}
@@ -32,31 +33,35 @@ differ p q none = grind (arith, nat_tests)
 
 -- ---- what a step makes of the states
 
+-- what a step makes of the parties' states
 module _ {T : Type 0} where
-  -- the step is another party's, or none of a look
+  -- the step is one of another party, or of a call that is no look
   abbrev IsApart : ℕ → ℕ → Flight T → Type 0
   IsApart p q flight = (p ≢ q) ⊎ (is_looking (Some flight) ≡ false)
 
+  -- the state that a look writes is that of its own party
   written : (code : Coding T) (q : ℕ) (call : Look T) (old p : ℕ) → p ≢ q
       → (states : List (ℕ × ContainerState T)) (o : Option (ContainerState T))
       → state_of p (writes_state code q call old o states) ≡ state_of p states
   written = grind (arith, written_other)
 
+  -- a step of a call leaves the state of a party, if it is one of another party or of no look
   stays : (code : Coding T) (q : ℕ) (flight : ContainerFlight T) (n : ℕ) (states : List (ℕ × ContainerState T)) (p : ℕ)
       → IsApart p q (flights.Container flight)
       → state_of p (states_after code q flight n states) ≡ state_of p states
   stays = grind (arith, written)
 
+  -- a step that is no step of a look of this party is one of another party, or of no look
   apart_is : (p q : ℕ) (flight : Flight T) → ((q == p) && is_looking (Some flight)) ≡ false → IsApart p q flight
   apart_is p q flight none = grind arith
 
-  -- a look is not decided
+  -- no look waits for a decision
   no_look : (code : Coding T) (flight : Flight T) → is_question (want_of code flight) ≡ true → is_looking (Some flight) ≡ false
   no_look code flight asks = grind arith
 
   -- ---- what a begin and a death make of them
 
-  -- a begin on a container that is none of a look of this party leaves its state
+  -- a begin on a container that is no look of this party leaves its state
   held_stays : (code : Coding T) (capacity p q : ℕ) (start : ContainerStart T) (kept : Registry T) (w : World T)
       → is_look_of w q (Begin p (Container start)) ≡ false
       → state_in (keeps code capacity start p kept) q ≡ state_in kept q
@@ -64,16 +69,18 @@ module _ {T : Type 0} where
       found_put_other q p (fresh code capacity) states (differ p q none)
   held_stays code capacity p q UpdateState (registries.Container dead states) w none = go (is_some (state_of p states))
     where
+      -- the cases are whether the party has a state already
       go : (b : Bool) → state_of q (if b then states else with_state p (fresh code capacity) states) ≡ state_of q states
       go true = refl
       go false = found_put_other q p (fresh code capacity) states (differ p q none)
   held_stays code capacity p q start (registries.Container dead states) w none = refl
   held_stays code capacity p q start kept w none = refl
 
+  -- a begin on a loan channel leaves no party another state
   loan_stays : (q : ℕ) (start : LoanStart) (kept : Registry T) → state_in (loan_keeps start kept) q ≡ state_in kept q
   loan_stays = grind arith
 
-  -- any begin that is none of a look of this party leaves its state
+  -- any begin that is no look of this party leaves its state
   begun_stays : (code : Coding T) (capacity p q : ℕ) (start : Start T) (kept : Registry T) (w : World T)
       → is_look_of w q (Begin p start) ≡ false
       → state_in (kept_after_begin code capacity start p kept) q ≡ state_in kept q
@@ -81,6 +88,7 @@ module _ {T : Type 0} where
   begun_stays code capacity p q (Loan start) kept w none = loan_stays q start kept
   begun_stays code capacity p q start kept w none = refl
 
+  -- an update leaves the state of its party as it begins, if it has one
   update_keeps : (code : Coding T) (capacity p : ℕ) (kept : Registry T) (state : ContainerState T)
       → state_in kept p ≡ Some state
       → state_in (kept_after_begin code capacity (Container UpdateState) p kept) p ≡ Some state
@@ -88,36 +96,39 @@ module _ {T : Type 0} where
 
 -- ---- a step of a party's call
 
--- `c` is the capacity, `t` the run so far, `s` what is sound of it; `x` is the call of party
--- `q`
+-- `c` is the capacity, `t` the run up to this turn, `s` that it is sound; `x` is the call of party `q`
 module _ {T : Type 0} (shown : Shown T) (terms : Terms) (code : Coding T) (c : ℕ) (t : Trace T)
-    (s : frame.Sound (family_by terms code c) t) (q : ℕ) (x : Party T) (since : ℕ)
+    (sound : frame.Sound (family_by terms code c) t) (q : ℕ) (x : Party T) (since : ℕ)
     (found : party_of q t.world.latest ≡ Some x) where
-  abbrev Stays : ℕ → Coding T → Registry T → Start T → Flight T → Type 0
-  Stays n y kept a flight =
+  -- a step of the call leaves the state of each party of which it is no look
+  abbrev LeavesOtherStates : ℕ → Coding T → Registry T → Start T → Flight T → Type 0
+  LeavesOtherStates n y kept a flight =
       (p : ℕ) → IsApart p q flight
       → state_in (step_of y t.world.words (beside_of t.world.words kept t.world.latest q) q a flight n kept).kept p ≡ state_in kept p
 
+  -- a step of a call at its stage leaves the state of each party of which it is no look
   step_stays : (n : ℕ) (a : Start T) (flight : Flight T)
-      → StandsThere (family_by terms code c) t s q x since a flight
-      → Stays n code (kept_now shown terms code c t s) a flight
+      → StandsThere (family_by terms code c) t sound q x since a flight
+      → LeavesOtherStates n code (kept_now shown terms code c t sound) a flight
   step_stays = grind (arith, stays)
 
-  any_stays : (n : ℕ) (flight : Flight T) → x.doing ≡ Going flight since → Stays n t.world.coding t.world.kept x.start flight
+  -- a step of the party's call under way leaves the state of each other party, and its own if it is no look
+  any_stays : (n : ℕ) (flight : Flight T) → x.doing ≡ Going flight since → LeavesOtherStates n t.world.coding t.world.kept x.start flight
   any_stays n flight doing =
-      subst (λ y. Stays n y t.world.kept x.start flight) (sym s.coding)
-      (subst (λ kept. Stays n code kept x.start flight) (sym s.fit.kept)
-      (step_stays n x.start flight (stands_there (family_by terms code c) t s q x since flight found doing)))
+      subst (λ y. LeavesOtherStates n y t.world.kept x.start flight) (sym sound.coding)
+      (subst (λ kept. LeavesOtherStates n code kept x.start flight) (sym sound.fit.kept)
+      (step_stays n x.start flight (stands_there (family_by terms code c) t sound q x since flight found doing)))
 
 -- ---- any turn
 
--- `t` is the run so far, and `s` what is sound of it
-module _ {T : Type 0} (shown : Shown T) (terms : Terms) (code : Coding T) (t : Trace T) (s : frame.Sound (family_by terms code t.world.capacity) t) where
+-- `t` is the run up to this turn, and `s` that it is sound
+module _ {T : Type 0} (shown : Shown T) (terms : Terms) (code : Coding T) (t : Trace T) (sound : frame.Sound (family_by terms code t.world.capacity) t) where
+  -- what a party has under way is the call that the machine finds
   flies : (q : ℕ) (x : Party T) (flight : Flight T) (since : ℕ) → party_of q t.world.latest ≡ Some x
       → x.doing ≡ Going flight since → flight_in t.world q ≡ Some flight
   flies = grind arith
 
-  -- a step leaves a party's state if it is not a step of a look of its own
+  -- a step leaves a party's state if it is no step of a look of that party
   next_moves : (q p : ℕ) → ((q == p) && is_looking (flight_in t.world q)) ≡ false → (o : Option (Party T))
       → party_of q t.world.latest ≡ o → state_in (after_next t.world q o).kept p ≡ state_in t.world.kept p
   next_moves q p none None found = refl
@@ -132,7 +143,7 @@ module _ {T : Type 0} (shown : Shown T) (terms : Terms) (code : Coding T) (t : T
       go (Over others) same_doing = refl
       go (Going flight since) same_doing =
           let here = flies q x flight since found same_doing in
-          any_stays shown terms code t.world.capacity t s q x since found _ flight same_doing p
+          any_stays shown terms code t.world.capacity t sound q x since found _ flight same_doing p
           (apart_is p q flight (subst (λ o. ((q == p) && is_looking o) ≡ false) here none))
 
   -- a decision leaves each party's state
@@ -148,39 +159,44 @@ module _ {T : Type 0} (shown : Shown T) (terms : Terms) (code : Coding T) (t : T
       go (Going flight since) same_doing =
           let here = flies q x flight since found same_doing in
           let asks : is_question (want_of t.world.coding flight) ≡ true = subst (λ o. is_due t.world.coding o ≡ true) here due in
-          any_stays shown terms code t.world.capacity t s q x since found _ flight same_doing p (inr (no_look t.world.coding flight asks))
+          any_stays shown terms code t.world.capacity t sound q x since found _ flight same_doing p (inr (no_look t.world.coding flight asks))
 
+  -- a begin leaves a party's state if it is no look of that party
   begin_moves : (p q : ℕ) (start : Start T) → is_look_of t.world q (Begin p start) ≡ false → (o : Option (Flight T))
       → state_in (after_begin t.world p start o).kept q ≡ state_in t.world.kept q
   begin_moves p q start none None = refl
   begin_moves p q start none (Some flight) = begun_stays t.world.coding t.world.capacity p q start t.world.kept t.world none
 
+  -- an update begins with the state that its party has
   update_begins : (p : ℕ) (state : ContainerState T) → state_in t.world.kept p ≡ Some state
       → (o : Option (Flight T)) → state_in (after_begin t.world p (Container UpdateState) o).kept p ≡ Some state
   update_begins = grind (arith, update_keeps)
 
   module _ (turn : Turn T) (r : IsAllowed t.world turn) where
+    -- a turn that is no step of a look of a party leaves its state
     moves : MovesInLooks t turn (after_turn t turn)
     moves = grind (arith, next_moves, decision_moves, begin_moves)
 
+    -- an update begins with the state that its party has
     begins : BeginsWithState t turn (after_turn t turn)
     begins = grind (arith, state_in, after_turn, update_begins, first_of)
 
 -- ---- an update that answers false
 
 module _ {T : Type 0} where
-  -- it has loaded the number of changes, and nothing else
+  -- a look that answers false to an update has loaded the number of changes in its only step
   first_step : (code : Coding T) (c : ℕ) (which : LookOf) (stage : LookStage) (o : Option (ContainerState T)) (n : ℕ)
       → UpdateState ≡ looks_as {T = T} which
       → answer_in (any_call (goes_after code o (look_at which c stage) n)) ≡ Some (Truth false)
       → stage ≡ stages.LoadsChange
-  first_step code c which stage o n name e = grind arith
+  first_step code c which stage o n name ends_so = grind arith
 
+-- party `p` ends an update with the answer false in this turn
 module _ {T : Type 0} (shown : Shown T) (terms : Terms) (code : Coding T) (t : Trace T) (turn : Turn T)
-    (r : IsAllowed t.world turn) (s : frame.Sound (family_by terms code t.world.capacity) t) (may : MayGoOn terms t)
+    (r : IsAllowed t.world turn) (sound : frame.Sound (family_by terms code t.world.capacity) t) (may : MayGoOn terms t)
     (p : ℕ) (ends : EndsLook p UpdateState (Truth false) t (after_turn t turn)) where
-  abbrev end : LookEnd shown terms code t.world.capacity t s may p UpdateState (Truth false) ends.is_look ends.wrote (after_turn t turn)
-  end = ended shown terms code t turn r s may p UpdateState (Truth false) ends
+  abbrev end : LookEnd shown terms code t.world.capacity t sound may p UpdateState (Truth false) ends.is_look ends.wrote (after_turn t turn)
+  end = ended shown terms code t turn r sound may p UpdateState (Truth false) ends
 
   -- an update that answers false has taken one step
   one_step : steps_of (progress_in (after_turn t turn).world p) ≡ 1
@@ -197,25 +213,29 @@ module _ {T : Type 0} (shown : Shown T) (terms : Terms) (code : Coding T) (t : T
 
   -- an update that answers false leaves its party's state as it was
   state_left : state_in (after_turn t turn).world.kept p ≡ state_in t.world.kept p
-  state_left = by (state_in (after_turn t turn).world.kept p) refl (looks_leave shown terms code t turn r s may p UpdateState (Truth false) ends)
+  state_left = by (state_in (after_turn t turn).world.kept p) refl (looks_leave shown terms code t turn r sound may p UpdateState (Truth false) ends)
     where
+      -- the cases are whether the party has a state after the turn, as the party of an ended look has
       by : (o : Option (ContainerState T)) → state_in (after_turn t turn).world.kept p ≡ o
           → is_some (state_in (after_turn t turn).world.kept p) ≡ true
           → state_in (after_turn t turn).world.kept p ≡ state_in t.world.kept p
-      by None is some = let none : is_some (state_in (after_turn t turn).world.kept p) ≡ false = ap is_some is in both_ways _ none some
-      by (Some state) is some = is ∙ sym (looks_right shown terms code t turn r s may ⊥ (λ never. absurd never) p UpdateState (Truth false) state ends is).0
+      by None state_is some = let none : is_some (state_in (after_turn t turn).world.kept p) ≡ false = ap is_some state_is in both_ways _ none some
+      by (Some state) state_is some =
+          state_is ∙ sym
+          (looks_right shown terms code t turn r sound may ⊥ (λ never. absurd never) p UpdateState (Truth false) state ends state_is).0
 
 -- ---- as the promise says it
 
+-- a turn that is not refused, from a sound machine
 module _ {T : Type 0} (shown : Shown T) (terms : Terms) (code : Coding T) (t : Trace T) (turn : Turn T)
-    (r : IsAllowed t.world turn) (s : frame.Sound (family_by terms code t.world.capacity) t)
+    (r : IsAllowed t.world turn) (sound : frame.Sound (family_by terms code t.world.capacity) t)
     (may : MayGoOn terms t) where
   -- each turn keeps the states of the parties as the promise says
   pub keeps_states : KeepsStates t turn (after_turn t turn)
   keeps_states =
       record {
-        moves = moves shown terms code t s turn r;
-        begins = begins shown terms code t s turn r;
-        at_once = λ p ends. (one_step shown terms code t turn r s may p ends, state_left shown terms code t turn r s may p ends);
-        own = looks_own shown terms code t turn r s may;
+        moves = moves shown terms code t sound turn r;
+        begins = begins shown terms code t sound turn r;
+        at_once = λ p ends. (one_step shown terms code t turn r sound may p ends, state_left shown terms code t turn r sound may p ends);
+        own = looks_own shown terms code t turn r sound may;
       }

@@ -1,5 +1,6 @@
--- What a call of the container knows where it stands: of its set, as the calls of a robust set know it; of the element at its
--- index; of what it has found; and of its party's state.
+-- What a call of the container knows at each of its stages, as a predicate of what its party sees (`View`):
+-- of its set, as the calls of a robust set know it; of the element at its index; of what it has found; and of
+-- its party's state.
 use Rattle.laws_container.proofs.Names.{◌≡◌, ◌≢◌, ◌⊎◌, ℕ, ◌+◌, ◌%◌, ◌<◌, ◌≤◌, false, true, Some, is_some, List, []}
 use Rattle.laws_container.proofs.Names.{◌∷◌, length, get_or, AddStage, FindStage, LookStage, RecoverStage}
 use Rattle.laws_container.proofs.Names.{RemoveStage, ReplaceStage, ContainerState, ReleaseMode, LockIfLastIndex}
@@ -35,26 +36,28 @@ use Rattle.laws_container.proofs.Terms.{Terms, Keeps}
 use Rattle.laws_container.proofs.Turns.{Now, WellFormed, count_in, datum_in}
 use Rattle.laws_container.proofs.Writers.{Adds}
 
--- the room for a copy has its words
+-- the room for a copy has its 128 words
 abbrev pub IsLong : buffers.Buffer 128 → Type 0
 IsLong room = length room.words ≡ 128
 
 -- ---- what they see of the machine
 
--- the machine as a party sees it
+-- what a party sees of the machine while its call is under way
 pub record View (T : Type 0) : Type 0 where
+  -- by what an owner is gone; the words, the parties' states and latest calls, and the events
   pub terms : Terms
   pub words : List ℕ
   pub states : List (ℕ × ContainerState T)
   pub latest : List (ℕ × Party T)
   pub events : List (Event T)
+  -- whose call it is
   pub party : ℕ
   pub since : ℕ  -- how often words had changed when the call began
   pub changes : ℕ  -- how often they have
   pub backs : ℕ  -- so often the call has turned back
 
 module _ {T : Type 0} where
-  -- the same of the set alone
+  -- what the party sees of the set of indices
   abbrev pub of_set : View T → set.View T
   of_set v =
       record {
@@ -67,32 +70,38 @@ module _ {T : Type 0} where
         backs = v.backs;
       }
 
+  -- the machine that the party sees, without what is its own
   abbrev pub now : View T → Now T
   now v = record { terms = v.terms; words = v.words; latest = v.latest; events = v.events }
 
+  -- each turn back of the call is paid for by a change of another party
   abbrev pub IsPaid : View T → Type 0
   IsPaid v = set.IsPaid (of_set v)
 
+  -- the owner is gone
   abbrev pub IsGone : ℕ → View T → Type 0
   IsGone owner v = is_gone v.terms.by owner v.events ≡ true
 
+  -- the owner is not gone
   abbrev pub Lives : ℕ → View T → Type 0
   Lives owner v = is_gone v.terms.by owner v.events ≡ false
 
-  -- the counter is at its end
+  -- the counter of the set is at its end
   abbrev pub Worn : View T → Type 0
   Worn v = IsWorn v.terms.by v.words
 
+  -- the set was not locked at a moment of the call
   abbrev pub WasOpen : View T → Type 0
   WasOpen v = HeldSometime v.party IsUnlocked v.events
 
-  -- the index had this owner at some time since the call began
+  -- the index had this owner at a moment of the call
   abbrev pub WasFilled : ℕ → ℕ → View T → Type 0
   WasFilled owner index v = HeldSometime v.party (IsFilledWith owner index) v.events
 
   -- ---- an add that was granted an index, and a replace that has found its owner
 
-  -- it has the right to the index, and its owner holds it, in a calm run while its owner is not gone
+  -- what an add knows from its grant on: its index is below the capacity, and the index is its own in a calm
+  -- run while its owner is not gone
   pub record AddOwns (c owner index : ℕ) (v : View T) : Type 0 where
     pub paid : IsPaid v
     pub within : index < c
@@ -107,7 +116,8 @@ module _ {T : Type 0} where
     pub span : span_of v.party v.events
         ≡ Open (Container (starts.Replace index value owner)) wrote
 
-  -- it has found its owner in the cell, and its right stands
+  -- what a replace knows once it has found its owner in the cell: the owner was there at a moment of the
+  -- call, and the replace has its right to the index
   pub record ReplaceKnows (c index owner : ℕ) (value : T) (v : View T) : Type 0 where
     pub paid : IsPaid v
     pub within : index < c
@@ -115,33 +125,35 @@ module _ {T : Type 0} where
     pub found : HasFound index owner value v
     pub filled : WasFilled owner index v
 
--- ---- a writer
+-- ---- a call that writes the words of an element, where the values have this coding and the capacity is `c`
 
 module _ {T : Type 0} (code : Coding T) (c : ℕ) where
-  -- the number that it has loaded is there still, or somebody has hidden what stood there
+  -- in a well-formed run, while the owner is not gone, the number at the index is still the one loaded, or
+  -- what stood there is hidden
   abbrev pub Covers : ℕ → ℕ → ℕ → View T → Type 0
   Covers owner index count v =
       WellFormed (now v) → Lives owner v
       → (count_in code c (now v) index ≡ count) ⊎ (count_in code c (now v) index % 2 ≡ 0)
 
-  -- it has stored so many words of the value
+  -- the first `k` words of the value are stored at the index, under an even number
   pub record Writes (owner index : ℕ) (value : T) (k : ℕ) (v : View T) : Type 0 where
     pub few : k ≤ code.size
     pub has : WellFormed (now v) → Lives owner v → Writing code c v.words index value k
 
-  -- it has placed the value
+  -- in a well-formed run the call has placed the value at the index, and has placed no other
   abbrev pub HasPlaced : ℕ → T → View T → Type 0
   HasPlaced index value v =
       WellFormed (now v) → places (acts_of v.party v.events) ≡ (index, value) ∷ []
 
-  -- the value that the call placed stands at its index
+  -- in a well-formed run, while the owner is not gone, a value stands at the index, and was placed there
+  -- since the index was freed last
   abbrev pub Stood : ℕ → ℕ → View T → Type 0
   Stood owner index v =
       WellFormed (now v) → Lives owner v
       → (left_of index v.events ≡ false) × (is_some (contents_of index v.events) ≡ true)
 
-  -- an add knows what the acquire of the set knows, and from its grant on that the index is its
-  -- own, and how far its value is stored
+  -- what an add knows: what the acquire of the set knows, and from its grant on that the index is its own,
+  -- and how far its value is stored
   abbrev pub AddKnows : T → ℕ → AddStage → View T → Type 0
   AddKnows value owner (adds.Acquires stage) v =
       set.Knows c (acquire_at c owner stage) (of_set v)
@@ -155,7 +167,8 @@ module _ {T : Type 0} (code : Coding T) (c : ℕ) where
   AddKnows value owner (adds.AddsChange index) v =
       AddOwns c owner index v × HasPlaced index value v × Stood owner index v
 
-  -- a replace knows that its right stands, and once it has found its owner how far its value is stored
+  -- what a replace knows: that it has its right to the index, and once it has found its owner how far its
+  -- value is stored
   abbrev pub ReplacesKnow : ℕ → T → ℕ → ReplaceStage → View T → Type 0
   ReplacesKnow index value owner replaces.Refuses v = IsPaid v
   ReplacesKnow index value owner replaces.LoadsCell v =
@@ -173,37 +186,41 @@ module _ {T : Type 0} (code : Coding T) (c : ℕ) where
 
   -- ---- a remove
 
-  -- what the state says with which it will end
+  -- what a remove knows of the state that it will answer: the set is locked; or it was not, and in mode
+  -- LockIfLastIndex an index was filled after the one that is freed, or the counter is at its end
   abbrev pub RemoveSays : ℕ → ℕ → ReleaseMode → ReleaseState → View T → Type 0
   RemoveSays index owner mode states.Locked v = is_locked v.events ≡ true
   RemoveSays index owner LockIfLastIndex states.Unlocked v =
       WasOpen v × (Worn v ⊎ FilledSinceFreed v.party owner index v.events)
   RemoveSays index owner Default states.Unlocked v = Unit {0}
 
-  -- the number has come this far
+  -- the number at the index is at least the one loaded, where few turns are taken
   abbrev pub HasCome : ℕ → ℕ → View T → Type 0
   HasCome index count v = Keeps v.terms → count ≤ count_in code c (now v) index
 
-  -- it has freed its index, and under the number that it loaded stands what was left there
+  -- a call has freed the index, and what stands there under the loaded number was left there
   pub record HasLeft (index count : ℕ) (v : View T) : Type 0 where
     pub within : index < c
     pub below : HasCome index count v
     pub left : WellFormed (now v) → count_in code c (now v) index ≡ count → left_of index v.events ≡ true
 
-  -- a remove that has freed
+  -- what a remove knows of its index at a stage of the release: before it frees, how far the number has come;
+  -- after it, what was left
   abbrev pub ReleaseLeft : ℕ → ℕ → ReleaseStage → View T → Type 0
   ReleaseLeft index count releases.EmptiesCell v =
       (index < c) × HasCome index count v
   ReleaseLeft index count stage v = HasLeft index count v
 
-  -- what a release in a remove knows of what stood at its index
+  -- what a remove knows of the element at its index: before it frees, that the loaded number covers it; after
+  -- it, that it stands or is hidden
   abbrev pub ReleaseHides : ℕ → ℕ → ℕ → ReleaseStage → View T → Type 0
   ReleaseHides index owner count releases.EmptiesCell v =
       RemoveCovers code c v.party owner index count (now v)
   ReleaseHides index owner count stage v =
       HasHidden code c v.party owner (StillStands code c index count (now v)) (now v)
 
-  -- a remove knows what the release of the set knows, what it has left at the index, and what its state will say
+  -- what a remove knows: what the release of the set knows, what it has left at the index, and
+  -- what its state will say
   abbrev pub RemoveKnows : ℕ → ℕ → ReleaseMode → RemoveStage → View T → Type 0
   RemoveKnows index owner mode removes.Refuses v = IsPaid v
   RemoveKnows index owner mode removes.LoadsCount v =
@@ -220,7 +237,8 @@ module _ {T : Type 0} (code : Coding T) (c : ℕ) where
 
   -- ---- a copy
 
-  -- while the number is still the one that was loaded, the words read so far are those that stand
+  -- the call copies the element at the index: `k` words are read under the odd number `count`, and are those
+  -- that stand while that number is there
   pub record Copying (index count : ℕ) (copy : List ℕ) (k : ℕ) (v : View T) : Type 0 where
     pub within : index < c
     pub few : k ≤ code.size
@@ -229,7 +247,7 @@ module _ {T : Type 0} (code : Coding T) (c : ℕ) where
     pub below : HasCome index count v
     pub same : WellFormed (now v) → count_in code c (now v) index ≡ count → (j : ℕ) → j < k → get_or copy j 0 ≡ datum_in code c (now v) index j
 
-  -- the copy is made, as the last that it has done to an element
+  -- the latest act of the call is the copy, and it is of what the room holds
   abbrev pub HasCopied : ℕ → buffers.Buffer 128 → View T → Type 0
   HasCopied index room v =
       IsLatest (Copies index (read_in code room)) (acts_of v.party v.events)
@@ -241,23 +259,25 @@ module _ {T : Type 0} (code : Coding T) (c : ℕ) where
 
   -- ---- a find
 
-  -- so many indices below the bound have the owner, and it has copied those below k of them that stood
+  -- the count of the owner's indices below `bound` is `number`, and each counted index below `k` where a
+  -- value stood through the call is copied
   pub record HasFoundBelow (owner bound k number : ℕ) (v : View T) : Type 0 where
     pub count : IsCount v.party (IsFilledWith owner) bound number v.events
     pub copied : (index : ℕ) → index < k → count.chosen index ≡ true → StoodThere v.party index v.events
         → (value : T) × IsOneOf (Copies index value) (acts_of v.party v.events)
 
+  -- what a find knows of the indices that it has passed, with its turns back paid
   abbrev pub Finds : ℕ → ℕ → ℕ → ℕ → View T → Type 0
   Finds owner bound k number v =
       IsPaid v × IsCount v.party (IsFilledWith owner) bound number v.events
       × (WellFormed (now v) → HasFoundBelow owner bound k number v)
 
-  -- the element at the index, while it stands, has this number
+  -- in a well-formed run, where a value stood at the index through the call, its number is the one loaded
   abbrev pub Steady : ℕ → ℕ → View T → Type 0
   Steady index count v =
       WellFormed (now v) → StoodThere v.party index v.events → count_in code c (now v) index ≡ count
 
-  -- a find knows what it has counted and copied, and how far the copy at its index is
+  -- what a find knows: what it has counted and copied, and how far the copy at its index is
   abbrev pub FindKnows : ℕ → buffers.Buffer 128 → FindStage → View T → Type 0
   FindKnows owner room (finds.LoadsCell index found) v =
       Finds owner index index found v
@@ -274,25 +294,27 @@ module _ {T : Type 0} (code : Coding T) (c : ℕ) where
 
   -- ---- a recovery
 
-  -- it has asked about the lower indices that were its owner's throughout, or was shown that nothing stood there
+  -- the recovery has asked about each index below `k` that was its owner's to free throughout, or was shown
+  -- that nothing stood there
   abbrev pub AskedBelow : ℕ → ℕ → View T → Type 0
   AskedBelow owner k v =
       (i : ℕ) → i < k → HeldThroughout v.party (StillToFree v.party owner i) v.events
       → IsOneOf (Asks i owner) (set_acts_of v.party v.events) ⊎ WasShown v.party i v.events
 
-  -- in an honest run no index that it was told to free, or was shown, has its owner, but the one that it frees now
+  -- in an honest run each index that the recovery was told to free, or was shown, is no more the owner's, but
+  -- for those in `Now`
   abbrev pub GoneBut : ℕ → (ℕ → Type 0) → View T → Type 0
   GoneBut owner Now v =
       IsHonestBy v.terms.by v.events
       → (i : ℕ) → IsOneOf (Yes i owner) (set_acts_of v.party v.events) ⊎ WasShown v.party i v.events
       → (filled_of i v.events ≢ Some owner) ⊎ Now i
 
-  -- in an honest run no index that it was told to free, or was shown, has its owner
+  -- in an honest run no index that the recovery was told to free, or was shown, is the owner's any more
   abbrev pub Gone : ℕ → View T → Type 0
   Gone owner v = GoneBut owner (λ i. ⊥) v
 
-  -- it has come to the indices below k; its owner is gone; `Now` is the index that it frees
-  -- now, and `But` those where what it freed is not hidden yet
+  -- what a recovery knows of the indices below `k`. `Now` is the index that it is about to free, and `But`
+  -- are those that it has freed and has not hidden yet.
   pub record Recovers (owner k : ℕ) (Now But : ℕ → Type 0) (v : View T) : Type 0 where
     pub dead : IsGone owner v
     pub was_open : WasOpen v
@@ -300,7 +322,9 @@ module _ {T : Type 0} (code : Coding T) (c : ℕ) where
     pub gone : GoneBut owner Now v
     pub hidden : HasHidden code c v.party owner But (now v)
 
-  -- what the state says with which a recovery will end: that all is locked, or that the owner's indices are recovered
+  -- what a recovery knows of the state that it will answer: the set is locked; or the owner's
+  -- indices are recovered, and in mode LockIfLastIndex since each of them another was filled, or
+  -- the counter is at its end
   abbrev pub RecoverSays : ℕ → ReleaseMode → ReleaseState → View T → Type 0
   RecoverSays owner mode states.Locked v = is_locked v.events ≡ true
   RecoverSays owner mode states.Unlocked v =
@@ -308,7 +332,8 @@ module _ {T : Type 0} (code : Coding T) (c : ℕ) where
       × HasRecoveredBy v.terms.by v.party owner v.events
       × FilledSinceEachBy (Worn v) mode v.party owner v.events
 
-  -- a recovery knows what it has asked about, freed and hidden below its index, and what it knows of the element there
+  -- what a recovery knows: what it has asked about, freed and hidden below its index, and what it knows of
+  -- the element there
   abbrev pub RecoverKnows : ℕ → ReleaseMode → buffers.Buffer 128 → RecoverStage → View T → Type 0
   RecoverKnows owner mode room recovers.LoadsCounter v =
       IsPaid v × IsGone owner v × Gone owner v
@@ -345,7 +370,9 @@ module _ {T : Type 0} (code : Coding T) (c : ℕ) where
   RecoverKnows owner mode room (recovers.AddsChange state) v =
       IsPaid v × RecoverSays owner mode state v × HasHidden code c v.party owner no_index (now v)
 
-  -- and what it knows of its locks, where it is at an index that it has freed from its Hides on
+  -- what a recovery knows of its locks: since each index that it has freed another was filled,
+  -- or the container is locked, or its counter at its end; but not of the index where it is,
+  -- from its stage `Hides` on
   abbrev pub RecoverFills : ℕ → ReleaseMode → RecoverStage → View T → Type 0
   RecoverFills owner mode recovers.LoadsCounter v = Unit {0}
   RecoverFills owner mode (recovers.LoadsCell index) v =
@@ -373,26 +400,28 @@ module _ {T : Type 0} (code : Coding T) (c : ℕ) where
 
   -- ---- a look
 
-  -- the state of the look's party, which the look has gone over below k
+  -- the state of the look's party, of which the look has gone over the indices below `k` and copies the
+  -- element at `copying`
   pub record Looks (k copying : ℕ) (v : View T) : Type 0 where
     pub state : ContainerState T
     pub found : state_of v.party v.states ≡ Some state
     pub course : Course code c (now v) v.party state k copying
 
-  -- it copies the element at the index into the state
+  -- the look copies the element at the index into the state, under the number that the state shows there
   pub record LookCopies (index count k : ℕ) (v : View T) : Type 0 where
     pub looks : Looks index index v
     pub number : number_at looks.state index ≡ count
     pub copying : Copying index count looks.state.shown.copy k v
 
-  -- the state as the party's last look left it
+  -- a look before its first step: the state of its party is at rest, and shows nothing yet that a `get_state`
+  -- has not copied itself
   pub record LookRests (v : View T) : Type 0 where
     pub state : ContainerState T
     pub found : state_of v.party v.states ≡ Some state
     pub rests : Rests code c (now v) v.party state
     pub own : ShowsOwn v.party state c v.events
 
-  -- a look knows its party's state, how far it has gone over it, and how far the copy at its index is
+  -- what a look knows: its party's state, how far it has gone over it, and how far the copy at its index is
   abbrev pub LookKnows : LookStage → View T → Type 0
   LookKnows looks.TheVariants.LoadsChange v = IsPaid v × LookRests v
   LookKnows (looks.TheVariants.LoadsCount index) v = IsPaid v × Looks index c v
@@ -403,7 +432,7 @@ module _ {T : Type 0} (code : Coding T) (c : ℕ) where
 
   -- ---- any call
 
-  -- any call of the container knows what its kind knows at its stage
+  -- what any call of the container knows at its stage
   abbrev pub Knows : ContainerFlight T → View T → Type 0
   Knows (Add run) v = AddKnows run.given.value run.given.owner run.call.stage v
   Knows (Remove run) v = RemoveKnows run.given.index run.given.owner run.given.mode run.call.stage v

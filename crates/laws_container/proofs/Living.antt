@@ -16,56 +16,62 @@ use Rattle.laws_container.proofs.Terms.{Terms}
 use Rattle.laws_container.proofs.Written.{all_effects}
 
 module _ {T : Type 0} (p : ℕ) where
-  -- what a step does to the container is no death
+  -- no effect of a step is a death
   effect_leaves : (e : Event T) → IsEffectOf (Next p) e → Leaves e
   effect_leaves (Died o) its = absurd its
   effect_leaves e its = λ owner dead. refl
 
+  -- effects of a step leave who is dead
   effects_leave : (es : List (Event T)) → AllByRecursion (IsEffectOf (Next p)) es → AllByRecursion Leaves es
-  effects_leave [] h = tt
-  effects_leave (e ∷ es) h = (effect_leaves e h.0, effects_leave es h.1)
+  effects_leave [] all_are = tt
+  effects_leave (e ∷ es) all_are = (effect_leaves e all_are.0, effects_leave es all_are.1)
 
--- `c` is the capacity, `t` the run so far, and `s` what is sound of it
-module _ {T : Type 0} (terms : Terms) (code : Coding T) (c : ℕ) (t : Trace T) (s : frame.Sound (family_by terms code c) t) where
+-- `c` is the capacity, `t` the run up to this turn, and `s` that it is sound
+module _ {T : Type 0} (terms : Terms) (code : Coding T) (c : ℕ) (t : Trace T) (sound : frame.Sound (family_by terms code c) t) where
   -- ---- what a step writes
 
   module _ (p answer : ℕ) where
+    -- what a step of the call writes
     abbrev writes : Registry T → Start T → Flight T → List (Event T)
     writes kept start flight =
         events_of_step p start (step_of t.world.coding t.world.words (beside_of t.world.words kept t.world.latest p) p start flight answer kept)
 
-    -- what a step of a call that stands there writes is no death
-    step_leaves : (start : Start T) (flight : Flight T) → (family_by terms code c).At s.state p start flight
-        → AllByRecursion Leaves (writes (registries.Container s.state.dead s.state.states) start flight)
-    step_leaves (Container start) (flights.Container flight) at =
-        let state = state_of p s.state.states in
+    -- what a step of a call at its stage writes leaves who is dead
+    step_leaves : (start : Start T) (flight : Flight T) → (family_by terms code c).At sound.state p start flight
+        → AllByRecursion Leaves (writes (registries.Container sound.state.dead sound.state.states) start flight)
+    step_leaves (Container start) (flights.Container flight) stands =
+        let state = state_of p sound.state.states in
         let did : List (Event T) = effects t.world.coding p state flight answer ++ questions p flight answer in
         joined Leaves did _ (effects_leave p did (all_effects (Next p) p refl t.world.coding state flight answer))
         (end_leaves p (Container start) (answer_in (any_call (after t.world.coding state flight answer))))
-    step_leaves start flight at = absurd at
+    step_leaves start flight stands = absurd stands
 
+  -- no step of the run makes an owner dead
   pub steps_leave : StepsLeave t
   steps_leave p x since flight answer found doing =
-      let there = stands_there (family_by terms code c) t s p x since flight found doing in
-      subst (λ kept. AllByRecursion Leaves (writes p answer kept x.start flight)) (sym s.fit.kept)
+      let there = stands_there (family_by terms code c) t sound p x since flight found doing in
+      subst (λ kept. AllByRecursion Leaves (writes p answer kept x.start flight)) (sym sound.fit.kept)
       (step_leaves p answer x.start flight there.at)
 
   -- ---- what is not refused
 
   module _ (all : AllLive t.events) where
-    pub has_not_died : (owner : ℕ) → has_died owner s.state.dead ≡ false
-    has_not_died owner = s.holds.good.died owner ∙ all owner
+    -- the machine of an open run keeps no dead owner
+    pub has_not_died : (owner : ℕ) → has_died owner sound.state.dead ≡ false
+    has_not_died owner = sound.holds.good.died owner ∙ all owner
 
+    -- a step of any call is refused for no dead owner
     pub step_is_free : (flight : ContainerFlight T)
         → first_row (going_rows t.world.coding t.world.kept (Some (flights.Container flight)) None) ≡ None
     step_is_free flight = grind arith
 
-    -- a step of a call that waits for no answer
+    -- a step of a call that waits for no decision is not refused
     pub next_is_free : (p : ℕ) (flight : ContainerFlight T) → flight_in t.world p ≡ Some (flights.Container flight)
         → is_due t.world.coding (Some (flights.Container flight)) ≡ false → open_refusal t.world (Next p) ≡ None
     next_is_free p flight here due = grind arith
 
-    -- a call of the container, for an owner that is none of an empty cell
+    -- the begin of a call of the container is not refused, if the party has none under way and the owner is a
+    -- number that a cell can hold
     pub begin_is_free : (p : ℕ) (start : ContainerStart T) → flight_in t.world p ≡ None → names_owner start ≡ true
         → open_refusal t.world (Begin p (Container start)) ≡ None
     begin_is_free p start free named = grind arith

@@ -1,5 +1,6 @@
--- How a look goes over the indices, one step after another: what it makes of its party's state, and what is so then. What each
--- step leads to is what the caller makes of it.
+-- How a look goes over the indices, one step after another: how each step changes the state of its party, and
+-- what holds of that state then. The caller of these lemmas (`get_state` or `update_state`) says what each
+-- step leads to, in a record `Walker`.
 use Rattle.laws_container.proofs.Names.{◌≡◌, ◌≢◌, ⊎_elim, inl, inr, ℕ, ◌+◌, ◌*◌, ◌%◌, ◌<◌, ◌≤◌, ◌==◌, if◌then◌else◌}
 use Rattle.laws_container.proofs.Names.{nat_lt, Bool, true, false, not, Option, Some, None, List, [], ◌∷◌, ◌++◌}
 use Rattle.laws_container.proofs.Names.{length, set, slice_index_or, refl, sym, ap, subst, ◌∙◌, append-nil, arith}
@@ -14,7 +15,7 @@ use Rattle.steps.specs.declared.ask.After.TheVariants.{Done}
 use Rattle.steps.specs.declared.container.look.Look.{Look}
 use Rattle.steps.specs.declared.container.look.LookStage.TheVariants as stages
 use Rattle.steps.specs.Picks.{by_test, by_eq}
-use Rattle.laws_container.proofs.Contents.{Stands}
+use Rattle.laws_container.proofs.Contents.{WordsShow}
 use Rattle.laws_container.proofs.Copies.{copying_first, copying_more, copied_value}
 use Rattle.laws_container.proofs.Core.{count_at, change_at}
 use Rattle.laws_container.proofs.LookSteps.{counting, count_put, counted_number, counted_none, counted_same, showing}
@@ -32,6 +33,7 @@ use Rattle.laws_robust.proofs.Cases.{on_bool}
 
 -- ---- the indices that it has come to
 
+-- indices below a bound are below a larger one
 below_more : (b d : ℕ) → b ≤ d → (xs : List ℕ) → AreBelow b xs → AreBelow d xs
 below_more b d more [] are_below = tt
 below_more b d more (x ∷ xs) are_below = (let first = are_below.0 in omega arith, below_more b d more xs are_below.1)
@@ -44,10 +46,13 @@ pub not_even : (n : ℕ) → n % 2 ≡ 1 → is_even n ≡ false
 not_even n odd = ne_eqb (n % 2) 0 (λ e. absurd (omega arith))
 
 module _ {T : Type 0} where
+  -- a look whose seen indices lie below `index`, and which copies at `index`, has seen
+  -- indices below `index + 1`
   pub seen_copied : (index : ℕ) (value : T) (did : List (Act T)) → AreBelow index (seen_in did)
       → AreBelow (index + 1) (seen_in (did ++ Copies index value ∷ []))
   seen_copied = grind (arith, flat_map-append, below_both, below_more)
 
+  -- a look whose seen indices lie below `index`, and which passes `index`, has seen indices below `index + 1`
   pub seen_passed : (index : ℕ) (did : List (Act T)) → AreBelow index (seen_in did) → AreBelow (index + 1) (seen_in (did ++ []))
   seen_passed = grind (arith, append-nil, below_more)
 
@@ -55,9 +60,11 @@ module _ {T : Type 0} where
   seen_still index did are_below = subst (λ a. AreBelow index (seen_in a)) (sym (append-nil did)) are_below
 
   -- under an even number nothing stands
-  pub nothing_stands : (code : Coding T) (c : ℕ) (words : List ℕ) (i : ℕ) (o : Option T) → Stands code c words i o → count_at c words i % 2 ≡ 0 → o ≡ None
+  pub nothing_stands : (code : Coding T) (c : ℕ) (words : List ℕ) (i : ℕ) (o : Option T) → WordsShow code c words i o → count_at c words i % 2 ≡ 0 → o ≡ None
   nothing_stands = grind arith
 
+-- `scene` is a turn of party `p` with the machine before it, and `inv` what holds there; the
+-- party's call is a look
 module _ {T : Type 0} (scene : Scene T) (inv : Inv scene) where
   open scene use {coding as code, capacity as c, party as p, steps as steps, backs as backs, latest as latest, events as events}
 
@@ -67,63 +74,72 @@ module _ {T : Type 0} (scene : Scene T) (inv : Inv scene) where
   abbrev m : Now T
   m = before scene
 
-  -- the machine after a step of the look that writes this
-  pub record Comes (m' : Now T) (what : Option (ℕ × T)) : Type 0 where
+  -- the machine after a step of the look that writes a copy, or nothing: what it leaves as it was, and what
+  -- its party knows still
+  pub record IsAfterLookStep (m' : Now T) (what : Option (ℕ × T)) : Type 0 where
+    -- the step leaves the words and what stands, and the run was well-formed before it
     pub well_formed : WellFormed m' → WellFormed m
     pub words : m'.words ≡ ws
     pub contents : (i : ℕ) → contents_of i m'.events ≡ contents_of i events
+    -- what holds of a state that a look goes over, or that is at rest, holds of it after the step
     pub later : (s : ContainerState T) (k x : ℕ) → Course code c m p s k x → Course code c m' p s k x
     pub rests : (s : ContainerState T) → Rests code c m p s → Rests code c m' p s
+    -- the party has copied `what`, and its call has gone on
     pub copied : (i : ℕ) (value : T) → what ≡ Some (i, value) → WasCopied p i value m'.events
     pub on : CallsOn p what events m'.events
 
-  -- what it writes is right
+  -- a copy that a look writes is of an index past those that it has seen, and in a well-formed run of the
+  -- value that stands there
   abbrev pub IsRight : Option (ℕ × T) → Type 0
   IsRight None = Unit {0}
   IsRight (Some copy) =
       AreBelow copy.0 (seen_in (done scene)) × (WellFormed m → contents_of copy.0 events ≡ Some copy.1)
 
-  -- a look at a stage
+  -- the look of this container at a stage
   abbrev pub call_at : LookStage → Look T
   call_at stage = record { capacity = c; stage = stage; of = record {} }
 
   -- ---- what the caller shows
 
-  -- what each way on of a look leads to: to another stage, to its end behind the last index, or
-  -- to its end where nothing has changed
+  -- what the caller shows: where a look leads that goes on to a stage, that ends behind the last index, or
+  -- that ends since nothing has changed
   pub record Walker (s : ContainerState T) (ask : Option Ask) (Lead : Bool → List (Event T) → ContainerState T → After (Look T) Bool → Type 0) : Type 0 where
     pub goes : (next : LookStage) (back : Bool) (what : Option (ℕ × T)) (s' : ContainerState T) → IsRight what → words_after ws ask ≡ ws
         → LookAt c code.size (all scene ++ set_acts (copies_of p what)) (done scene ++ acts (copies_of p what)) next
         → steps + step_count ask ≤ look_number code.size next (backs_then scene back)
         → ((words' : List ℕ) (states' : List (ℕ × ContainerState T)) (latest' : List (ℕ × Party T)) (es' : List (Event T))
-        → Comes (record { terms = scene.terms; words = words'; latest = latest'; events = es' }) what
+        → IsAfterLookStep (record { terms = scene.terms; words = words'; latest = latest'; events = es' }) what
         → state_of p states' ≡ Some s'
         → LookKnows code c next (view scene.terms words' states' latest' es' p (since_then scene ask) (changes_then scene ask) (backs_then scene back)))
         → Lead back (copies_of p what) s' (GoOn (call_at next))
-    -- it has gone over all of them
+    -- the look has gone over all indices, and answers true
     pub ends : (back : Bool) (what : Option (ℕ × T)) (s' : ContainerState T) → IsRight what → words_after ws ask ≡ ws → all scene ≡ []
         → steps + step_count ask ≤ 1 + c * (code.size + 2) + backs_then scene back * (code.size + 1)
         → backs_then scene back + since_then scene ask ≤ changes_then scene ask
-        → ((m' : Now T) → Comes m' what → Course code c m' p s' c c)
+        → ((m' : Now T) → IsAfterLookStep m' what → Course code c m' p s' c c)
         → Lead back (copies_of p what) s' (Done true)
-    -- nothing has changed
+    -- the number of changes is the one that the state has seen, and the look answers false
     pub stays : words_after ws ask ≡ ws → all scene ≡ [] → steps + step_count ask ≤ 1
         → backs_then scene false + since_then scene ask ≤ changes_then scene ask → Rests code c m p s
         → ShowsOwn p s c events → s.shown.change ≡ change_in code c m → Lead false [] s (Done false)
 
+  -- `s` is the state of the party; `Lead` says what a step leads to, by whether it goes back, what it writes,
+  -- the state that it leaves, and how the look goes on
   module _ (s : ContainerState T) (Lead : Bool → List (Event T) → ContainerState T → After (Look T) Bool → Type 0) where
-    -- the step of a look that stands there
+    -- what the step of a look at this stage leads to, when it is handed `old`
     abbrev pub WalkOf : LookStage → Option Ask → ℕ → Type 0
     WalkOf stage ask old =
         Lead (look_goes_back stage old) (look_effects p (copy_in code s) stage old)
         (look_shows code (call_at stage) s old) (look_after code.size (call_at stage) s.seen old)
 
+    -- what the step of a look at this stage leads to, when it is handed the word that it asks for
     abbrev pub WalkAt : LookStage → Type 0
     WalkAt stage = WalkOf stage (ask_of (look_asks code.size c stage)) (old_of ws (ask_of (look_asks code.size c stage)))
 
     module _ (none : all scene ≡ []) where
       -- ---- an index is done with
 
+      -- the look has the step `ask`, which leaves the words, and has done with `index`
       module _ (stage : LookStage) (ask : Option Ask) (walker : Walker s ask Lead) (back : Bool)
           (same : words_after ws ask ≡ ws)
           (paid : backs_then scene back + since_then scene ask ≤ changes_then scene ask)
@@ -131,11 +147,12 @@ module _ {T : Type 0} (scene : Scene T) (inv : Inv scene) where
         none_more : (what : Option (ℕ × T)) → all scene ++ set_acts (copies_of p what) ≡ []
         none_more = grind arith
 
-        -- a look that is done with an index comes to the next one, or ends behind the last
+        -- a look that has done with an index comes to the next one, or ends behind the last
         comes_to : (what : Option (ℕ × T)) (s' : ContainerState T) → IsRight what
             → AreBelow (index + 1) (seen_in (done scene ++ acts (copies_of p what)))
             → steps + step_count ask ≤ 1 + (index + 1) * (code.size + 2) + backs_then scene back * (code.size + 1)
-            → ((m' : Now T) → Comes m' what → Course code c m' p s' (index + 1) c) → Lead back (copies_of p what) s' (look_comes_to (call_at stage) (index + 1))
+            → ((m' : Now T) → IsAfterLookStep m' what → Course code c m' p s' (index + 1) c)
+            → Lead back (copies_of p what) s' (look_comes_to (call_at stage) (index + 1))
         comes_to what s' right seen few course =
             by_test (Lead back (copies_of p what) s') (nat_lt (index + 1) c) (GoOn (call_at (stages.LoadsCount (index + 1)))) (Done true)
             (λ t.
@@ -156,7 +173,7 @@ module _ {T : Type 0} (scene : Scene T) (inv : Inv scene) where
 
         -- ---- a number is found that is not the one seen
 
-        -- `x` is the index that the look was copying, if any
+        -- the number at `index` is loaded; `x` is the index that the look was copying before, if any
         module _ (x : ℕ) (apart : (i : ℕ) → i ≢ index → i ≢ c → i ≢ x) (course : Course code c m p s index x)
             (seen : AreBelow index (seen_in (done scene)))
             (few : steps + step_count ask ≤ 2 + index * (code.size + 2) + backs_then scene back * (code.size + 1)) where
@@ -169,14 +186,15 @@ module _ {T : Type 0} (scene : Scene T) (inv : Inv scene) where
           abbrev s' : ContainerState T
           s' = counting s index low n
 
-          count_same : (m' : Now T) (what : Option (ℕ × T)) → Comes m' what → count_in code c m' index ≡ n
+          -- after the step the number at the index is the one that was loaded
+          count_same : (m' : Now T) (what : Option (ℕ × T)) → IsAfterLookStep m' what → count_in code c m' index ≡ n
           count_same m' what comes = ap (λ w. count_at c w index) comes.words
 
-          number_is : (m' : Now T) (what : Option (ℕ × T)) → Comes m' what → number_at s' index ≡ count_in code c m' index
+          number_is : (m' : Now T) (what : Option (ℕ × T)) → IsAfterLookStep m' what → number_at s' index ≡ count_in code c m' index
           number_is m' what comes = counted_number s index low n ∙ sym (count_same m' what comes)
 
-          -- under an even number the look is past the index, and the state shows nothing there
-          passed_even : is_even n ≡ true → (m' : Now T) → Comes m' None → Course code c m' p s' (index + 1) c
+          -- where the number is even the look has passed the index, and the state shows nothing there
+          passed_even : is_even n ≡ true → (m' : Now T) → IsAfterLookStep m' None → Course code c m' p s' (index + 1) c
           passed_even even m' comes =
               course_passed code c m' p s s' index x below (comes.later s index x course) (count_put s index low n) (number_is m' None comes) apart
               (λ value is. some_none (shows s' index) value (counted_none s index low n even) is)
@@ -186,7 +204,8 @@ module _ {T : Type 0} (scene : Scene T) (inv : Inv scene) where
               (inv.elements.whole (comes.well_formed well_formed) index below) (even_is n even)))
               (λ getting value is. some_none (shows s' index) value (counted_none s index low n even) is)
 
-          -- a look that finds at an index a number that it has not seen goes on to copy the element, or comes past it
+          -- a look that finds at an index a number that the state has not seen copies the element if the
+          -- number is odd, and passes it if it is even
           finds : Lead back [] s' (look_finds (call_at stage) index n)
           finds =
               on_bool (λ b. Lead back [] s' (if b then look_comes_to (call_at stage) (index + 1) else GoOn (call_at (stages.LoadsWord index n 0)))) (is_even n)
@@ -220,11 +239,11 @@ module _ {T : Type 0} (scene : Scene T) (inv : Inv scene) where
                 },
               )))
 
-          -- the number that was seen: the index is as it was
+          -- the number is the one that the state has seen, so the state shows what stands at the index
           module _ (was : n ≡ number_at s index) (other : index ≢ x) where
-            -- where the number is the one that was seen, the look is past the index, and the
-            -- state shows there what it did
-            passed_same : (m' : Now T) → Comes m' None → Course code c m' p s' (index + 1) c
+            -- where the number is the one that the state has seen, the look has passed the index, and the
+            -- state shows there what it showed
+            passed_same : (m' : Now T) → IsAfterLookStep m' None → Course code c m' p s' (index + 1) c
             passed_same m' comes =
                 let h = comes.later s index x course in
                 course_passed code c m' p s s' index x below h (count_put s index low n) (number_is m' None comes) apart
@@ -237,8 +256,8 @@ module _ {T : Type 0} (scene : Scene T) (inv : Inv scene) where
 
       -- ---- the number of changes is loaded
 
-      -- the step in which a look loads the number of changes: it ends if that is the one seen,
-      -- and else it goes to the first index
+      -- the step in which a look loads the number of changes: it ends if the state has seen that number, and
+      -- else goes to the first index
       pub walks_change : Walker s (Some (loads (change_word c))) Lead → steps ≤ 0 → IsPaid (sees_now scene)
           → done scene ≡ [] → Rests code c m p s → ShowsOwn p s c events → WalkAt stages.LoadsChange
       walks_change walker few paid nothing rests own =
@@ -274,8 +293,8 @@ module _ {T : Type 0} (scene : Scene T) (inv : Inv scene) where
 
       -- ---- the number of an element is loaded
 
-      -- the step in which a look loads the number of an element: it passes the index, or goes
-      -- on to copy what stands there
+      -- the step in which a look loads the number of an element: it passes the index, or goes on to
+      -- copy what stands there
       pub walks_count : (index : ℕ) → index < c → Walker s (Some (loads (count_word c index))) Lead
           → steps ≤ 1 + index * (code.size + 2) + backs * (code.size + 1) → IsPaid (sees_now scene)
           → AreBelow index (seen_in (done scene)) → Course code c m p s index c
@@ -294,6 +313,7 @@ module _ {T : Type 0} (scene : Scene T) (inv : Inv scene) where
 
       -- ---- a word of the element is loaded
 
+      -- the look copies the element at `index`, of which `at` words are read under the odd number `count`
       module _ (index count at : ℕ) (below : index < c) (ats : at < code.size) (odd : count % 2 ≡ 1)
           (few : steps ≤ 2 + at + index * (code.size + 2) + backs * (code.size + 1))
           (paid : CheckPaid code c index count (sees_now scene)) (seen : AreBelow index (seen_in (done scene)))
@@ -308,20 +328,21 @@ module _ {T : Type 0} (scene : Scene T) (inv : Inv scene) where
         abbrev with_it : ContainerState T
         with_it = record s { shown = with_word s.shown at (datum_in code c m index at) }
 
-        -- after a load of a word the check that is to come is paid for as before
+        -- after the load of a word, a failed check is still paid for by another party's change
         paid_then : (words' : List ℕ) (states' : List (ℕ × ContainerState T)) (latest' : List (ℕ × Party T)) (es' : List (Event T))
-            → Comes (record { terms = scene.terms; words = words'; latest = latest'; events = es' }) None
+            → IsAfterLookStep (record { terms = scene.terms; words = words'; latest = latest'; events = es' }) None
             → CheckPaid code c index count
             (view scene.terms words' states' latest' es' p (since_then scene word_ask) (changes_then scene word_ask)
             (backs_then scene false))
         paid_then = grind (arith, inl, count_at, inr)
 
-        -- the step in which a look loads a word: it goes to the next word, or to the check
+        -- the step in which a look loads a word: it goes on to the next word, or to the check of the number
         pub walks_word : Walker s (Some (loads (element_word c code.size index at))) Lead → WalkAt (stages.LoadsWord index count at)
         walks_word walker =
             by_test (Lead false [] with_it) (nat_lt (at + 1) code.size)
             (GoOn (call_at (stages.LoadsWord index count (at + 1))))
             (GoOn (call_at (stages.ChecksCount index count)))
+            -- a further word follows: the look goes on to it, with one word more in its copy
             (λ t.
             let more : at + 1 < code.size = grind (arith, nat_tests) in
             walker.goes (stages.LoadsWord index count (at + 1)) false None with_it tt same_words
@@ -346,6 +367,7 @@ module _ {T : Type 0} (scene : Scene T) (inv : Inv scene) where
                     copying;
               },
             )))
+            -- that was the last word: the look goes on to the check, with a whole copy
             (λ t.
             let last : code.size ≤ at + 1 = grind (arith, nat_tests) in
             let is_last : at + 1 ≡ code.size = omega arith in
@@ -378,6 +400,8 @@ module _ {T : Type 0} (scene : Scene T) (inv : Inv scene) where
 
       -- ---- the number is exchanged for itself
 
+      -- all words of the element at `index` are read under the odd number `count`, and the look checks that
+      -- number by an exchange for itself
       module _ (index count : ℕ) (below : index < c) (odd : count % 2 ≡ 1)
           (few : steps ≤ 2 + code.size + index * (code.size + 2) + backs * (code.size + 1))
           (paid : CheckPaid code c index count (sees_now scene)) (seen : AreBelow index (seen_in (done scene)))
@@ -394,20 +418,24 @@ module _ {T : Type 0} (scene : Scene T) (inv : Inv scene) where
         abbrev shown_now : ContainerState T
         shown_now = showing s index within code.value_of code.size count
 
-        module _ (is : count_in code c m index ≡ count) where
+        -- the number is still the one under which the words were read
+        module _ (same_number : count_in code c m index ≡ count) where
+          -- the copy is the value that stands at the index
           stands_now : WellFormed m → contents_of index events ≡ Some value
-          stands_now well_formed = copied_value code c (sees_now scene) index count s.shown.copy inv.elements.coded inv.elements.whole copying is well_formed
+          stands_now well_formed =
+              copied_value code c (sees_now scene) index count s.shown.copy inv.elements.coded inv.elements.whole
+              copying same_number well_formed
 
           same_count : words_after ws check_ask ≡ ws
           same_count = grind (arith, exchange_sets, set, set-get_or)
 
-          -- where the number is the one under which it was copied, the look is past the index,
-          -- and the state shows the copy
-          passed_copied : (m' : Now T) → Comes m' (Some (index, value)) → Course code c m' p shown_now (index + 1) c
+          -- where the number is the one under which it was copied, the look has passed the index, and the
+          -- state shows the copy
+          passed_copied : (m' : Now T) → IsAfterLookStep m' (Some (index, value)) → Course code c m' p shown_now (index + 1) c
           passed_copied m' comes =
               course_passed code c m' p s shown_now index index below (comes.later s index index course)
               (value_put s index within code.value_of code.size count)
-              (value_number s index within code.value_of code.size count ∙ sym (ap (λ w. count_at c w index) comes.words ∙ is)) (λ i ne other. ne)
+              (value_number s index within code.value_of code.size count ∙ sym (ap (λ w. count_at c w index) comes.words ∙ same_number)) (λ i ne other. ne)
               (λ shown e. let same : Some value ≡ Some shown =
               sym (value_here s index within code.value_of code.size count (not_even count odd)) ∙ e in
               let eq : value ≡ shown = cc in
@@ -419,8 +447,8 @@ module _ {T : Type 0} (scene : Scene T) (inv : Inv scene) where
               let eq : value ≡ shown = cc in
               subst (λ v. HasCopied p index v m'.events) eq (comes.on.now index value refl))
 
-        -- the step in which a look exchanges the number for itself: it shows the copy if the
-        -- number is that one, and else it looks there again
+        -- the step in which a look exchanges the number for itself: the state shows the copy if that number
+        -- is there, and else the look loads it again
         pub walks_check : Walker s (Some (exchanges (count_word c index) count count)) Lead → WalkAt (stages.ChecksCount index count)
         walks_check walker =
             on_bool (λ b. Lead (not b) (if b then Copied p index (copy_in code s) ∷ [] else []) (record s {

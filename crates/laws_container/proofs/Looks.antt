@@ -1,4 +1,6 @@
--- The steps of the calls that bring a party's state up to date.
+-- The steps of the calls that bring a party's state up to date (`get_state` and `update_state`), as
+-- turns of the machine: `LookWalk` says what each step makes of the state, and here each is shown
+-- to keep the invariant.
 use Rattle.laws_container.proofs.Names.{◌≡◌, ◌≢◌, ⊎_elim, ℕ, ◌+◌, ◌*◌, ◌≤◌, cond, Bool, true, false, Option, Some}
 use Rattle.laws_container.proofs.Names.{None, List, [], ◌∷◌, ◌++◌, refl, sym, ap, subst, ◌∙◌, arith, AllByRecursion}
 use Rattle.laws_container.proofs.Names.{cases_eq, flat_map-append, fold-append, Ask, After, GoOn, LookStage}
@@ -22,13 +24,13 @@ use Rattle.laws_container.proofs.Core.{count_at}
 use Rattle.laws_container.proofs.Effects.{OwesStill}
 use Rattle.laws_container.proofs.LookSteps.{rests_settled}
 use Rattle.laws_container.proofs.HiddenKnows.{EndsRight}
-use Rattle.laws_container.proofs.Invariant.{Scene, Inv, AreAllRight, Does, before, after, wrote_of, view}
+use Rattle.laws_container.proofs.Invariant.{Scene, Inv, AreAllRight, KeepsInvariant, before, after, wrote_of, view}
 use Rattle.laws_container.proofs.KeptCopies.{ShowsOwn, copies_of, CallsOn, calls_on}
 use Rattle.laws_container.proofs.Knows.{LookKnows, Knows}
-use Rattle.laws_container.proofs.LookWalk.{Comes, IsRight, call_at, Walker, WalkAt, walks_change, walks_count, walks_word, walks_check}
+use Rattle.laws_container.proofs.LookWalk.{IsAfterLookStep, IsRight, call_at, Walker, WalkAt, walks_change, walks_count, walks_word, walks_check}
 use Rattle.laws_container.proofs.StateInvariant.{Rests, Course, rests_later, course_later}
 use Rattle.laws_container.proofs.Silent.{Silent, EndsSilently, silent_set, silent_changes}
-use Rattle.laws_container.proofs.Stages.{NoReplace, IsHere, none_lengthens, all, done, sees_now, StepOf, Leads}
+use Rattle.laws_container.proofs.Stages.{NoReplace, IsUnderWay, none_lengthens, all, done, sees_now, StepOf, Leads}
 use Rattle.laws_container.proofs.Stages.{party_then, backs_then, since_then, changes_then, goes_on, ends, owes_none}
 use Rattle.laws_container.proofs.Stages.{was_well_formed}
 use Rattle.laws_container.proofs.CallProgress.{look_at, look_number, LookAt, At, AreBelow}
@@ -40,29 +42,33 @@ module _ {X : Type 0} where
   abbrev found_at : ℕ → List (ℕ × X) → Option X
   found_at p es = lookup (is_at (nat_cmp p)) es
 
+  -- the value of a party that is written in a list is found there
   same_by : (p : ℕ) (x y : X) (e : ℕ × X) (es : List (ℕ × X)) (b : Bool) → is_eq (nat_cmp p e.0) ≡ b
       → found_at p (e ∷ es) ≡ Some y
       → (found_at p es ≡ Some y → found_at p (set_value (is_at (nat_cmp p)) es x) ≡ Some x)
       → found_at p (set_value (is_at (nat_cmp p)) (e ∷ es) x) ≡ Some x
   same_by = grind arith
 
+  -- a party's state is found after it is written
   pub written_same : (p : ℕ) (x y : X) (es : List (ℕ × X)) → found_at p es ≡ Some y → found_at p (set_value (is_at (nat_cmp p)) es x) ≡ Some x
   written_same p x y [] found = absurd (cc)
   written_same p x y (e ∷ es) found = same_by p x y e es (is_eq (nat_cmp p e.0)) refl found (written_same p x y es)
 
-  -- a party's state is found as before after another's is written
+  -- a party's state is found as it was after another party's state is written
   pub written_other : (q p : ℕ) (x : X) (es : List (ℕ × X)) → q ≢ p → found_at q (set_value (is_at (nat_cmp p)) es x) ≡ found_at q es
   written_other q p x [] ne = refl
   written_other q p x (e ∷ es) ne =
       let behind : found_at q (set_value (is_at (nat_cmp p)) es x) ≡ found_at q es = written_other q p x es ne in
       ⊎_elim here (there behind) (cases_eq p e.0)
     where
+      -- the first entry is that of party `p`, which is not the one that is looked for
       here : p ≡ e.0 → found_at q (set_value (is_at (nat_cmp p)) (e ∷ es) x) ≡ found_at q (e ∷ es)
       here same =
           let is_same : is_eq (nat_cmp p e.0) ≡ true = subst (λ n. is_eq (nat_cmp p n) ≡ true) same (itself p) in
           let is_other : is_eq (nat_cmp q e.0) ≡ false = apart q e.0 (λ h. ne (h ∙ sym same)) in
           rw (is_same, is_other) refl
 
+      -- the first entry is not that of party `p`, so the rest of the list is searched
       there : found_at q (set_value (is_at (nat_cmp p)) es x) ≡ found_at q es → p ≢ e.0
           → found_at q (set_value (is_at (nat_cmp p)) (e ∷ es) x) ≡ found_at q (e ∷ es)
       there behind other =
@@ -76,40 +82,49 @@ looks_as kinds.GetState = starts.GetState
 looks_as kinds.UpdateState = starts.UpdateState
 
 module _ (T : Type 0) where
+  -- a look is no replace
   pub no_replace : (which : LookOf) → NoReplace (looks_as {T = T} which)
   no_replace = grind arith
 
+  -- the end of a look changes nothing of the set or of what stands
   pub silent_end : (which : LookOf) → EndsSilently (looks_as {T = T} which)
   silent_end = grind arith
 
+  -- a look that stands at its stage stands there as a call of the container
   at_look : (which : LookOf) (c z : ℕ) (made : List SetAct) (did : List (Act T)) (stage : LookStage)
       → LookAt c z made did stage → At c z made did (looks_as which) (look_at which c stage)
   at_look = grind arith
 
+  -- the steps of a look are at most those that the promise allows
   few_look : (which : LookOf) (c z n backs : ℕ) → n ≤ 1 + c * (z + 2) + backs * (z + 1) → n ≤ most_steps c z (looks_as {T = T} which) backs
   few_look = grind arith
 
+  -- the answer of a look says nothing of the set
   answers_look : (by : GoneBy) (worn : Type 0) (which : LookOf) (c p : ℕ) (s : ContainerState T) (changed : Bool)
       (events : List (Event T))
       → AnswersBy by worn c events (Finished p (Container (looks_as which)) (looked which s changed))
   answers_look = grind arith
 
+  -- the end of a look places nothing
   places_look : (which : LookOf) (p : ℕ) (s : ContainerState T) (changed : Bool) (events : List (Event T))
       → EndsRight events (Finished p (Container (looks_as which)) (looked which s changed))
   places_look = grind arith
 
+  -- a look has done nothing to the set
   does_look : (which : LookOf) (s : ContainerState T) (changed : Bool) (made : List SetAct) (acts : List (Act T))
       → made ≡ [] → HasDone (looks_as which) (looked which s changed) made acts
   does_look = grind arith
 
+  -- a copy of an index past those that the look has seen may stand in its span
   copy_stands : (which : LookOf) (p index : ℕ) (value : T) (w : List (Event T)) → AreBelow index (seen_in (acts w))
       → may_stand (Copied p index value) (Open (Container (looks_as which)) w)
   copy_stands = grind arith
 
 -- ---- a step
 
+-- the party's look is at `stage`, and its state is `s`
 module _ {T : Type 0} (scene : Scene T) (inv : Inv scene) (which : LookOf) (stage : LookStage)
-    (here : IsHere scene (looks_as which) (look_at which scene.capacity stage)) (s : ContainerState T)
+    (here : IsUnderWay scene (looks_as which) (look_at which scene.capacity stage)) (s : ContainerState T)
     (found : state_of scene.party scene.states ≡ Some s) where
   open scene use {coding as code, capacity as c, party as p, steps as steps, latest as latest, events as events}
 
@@ -122,14 +137,16 @@ module _ {T : Type 0} (scene : Scene T) (inv : Inv scene) (which : LookOf) (stag
   abbrev m : Now T
   m = before scene
 
+  -- the run was well-formed before the step of a look if it is after it
   well_formed_of : (words' : List ℕ) (y : Party T) (es : List (Event T)) → AreOwn p es → WellFormed (after scene words' y es) → WellFormed m
   well_formed_of words' y es own = was_well_formed scene start (no_replace T which) here.span words' y es own
 
+  -- a raise that is owed to the changes is owed still after a step of a look
   still : (words' : List ℕ) (y : Party T) (es : List (Event T)) (well_formed : WellFormed (after scene words' y es) → WellFormed m)
       → OwesStill scene inv words' y es well_formed
   still words' y es well_formed = owes_none scene start (look_at which c stage) y here refl
 
-  -- the machine after a step that writes this, and then that
+  -- the machine after a step that writes the copy `what`, if any, and then `rest`
   module _ (words' : List ℕ) (same : words' ≡ ws) (y : Party T) (what : Option (ℕ × T)) (rest : List (Event T))
       (silent : AllByRecursion Silent (copies_of p what ++ rest)) (own : AreOwn p (copies_of p what ++ rest))
       (none : BeginsNone p (copies_of p what ++ rest))
@@ -138,14 +155,16 @@ module _ {T : Type 0} (scene : Scene T) (inv : Inv scene) (which : LookOf) (stag
     abbrev es : List (Event T)
     es = copies_of p what ++ rest
 
+    -- what the step leaves to any party is what `Passes` says
     passes : Passes code c m (after scene words' y es)
     passes = (silent_changes scene inv words' same y es silent own (well_formed_of words' y es own) (still words' y es (well_formed_of words' y es own))).passes
 
+    -- the copy that the step writes is one that the party has made
     copied_now : (o : Option (ℕ × T)) (i : ℕ) (value : T) → o ≡ Some (i, value) → WasCopied p i value (events ++ (copies_of p o ++ rest))
-    copied_now o i value e = grind arith
+    copied_now o i value is_copy = grind arith
 
-    -- the machine after such a step of a look has come there from the machine before it
-    pub comes : Comes scene inv (after scene words' y es) what
+    -- the machine after the step is as `IsAfterLookStep` of `LookWalk` says
+    pub comes : IsAfterLookStep scene inv (after scene words' y es) what
     comes =
         record {
           well_formed = well_formed_of words' y es own;
@@ -157,10 +176,10 @@ module _ {T : Type 0} (scene : Scene T) (inv : Inv scene) (which : LookOf) (stag
           on = on;
         }
 
-    -- what the turn does, that leaves this state
+    -- a step of a look that leaves the state `st` keeps the invariant
     does : (st : ContainerState T) → AreAllRight scene words' y es
         → (is_looking (flight_of (Some y.doing)) ≡ false → Rests code c (after scene words' y es) p st)
-        → Does scene words' (set_state p st scene.states) y es
+        → KeepsInvariant scene words' (set_state p st scene.states) y es
     does st right rests =
         record {
           set = silent_set scene inv words' same y es silent own;
@@ -173,26 +192,31 @@ module _ {T : Type 0} (scene : Scene T) (inv : Inv scene) (which : LookOf) (stag
               subst (Rests code c (after scene words' y es) p) one (rests idle);
         }
 
+  -- the look has gone on, or has ended, and has copied `what`
   on_now : (what : Option (ℕ × T)) (outcome : Option (Answer T)) → CallsOn p what events (events ++ (copies_of p what ++ ending_of p (Container start) outcome))
   on_now what outcome = calls_on p events (Container start) (wrote_of p events) here.span what outcome
 
   -- ---- it goes on, or ends
 
+  -- what a step of the look leads to, in the form that `LookWalk` asks
   abbrev Lead : Option Ask → Bool → List (Event T) → ContainerState T → After (Look T) Bool → Type 0
   Lead ask back did st a =
       Leads scene (looks_as which) ask back (set_state p (settled_if a st) scene.states) (did ++ []) (look_came which st a)
 
+  -- the step of the look has the operation `ask`
   module _ (ask : Option Ask) where
-    -- a look goes on to its next stage, with the state that it has made, where that stage's conditions hold
+    -- a step leads a look to the stage `next`, with the state that it has made, where the
+    -- conditions of that stage hold
     goes_with : (next : LookStage) (back : Bool) (what : Option (ℕ × T)) (st : ContainerState T) → IsRight scene inv what → words_after ws ask ≡ ws
         → LookAt c code.size (all scene ++ set_acts (copies_of p what)) (done scene ++ acts (copies_of p what)) next
         → steps + step_count ask ≤ look_number code.size next (backs_then scene back)
         → ((words' : List ℕ) (states' : List (ℕ × ContainerState T)) (latest' : List (ℕ × Party T)) (es' : List (Event T))
-        → Comes scene inv (record { terms = scene.terms; words = words'; latest = latest'; events = es' }) what
+        → IsAfterLookStep scene inv (record { terms = scene.terms; words = words'; latest = latest'; events = es' }) what
         → state_of p states' ≡ Some st
         → LookKnows code c next (view scene.terms words' states' latest' es' p (since_then scene ask) (changes_then scene ask) (backs_then scene back)))
         → Lead ask back (copies_of p what) st (GoOn (call_at scene inv next))
-    goes_with next back None st right same at few known =
+    -- the step writes nothing
+    goes_with next back None st right same stands few known =
         let party_after = party_then scene start ask back (GoOn (look_at which c next)) in
         let words' = words_after ws ask in
         let contents : (i : ℕ) → contents_of i (events ++ []) ≡ contents_of i events = λ i. fold-append (contents_after i) None events [] in
@@ -200,10 +224,11 @@ module _ {T : Type 0} (scene : Scene T) (inv : Inv scene) (which : LookOf) (stag
         (does words' same party_after None [] tt tt tt contents (on_now None None) st
         (record { asks = tt; recovers = tt; answers = tt; contains = λ holds. tt; places = λ holds. tt })
         (λ idle. absurd (cc)))
-        tt few (at_look T which c code.size _ _ next at)
+        tt few (at_look T which c code.size _ _ next stands)
         (known words' (set_state p st scene.states) (put p party_after latest) (events ++ [])
         (comes words' same party_after None [] tt tt tt contents (on_now None None)) (written_same p st s scene.states found))
-    goes_with next back (Some copy) st right same at few known =
+    -- the step writes a copy
+    goes_with next back (Some copy) st right same stands few known =
         let party_after = party_then scene start ask back (GoOn (look_at which c next)) in
         let words' = words_after ws ask in
         let written = Copied p copy.0 copy.1 ∷ [] in
@@ -217,7 +242,7 @@ module _ {T : Type 0} (scene : Scene T) (inv : Inv scene) (which : LookOf) (stag
           contains = λ holds. (right.1 (well_formed_of words' party_after written (refl, tt) holds), tt);
           places = λ holds. (tt, tt);
         }) (λ idle. absurd (cc)))
-        (copy_stands T which p copy.0 copy.1 (wrote_of p events) right.0, tt) few (at_look T which c code.size _ _ next at)
+        (copy_stands T which p copy.0 copy.1 (wrote_of p events) right.0, tt) few (at_look T which c code.size _ _ next stands)
         (known words' (set_state p st scene.states) (put p party_after latest) (events ++ written)
         (comes words' same party_after (Some copy) [] (tt, tt) (refl, tt) tt contents (on_now (Some copy) None))
         (written_same p st s scene.states found))
@@ -226,8 +251,9 @@ module _ {T : Type 0} (scene : Scene T) (inv : Inv scene) (which : LookOf) (stag
     ends_with : (back : Bool) (what : Option (ℕ × T)) (st : ContainerState T) → IsRight scene inv what → words_after ws ask ≡ ws → all scene ≡ []
         → steps + step_count ask ≤ 1 + c * (code.size + 2) + backs_then scene back * (code.size + 1)
         → backs_then scene back + since_then scene ask ≤ changes_then scene ask
-        → ((m' : Now T) → Comes scene inv m' what → Course code c m' p st c c)
+        → ((m' : Now T) → IsAfterLookStep scene inv m' what → Course code c m' p st c c)
         → Lead ask back (copies_of p what) st (Done true)
+    -- the last step of the look writes nothing but the end
     ends_with back None st right same none few paid course =
         let answer = looked which st true in
         let party_after = party_then scene start ask back (Done answer) in
@@ -247,6 +273,7 @@ module _ {T : Type 0} (scene : Scene T) (inv : Inv scene) (which : LookOf) (stag
         (λ idle. rests_settled code c m' p st
         (course m' (comes words' same party_after None written (silent_end T which, tt) (refl, tt) tt contents (on_now None (Some answer))))))
         ((refl, does_look T which st true (all scene) (done scene) none), tt) (few_look T which c code.size _ (backs_then scene back) few) (omega arith)
+    -- the last step of the look writes a copy and then the end
     ends_with back (Some copy) st right same none few paid course =
         let answer = looked which st true in
         let party_after = party_then scene start ask back (Done answer) in
@@ -275,11 +302,11 @@ module _ {T : Type 0} (scene : Scene T) (inv : Inv scene) (which : LookOf) (stag
         set_acts_one : (copy : ℕ × T) → all scene ≡ [] → set_acts (wrote_of p events ++ Copied p copy.0 copy.1 ∷ []) ≡ []
         set_acts_one = grind (arith, flat_map-append)
 
-    -- a look that finds the number of changes as it was ends with false
+    -- a look that finds the number of changes as its state has it ends with false
     stays_with : words_after ws ask ≡ ws → all scene ≡ [] → steps + step_count ask ≤ 1
         → backs_then scene false + since_then scene ask ≤ changes_then scene ask → Rests code c m p s
         → ShowsOwn p s c events → s.shown.change ≡ change_in code c m → Lead ask false [] s (Done false)
-    stays_with same none few paid rests own is =
+    stays_with same none few paid rests own change_shown =
         let answer = looked which s false in
         let party_after = party_then scene start ask false (Done answer) in
         let words' = words_after ws ask in
@@ -298,10 +325,11 @@ module _ {T : Type 0} (scene : Scene T) (inv : Inv scene) (which : LookOf) (stag
         ((refl, does_look T which s false (all scene) (done scene) none), tt)
         (few_look T which c code.size _ (backs_then scene false) (omega arith)) (omega arith)
 
+    -- what is shown of each way on of a look
     walker : Walker scene inv s ask (Lead ask)
     walker = record { goes = goes_with; ends = ends_with; stays = stays_with }
 
-  -- the step from the state that the party has
+  -- the step of a look from the state `o` of its party
   abbrev StepFrom : Option (ContainerState T) → Type 0
   StepFrom o =
       Leads scene (looks_as which) (ask_of (look_asks code.size c stage)) (look_goes_back stage (old_of ws (ask_of (look_asks code.size c stage))))
@@ -309,6 +337,7 @@ module _ {T : Type 0} (scene : Scene T) (inv : Inv scene) (which : LookOf) (stag
       (look_effects_of code p stage (old_of ws (ask_of (look_asks code.size c stage))) o ++ [])
       (look_goes code which (call_at scene inv stage) o (old_of ws (ask_of (look_asks code.size c stage))))
 
+  -- a step that `LookWalk` shows of the look is the step of the call
   pub step_from : WalkAt scene inv s (Lead (ask_of (look_asks code.size c stage))) stage → StepOf scene (looks_as which) (look_at which c stage)
   step_from walked = subst StepFrom (sym found) walked
 
@@ -317,11 +346,12 @@ module _ {T : Type 0} (scene : Scene T) (inv : Inv scene) (which : LookOf) (stag
 module _ {T : Type 0} (scene : Scene T) (inv : Inv scene) where
   open scene use {coding as code, capacity as c, party as p, steps as steps, backs as backs}
 
-  -- the state that a look has
+  -- the state of the party, which a look has
   pub record HasState : Type 0 where
     pub state : ContainerState T
     pub found : state_of p scene.states ≡ Some state
 
+  -- a look at any stage has a state of its party
   pub state_known : (stage : LookStage) → LookKnows code c stage (sees_now scene) → HasState
   state_known stages.LoadsChange look_knows = let h = look_knows.1 in record { state = h.state; found = h.found }
   state_known (stages.LoadsCount index) look_knows = let h = look_knows.1 in record { state = h.state; found = h.found }
@@ -345,12 +375,12 @@ module _ {T : Type 0} (scene : Scene T) (inv : Inv scene) where
       let h = k.1 in
       walks_check scene inv h.looks.state _ at.0 index count at.1.0 at.1.2 few k.0 at.1.1 h.looks.course h.copying (walks_to _)
 
-  -- any step of a look that stands at a stage, and knows what the stage tells, shows what it has to
-  pub look_step : (which : LookOf) (stage : LookStage) → IsHere scene (looks_as which) (look_at which c stage)
+  -- any step of a look, at whatever stage, keeps the invariant
+  pub look_step : (which : LookOf) (stage : LookStage) → IsUnderWay scene (looks_as which) (look_at which c stage)
       → LookAt c code.size (all scene) (done scene) stage → Knows code c (look_at which c stage) (sees_now scene)
       → steps ≤ look_number code.size stage backs
       → StepOf scene (looks_as which) (look_at which c stage)
-  look_step which stage here at knows few =
+  look_step which stage here stands knows few =
       let h = state_known stage knows in
       step_from scene inv which stage here h.state h.found
-      (walks stage at knows few (Lead scene inv which stage here h.state h.found) (walker scene inv which stage here h.state h.found))
+      (walks stage stands knows few (Lead scene inv which stage here h.state h.found) (walker scene inv which stage here h.state h.found))

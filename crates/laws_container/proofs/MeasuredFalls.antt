@@ -1,4 +1,6 @@
--- The measure falls with each step of a call of a container that does not lock.
+-- The measure of `MeasuredCalls` falls with each step of an add, and of a remove or a replace that does not
+-- lock (for finds, recoveries and looks see `MeasuredLooks`). `FallsIn` says that the call ends, or has as
+-- many steps less as it takes and gives no other call more, unless it pays for that.
 use Rattle.std.proofs.Common.{◌≡◌, ℕ, ◌+◌, ◌-◌, ◌*◌, ◌<◌, ◌≤◌, ◌==◌, inl, inr, nat_lt, Bool, true, false, cond}
 use Rattle.std.proofs.Common.{Option, List, get_or, set, refl, sym, subst, arith}
 use Rattle.std.proofs.lemmas.Bool.Decides.{nat_tests}
@@ -40,19 +42,19 @@ use Rattle.laws_container.proofs.MeasuredCalls.{AcquireStands, AddStands, Remove
 use Rattle.laws_container.proofs.CallProgress.{add_at, remove_at, replace_at}
 use Rattle.laws_robust.proofs.Cases.{by_bool, on_bool}
 
--- the next index has so many less behind it
+-- where a further index follows, the indices behind it take `each` steps less
 pub behind_next : (c each index : ℕ) → index + 1 < c → (c - (index + 1)) * each ≡ (c - (index + 1 + 1)) * each + each
 behind_next c each index less =
     let one : c - (index + 1) ≡ c - (index + 1 + 1) + 1 = omega arith in
     rw one (omega arith)
 
--- the last index has none behind it
+-- no index is behind the last one
 behind_last : (c each index : ℕ) → c ≤ index + 1 → (c - (index + 1)) * each ≡ 0
 behind_last c each index last =
     let none : c - (index + 1) ≡ 0 = omega arith in
     rw none (omega arith)
 
--- an exchange for the same number leaves the words
+-- an exchange of a number for itself leaves the words
 pub check_leaves : (words : List ℕ) (word count : ℕ)
     → set words word (cond (get_or words word 0 == count) count (get_or words word 0)) ≡ words
 check_leaves words word count =
@@ -62,28 +64,34 @@ check_leaves words word count =
     subst (λ n. set words word n ≡ words) (sym same) (load_leaves words word))
     (λ t. load_leaves words word)
 
+-- a container of this coding and capacity, with the words `words` before the step
 module _ {T : Type 0} (code : Coding T) (c : ℕ) (words : List ℕ) where
   abbrev pub M : WordMeasure T
   M = measure code.size c
 
+  -- how a call of the container goes on, as any call
   abbrev pub any_call : After (ContainerFlight T) (Answer T) → After (Flight T) (Answer T)
   any_call after = as_call flights.Container (λ answer. answer) after
 
-  abbrev pub ShownBy : Option (ContainerState T) → ContainerFlight T → Type 0
-  ShownBy state flight =
+  -- the measure falls with the step that a call takes from its stage, if its party has this state
+  abbrev pub StepFallsWith : Option (ContainerState T) → ContainerFlight T → Type 0
+  StepFallsWith state flight =
       FallsIn M words (words_after words (ask_of (want code flight))) (step_count (ask_of (want code flight))) (flights.Container flight)
       (any_call (after code state flight (old_of words (ask_of (want code flight)))))
 
+  -- the counter before the step
   abbrev now : ℕ
   now = get_or words 0 0
 
+  -- the party of the call has this state, if it has one
   module _ (state : Option (ContainerState T)) where
-    abbrev Shown : ContainerFlight T → Type 0
-    Shown flight = ShownBy state flight
+    -- the measure falls with the step of the call
+    abbrev StepFalls : ContainerFlight T → Type 0
+    StepFalls flight = StepFallsWith state flight
 
     -- ---- an add
 
-    -- an add that sees the counter falls by a step, at a stage with steps enough left
+    -- the measure falls when an add has seen the counter, if its stage had steps enough left
     acquire_sees_falls : (new : List ℕ) (value : T) (owner : ℕ) (stage : AcquireStage) → new ≡ words
         → c - 1 + 3 ≤ acquire_left c now stage
         → FallsIn M words new 1 (flights.Container (add_at c value owner (adds.Acquires stage)))
@@ -96,17 +104,19 @@ module _ {T : Type 0} (code : Coding T) (c : ℕ) (words : List ℕ) where
             → FallsIn M words new 1 (flights.Container (add_at c value owner (adds.Acquires stage)))
             (any_call (as_call calls.Add added (went_on as_it_is (record { value = value; owner = owner }) tt
             (add_acquired (record { capacity = c; stage = adds.Acquires stage; of = record {} }) (acquire_sees (inner_acquire c stage) now)))))
-        go true t u e v f = rw t tt
-        go false t true u v f = rw (t, u) tt
-        go false t false u true v = let self = same_is now in rw (t, u, v) (inl (same, rw self (omega arith), omega arith))
-        go false t false u false v = let self = same_is now in rw (t, u, v) (inl (same, rw self (omega arith), omega arith))
+        go true lock_test u end_test v index_test = rw lock_test tt
+        go false lock_test true end_test v index_test = rw (lock_test, end_test) tt
+        go false lock_test false end_test true index_test = let self = same_is now in
+            rw (lock_test, end_test, index_test) (inl (same, rw self (omega arith), omega arith))
+        go false lock_test false end_test false index_test = let self = same_is now in
+            rw (lock_test, end_test, index_test) (inl (same, rw self (omega arith), omega arith))
 
-    -- the measure falls with each step of an add that still acquires its index
+    -- the measure falls with each step of an add that acquires its index
     acquire_falls : (value : T) (owner : ℕ) (stage : AcquireStage) → AcquireStands c stage
-        → Shown (add_at c value owner (adds.Acquires stage))
-    acquire_falls value owner acquires.LoadsCounter at =
+        → StepFalls (add_at c value owner (adds.Acquires stage))
+    acquire_falls value owner acquires.LoadsCounter stands =
         acquire_sees_falls _ value owner acquires.LoadsCounter (load_leaves words 0) (omega arith)
-    acquire_falls value owner (acquires.FillsCell counter index) at =
+    acquire_falls value owner (acquires.FillsCell counter index) stands =
         go (get_or words (cell_word index) 0 == empty) refl (nat_lt (index + 1) c) refl (now == counter) refl
       where
         call : ContainerFlight T
@@ -114,50 +124,56 @@ module _ {T : Type 0} (code : Coding T) (c : ℕ) (words : List ℕ) where
 
         -- the cases are whether the cell is empty, whether a further index follows and whether the counter is still what was read
         go : (t : Bool) → (get_or words (cell_word index) 0 == empty) ≡ t → (u : Bool) → nat_lt (index + 1) c ≡ u
-            → (v : Bool) → (now == counter) ≡ v → Shown call
-        go true t u e true v = rw t (inr (rw v (omega arith), inl (cell_leaves code.size c words index owner (omega arith), omega arith)))
-        go true t u e false v = rw t (inr (rw v (omega arith), inl (cell_leaves code.size c words index owner (omega arith), omega arith)))
-        go false t true u true v =
+            → (v : Bool) → (now == counter) ≡ v → StepFalls call
+        go true cell_test u next_test true counter_test =
+            rw cell_test (inr (rw counter_test (omega arith), inl (cell_leaves code.size c words index owner (omega arith), omega arith)))
+        go true cell_test u next_test false counter_test =
+            rw cell_test (inr (rw counter_test (omega arith), inl (cell_leaves code.size c words index owner (omega arith), omega arith)))
+        go false cell_test true next_test true counter_test =
             let less : index + 2 ≤ c = grind (arith, nat_tests) in
-            rw (t, u) (inl (load_leaves words (cell_word index), rw v (omega arith), omega arith))
-        go false t true u false v =
+            rw (cell_test, next_test) (inl (load_leaves words (cell_word index), rw counter_test (omega arith), omega arith))
+        go false cell_test true next_test false counter_test =
             let less : index + 2 ≤ c = grind (arith, nat_tests) in
-            rw (t, u) (inl (load_leaves words (cell_word index), rw v (omega arith), omega arith))
-        go false t false u true v = rw (t, u) (inl (load_leaves words (cell_word index), rw v (omega arith), omega arith))
-        go false t false u false v = rw (t, u) (inl (load_leaves words (cell_word index), rw v (omega arith), omega arith))
-    acquire_falls value owner (acquires.ChecksCounter counter) at =
+            rw (cell_test, next_test) (inl (load_leaves words (cell_word index), rw counter_test (omega arith), omega arith))
+        go false cell_test false next_test true counter_test =
+            rw (cell_test, next_test) (inl (load_leaves words (cell_word index), rw counter_test (omega arith), omega arith))
+        go false cell_test false next_test false counter_test =
+            rw (cell_test, next_test) (inl (load_leaves words (cell_word index), rw counter_test (omega arith), omega arith))
+    acquire_falls value owner (acquires.ChecksCounter counter) stands =
         by_bool (now == counter)
         (λ t. rw t tt)
         (λ t.
         rw t (acquire_sees_falls _ value owner (acquires.ChecksCounter counter) (load_leaves words 0) (rw t (omega arith))))
-    acquire_falls value owner (acquires.Raises index raises.LoadsCounter) at = go (now == locked) refl (now == greatest) refl
+    acquire_falls value owner (acquires.Raises index raises.LoadsCounter) stands = go (now == locked) refl (now == greatest) refl
       where
         -- the cases are whether the counter is locked and whether the counter is at its end
         go : (t : Bool) → (now == locked) ≡ t → (u : Bool) → (now == greatest) ≡ u
-            → Shown (add_at c value owner (adds.Acquires (acquires.Raises index raises.LoadsCounter)))
-        go true t u e = rw t tt
-        go false t true u = rw (t, u) (inl (load_leaves words 0, omega arith, omega arith))
-        go false t false u = let self = same_is now in rw (t, u) (inl (load_leaves words 0, rw self (omega arith), omega arith))
-    acquire_falls value owner (acquires.Raises index (raises.ExchangesCounter counter)) at =
+            → StepFalls (add_at c value owner (adds.Acquires (acquires.Raises index raises.LoadsCounter)))
+        go true lock_test u end_test = rw lock_test tt
+        go false lock_test true end_test = rw (lock_test, end_test) (inl (load_leaves words 0, omega arith, omega arith))
+        go false lock_test false end_test = let self = same_is now in rw (lock_test, end_test) (inl (load_leaves words 0, rw self (omega arith), omega arith))
+    acquire_falls value owner (acquires.Raises index (raises.ExchangesCounter counter)) stands =
         go (now == counter) refl (now == locked) refl (now == greatest) refl
       where
         -- the cases are whether the counter is still what was read, whether the counter is locked and whether the counter is at its end
         go : (s : Bool) → (now == counter) ≡ s → (t : Bool) → (now == locked) ≡ t → (u : Bool) → (now == greatest) ≡ u
-            → Shown (add_at c value owner (adds.Acquires (acquires.Raises index (raises.ExchangesCounter counter))))
-        go true s t e u f = rw s (inr (rw s (omega arith), inr (omega arith)))
-        go false s true t u e = rw (s, t) tt
-        go false s false t true u = rw (s, t, u) (inl (load_leaves words 0, rw s (omega arith), omega arith))
-        go false s false t false u = let self = same_is now in rw (s, t, u) (inl (load_leaves words 0, rw (self, s) (omega arith), omega arith))
+            → StepFalls (add_at c value owner (adds.Acquires (acquires.Raises index (raises.ExchangesCounter counter))))
+        go true counter_test t lock_test u end_test = rw counter_test (inr (rw counter_test (omega arith), inr (omega arith)))
+        go false counter_test true lock_test u end_test = rw (counter_test, lock_test) tt
+        go false counter_test false lock_test true end_test =
+            rw (counter_test, lock_test, end_test) (inl (load_leaves words 0, rw counter_test (omega arith), omega arith))
+        go false counter_test false lock_test false end_test = let self = same_is now in
+            rw (counter_test, lock_test, end_test) (inl (load_leaves words 0, rw (self, counter_test) (omega arith), omega arith))
 
     -- the measure falls with each step of an add
-    pub add_falls : (value : T) (owner : ℕ) (stage : AddStage) → AddStands c stage → Shown (add_at c value owner stage)
-    add_falls value owner (adds.Acquires stage) at = acquire_falls value owner stage at
-    add_falls value owner (adds.LoadsCount index) at =
+    pub add_falls : (value : T) (owner : ℕ) (stage : AddStage) → AddStands c stage → StepFalls (add_at c value owner stage)
+    add_falls value owner (adds.Acquires stage) stands = acquire_falls value owner stage stands
+    add_falls value owner (adds.LoadsCount index) stands =
         by_bool (is_even (get_or words (count_word c index) 0))
         (λ t. rw t (inl (load_leaves words (count_word c index), omega arith, omega arith)))
         (λ t. rw t (inl (load_leaves words (count_word c index), omega arith, omega arith)))
-    add_falls value owner (adds.Hides index count) at =
-        inr (omega arith, inl (hide_leaves code.size c words index count at, omega arith))
+    add_falls value owner (adds.Hides index count) stands =
+        inr (omega arith, inl (hide_leaves code.size c words index count stands, omega arith))
     add_falls value owner (adds.Stores index at) stands =
         by_bool (nat_lt (at + 1) code.size)
         (λ t.
@@ -165,70 +181,76 @@ module _ {T : Type 0} (code : Coding T) (c : ℕ) (words : List ℕ) where
         rw t (inr (omega arith, inl (apart_leaves code.size c words _ _ (omega arith) (λ i few e. absurd (omega arith)), omega arith))))
         (λ t.
         rw t (inr (omega arith, inl (apart_leaves code.size c words _ _ (omega arith) (λ i few e. absurd (omega arith)), omega arith))))
-    add_falls value owner (adds.AddsCount index) at = inr (omega arith, inr (omega arith))
-    add_falls value owner (adds.AddsChange index) at = tt
+    add_falls value owner (adds.AddsCount index) stands = inr (omega arith, inr (omega arith))
+    add_falls value owner (adds.AddsChange index) stands = tt
 
     -- ---- a remove
 
     -- the measure falls with each step of a remove in its release
     release_falls : (index owner count : ℕ) (stage : ReleaseStage) → index ≤ c → RemoveStands (removes.Releases count stage)
-        → Shown (remove_at c index owner Default (removes.Releases count stage))
-    release_falls index owner count releases.EmptiesCell within at =
+        → StepFalls (remove_at c index owner Default (removes.Releases count stage))
+    release_falls index owner count releases.EmptiesCell within stands =
         by_bool (get_or words (cell_word index) 0 == owner)
         (λ t. rw t (inr (omega arith, inl (cell_leaves code.size c words index empty within, omega arith))))
         (λ t. rw t tt)
-    release_falls index owner count (releases.Raises raises.LoadsCounter) within at =
+    release_falls index owner count (releases.Raises raises.LoadsCounter) within stands =
         go (now == locked) refl (now == greatest) refl (is_even count) refl
       where
         -- the cases are whether the counter is locked, whether the counter is at its end and whether the count is even (nothing stands there)
         go : (t : Bool) → (now == locked) ≡ t → (u : Bool) → (now == greatest) ≡ u → (v : Bool) → is_even count ≡ v
-            → Shown (remove_at c index owner Default (removes.Releases count (releases.Raises raises.LoadsCounter)))
-        go true t u e true v = rw (t, v) (inl (load_leaves words 0, omega arith, omega arith))
-        go true t u e false v = rw (t, v) (inl (load_leaves words 0, omega arith, omega arith))
-        go false t true u true v = rw (t, u, v) (inl (load_leaves words 0, omega arith, omega arith))
-        go false t true u false v = rw (t, u, v) (inl (load_leaves words 0, omega arith, omega arith))
-        go false t false u v e = let self = same_is now in rw (t, u) (inl (load_leaves words 0, rw self (omega arith), omega arith))
-    release_falls index owner count (releases.Raises (raises.ExchangesCounter counter)) within at =
+            → StepFalls (remove_at c index owner Default (removes.Releases count (releases.Raises raises.LoadsCounter)))
+        go true lock_test u end_test true even_test = rw (lock_test, even_test) (inl (load_leaves words 0, omega arith, omega arith))
+        go true lock_test u end_test false even_test = rw (lock_test, even_test) (inl (load_leaves words 0, omega arith, omega arith))
+        go false lock_test true end_test true even_test = rw (lock_test, end_test, even_test) (inl (load_leaves words 0, omega arith, omega arith))
+        go false lock_test true end_test false even_test = rw (lock_test, end_test, even_test) (inl (load_leaves words 0, omega arith, omega arith))
+        go false lock_test false end_test v even_test = let self = same_is now in
+            rw (lock_test, end_test) (inl (load_leaves words 0, rw self (omega arith), omega arith))
+    release_falls index owner count (releases.Raises (raises.ExchangesCounter counter)) within stands =
         go (now == counter) refl (now == locked) refl (now == greatest) refl (is_even count) refl
       where
         -- the cases are whether the counter is still what was read, whether the counter is locked, whether the counter
         -- is at its end and whether the count is even (nothing stands there)
         go : (s : Bool) → (now == counter) ≡ s → (t : Bool) → (now == locked) ≡ t → (u : Bool) → (now == greatest) ≡ u → (v : Bool) → is_even count ≡ v
-            → Shown (remove_at c index owner Default
+            → StepFalls (remove_at c index owner Default
             (removes.Releases count (releases.Raises (raises.ExchangesCounter counter))))
-        go true s t e u f true v = rw (s, v) (inr (rw s (omega arith), inr (omega arith)))
-        go true s t e u f false v = rw (s, v) (inr (rw s (omega arith), inr (omega arith)))
-        go false s true t u e true v = rw (s, t, v) (inl (load_leaves words 0, rw s (omega arith), omega arith))
-        go false s true t u e false v = rw (s, t, v) (inl (load_leaves words 0, rw s (omega arith), omega arith))
-        go false s false t true u true v = rw (s, t, u, v) (inl (load_leaves words 0, rw s (omega arith), omega arith))
-        go false s false t true u false v = rw (s, t, u, v) (inl (load_leaves words 0, rw s (omega arith), omega arith))
-        go false s false t false u v e = let self = same_is now in rw (s, t, u) (inl (load_leaves words 0, rw (self, s) (omega arith), omega arith))
-    release_falls index owner count (releases.Locks lock) within at = absurd at
+        go true counter_test t lock_test u end_test true even_test = rw (counter_test, even_test) (inr (rw counter_test (omega arith), inr (omega arith)))
+        go true counter_test t lock_test u end_test false even_test = rw (counter_test, even_test) (inr (rw counter_test (omega arith), inr (omega arith)))
+        go false counter_test true lock_test u end_test true even_test =
+            rw (counter_test, lock_test, even_test) (inl (load_leaves words 0, rw counter_test (omega arith), omega arith))
+        go false counter_test true lock_test u end_test false even_test =
+            rw (counter_test, lock_test, even_test) (inl (load_leaves words 0, rw counter_test (omega arith), omega arith))
+        go false counter_test false lock_test true end_test true even_test =
+            rw (counter_test, lock_test, end_test, even_test) (inl (load_leaves words 0, rw counter_test (omega arith), omega arith))
+        go false counter_test false lock_test true end_test false even_test =
+            rw (counter_test, lock_test, end_test, even_test) (inl (load_leaves words 0, rw counter_test (omega arith), omega arith))
+        go false counter_test false lock_test false end_test v even_test = let self = same_is now in
+            rw (counter_test, lock_test, end_test) (inl (load_leaves words 0, rw (self, counter_test) (omega arith), omega arith))
+    release_falls index owner count (releases.Locks lock) within stands = absurd stands
 
     -- the measure falls with each step of a remove that does not lock
-    pub remove_falls : (index owner : ℕ) (stage : RemoveStage) → index ≤ c → RemoveStands stage → Shown (remove_at c index owner Default stage)
-    remove_falls index owner removes.Refuses within at = tt
-    remove_falls index owner removes.LoadsCount within at = inl (load_leaves words (count_word c index), omega arith, omega arith)
-    remove_falls index owner (removes.Releases count stage) within at = release_falls index owner count stage within at
-    remove_falls index owner (removes.Hides count end) within at =
-        inr (omega arith, inl (hide_leaves code.size c words index count at, omega arith))
-    remove_falls index owner (removes.AddsChange end) within at = tt
+    pub remove_falls : (index owner : ℕ) (stage : RemoveStage) → index ≤ c → RemoveStands stage → StepFalls (remove_at c index owner Default stage)
+    remove_falls index owner removes.Refuses within stands = tt
+    remove_falls index owner removes.LoadsCount within stands = inl (load_leaves words (count_word c index), omega arith, omega arith)
+    remove_falls index owner (removes.Releases count stage) within stands = release_falls index owner count stage within stands
+    remove_falls index owner (removes.Hides count end) within stands =
+        inr (omega arith, inl (hide_leaves code.size c words index count stands, omega arith))
+    remove_falls index owner (removes.AddsChange end) within stands = tt
 
     -- ---- a replace
 
     -- the measure falls with each step of a replace
-    pub replace_falls : (index : ℕ) (value : T) (owner : ℕ) (stage : ReplaceStage) → ReplaceStands stage → Shown (replace_at c index value owner stage)
-    replace_falls index value owner replaces.Refuses at = tt
-    replace_falls index value owner replaces.LoadsCell at =
+    pub replace_falls : (index : ℕ) (value : T) (owner : ℕ) (stage : ReplaceStage) → ReplaceStands stage → StepFalls (replace_at c index value owner stage)
+    replace_falls index value owner replaces.Refuses stands = tt
+    replace_falls index value owner replaces.LoadsCell stands =
         by_bool (get_or words (cell_word index) 0 == owner)
         (λ t. rw t (inl (load_leaves words (cell_word index), omega arith, omega arith)))
         (λ t. rw t tt)
-    replace_falls index value owner replaces.LoadsCount at =
+    replace_falls index value owner replaces.LoadsCount stands =
         by_bool (is_even (get_or words (count_word c index) 0))
         (λ t. rw t (inl (load_leaves words (count_word c index), omega arith, omega arith)))
         (λ t. rw t (inl (load_leaves words (count_word c index), omega arith, omega arith)))
-    replace_falls index value owner (replaces.Hides count) at =
-        inr (omega arith, inl (hide_leaves code.size c words index count at, omega arith))
+    replace_falls index value owner (replaces.Hides count) stands =
+        inr (omega arith, inl (hide_leaves code.size c words index count stands, omega arith))
     replace_falls index value owner (replaces.Stores at) stands =
         by_bool (nat_lt (at + 1) code.size)
         (λ t.
@@ -236,5 +258,5 @@ module _ {T : Type 0} (code : Coding T) (c : ℕ) (words : List ℕ) where
         rw t (inr (omega arith, inl (apart_leaves code.size c words _ _ (omega arith) (λ i few e. absurd (omega arith)), omega arith))))
         (λ t.
         rw t (inr (omega arith, inl (apart_leaves code.size c words _ _ (omega arith) (λ i few e. absurd (omega arith)), omega arith))))
-    replace_falls index value owner replaces.AddsCount at = inr (omega arith, inr (omega arith))
-    replace_falls index value owner replaces.AddsChange at = tt
+    replace_falls index value owner replaces.AddsCount stands = inr (omega arith, inr (omega arith))
+    replace_falls index value owner replaces.AddsChange stands = tt

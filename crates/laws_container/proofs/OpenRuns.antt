@@ -1,4 +1,5 @@
--- What holds of the machine of a container keeps to every turn of an open run, so it holds wherever such a run leads.
+-- What holds of the machine of a container between two turns is kept by every turn of an open run, so it
+-- holds of each machine to which such a run leads; and with it all that is promised of an open container.
 use Rattle.laws_container.proofs.Names.{◌≡◌, ℕ, ◌-◌, ◌^◌, ◌<◌, ◌≤◌, ◌&&◌, nat_lt, Bool, true, false, not, Option}
 use Rattle.laws_container.proofs.Names.{Some, None, is_some, is_none, List, [], ◌∷◌, length, refl, sym, ap, subst}
 use Rattle.laws_container.proofs.Names.{◌∙◌, arith, nat_tests, total_words, greatest, Start, Container, Flight, Party}
@@ -34,35 +35,38 @@ use Rattle.laws_container.proofs.TurnPromises.{tells_if}
 
 -- ---- one turn
 
+-- `kept` says whether the run is faithful and of few turns; `code` and `c` are the coding and the capacity
 module _ {T : Type 0} (kept : Bool) (code : Coding T) (c : ℕ) where
   -- the terms of an open run
   abbrev pub terms : Terms
   terms = record { by = Word; kept = kept }
 
-  abbrev Sound : Trace T → Type 0
-  Sound t = frame.Sound (family_by terms code c) t
+  -- what the frame and the container's invariant say of the machine
+  abbrev IsSoundOn : Trace T → Type 0
+  IsSoundOn t = frame.Sound (family_by terms code c) t
 
-  -- `t` is the run so far, and `s` what is sound of it
-  module _ (t : Trace T) (s : Sound t) (few : kept ≡ true → t.world.turns < 2 ^ 64 - 2) where
+  -- `t` is the run up to this turn, and `s` that it is sound
+  module _ (t : Trace T) (s : IsSoundOn t) (few : kept ≡ true → t.world.turns < 2 ^ 64 - 2) where
+    -- an open run may always go on: its counter may wear out, and its turns are few where it keeps to that
     may : MayGoOn terms t
     may = record { room = tt; few = few }
 
-    -- a step
+    -- the faithful run's hypothesis that a step acts for nobody who is gone, in the form `IsRightly`
     rightly : (p : ℕ) (x : Party T) (since : ℕ) (found : party_of p t.world.latest ≡ Some x) (flight : Flight T)
         → (kept ≡ true → is_for_gone t.events (Some flight) ≡ false)
         → IsRightly shown terms code c t s p x since found flight
     rightly p x since found (flights.Container flight) owner_lives = owner_lives
     rightly p x since found flight owner_lives = tt
 
-    -- a begin
+    -- the begin of a call leads to a sound machine
     begun : (p : ℕ) (start : Start T) (flight : Flight T) → MayRecoverIn shown terms code c t s p start → flight_in t.world p ≡ None
         → first_of t.world.kind t.world.capacity start t.world.kept ≡ Some flight
         → frame.Comes (family_by terms code c) t p (kept_after_begin t.world.coding t.world.capacity start p t.world.kept) t.world.words
         (party_at_begin start flight t.world.changes) (Begun p start ∷ []) t.world.changes
-    begun p start flight recovers free e =
+    begun p start flight recovers free begins_so =
         let now = kept_now shown terms code c t s in
         let party_after = party_at_begin start flight t.world.changes in
-        let named : first_of kinds.Container c start now ≡ Some flight = rw (s.kind, s.capacity, s.fit.kept) at e in
+        let named : first_of kinds.Container c start now ≡ Some flight = rw (s.kind, s.capacity, s.fit.kept) at begins_so in
         let kept_same : kept_after_begin t.world.coding t.world.capacity start p t.world.kept ≡ kept_after_begin code c start p now =
         rw (s.coding, s.capacity, s.fit.kept) refl in
         subst (λ kept. frame.Comes (family_by terms code c) t p kept t.world.words party_after (Begun p start ∷ []) t.world.changes) (sym kept_same)
@@ -71,34 +75,38 @@ module _ {T : Type 0} (kept : Bool) (code : Coding T) (c : ℕ) where
 
     -- a begin that is not refused leaves the machine sound
     begins : (p : ℕ) (start : Start T) → MayRecoverIn shown terms code c t s p start → flight_in t.world p ≡ None
-        → is_none (first_of t.world.kind t.world.capacity start t.world.kept) ≡ false → Sound (after_turn t (Begin p start))
+        → is_none (first_of t.world.kind t.world.capacity start t.world.kept) ≡ false → IsSoundOn (after_turn t (Begin p start))
     begins p start recovers free call =
         frame.begin_sound (family_by terms code c) t p start call s
         (λ flight e. begun p start flight recovers free e)
         (first_of t.world.kind t.world.capacity start t.world.kept) refl
 
-    begins_by_rows : (p : ℕ) (start : Start T) → call_refusal t.world (Begin p start) ≡ None → Sound (after_turn t (Begin p start))
-    begins_by_rows p start e =
-        let b = may_begin t.world p start e in
+    -- a begin that the machine's rows do not refuse leaves the machine sound
+    begins_by_rows : (p : ℕ) (start : Start T) → call_refusal t.world (Begin p start) ≡ None → IsSoundOn (after_turn t (Begin p start))
+    begins_by_rows p start unrefused =
+        let b = may_begin t.world p start unrefused in
         begins p start (recovers_by shown terms code c t s p start b) b.free b.call
 
     free_by : (o : Option (Flight T)) → is_some o ≡ false → o ≡ None
     free_by None nothing = refl
     free_by (Some flight) nothing = absurd (cc)
 
-    -- a turn that an open run does not refuse leaves the machine sound, if it takes no step for
-    -- one who is gone where the run keeps to that
-    pub open_turn_sound : (turn : Turn T) → open_refusal t.world turn ≡ None → (kept ≡ true → steps_for_gone t turn ≡ false) → Sound (after_turn t turn)
-    open_turn_sound (Begin p (Container (Recover owner mode))) e faithful =
+    -- a turn that an open run does not refuse leaves the machine sound, if it is no step for an owner who is
+    -- gone, where the run is to be faithful
+    pub open_turn_sound : (turn : Turn T) → open_refusal t.world turn ≡ None → (kept ≡ true → steps_for_gone t turn ≡ false) → IsSoundOn (after_turn t turn)
+    -- a recovery begins; its owner need not be dead, since nobody dies in an open run
+    open_turn_sound (Begin p (Container (Recover owner mode))) unrefused faithful =
         let start : Start T = Container (Recover owner mode) in
-        let b = row_passed (is_some (flight_in t.world p)) Busy _ e in
+        let b = row_passed (is_some (flight_in t.world p)) Busy _ unrefused in
         let d = row_passed (is_none (first_of t.world.kind t.world.capacity start t.world.kept)) WrongCall None b.1 in
         begins p start tt (free_by (flight_in t.world p) b.0) d.0
-    open_turn_sound (Begin p start) e faithful = begins_by_rows p start e
-    open_turn_sound (Next p) e faithful =
+    -- any other call begins
+    open_turn_sound (Begin p start) unrefused faithful = begins_by_rows p start unrefused
+    -- a call takes a step
+    open_turn_sound (Next p) unrefused faithful =
         let F = family_by terms code c in
         let rows : first_row (going_rows code (kept_now shown terms code c t s) (flight_in t.world p) None) ≡ None =
-        rw (s.coding, s.fit.kept) at (next_passes t.world p e) in
+        rw (s.coding, s.fit.kept) at (next_passes t.world p unrefused) in
         frame.next_sound F t p s (λ x flight since u.
         comes_from F t s p x since s.state.words (kept_now shown terms code c t s) flight s.fit.words s.fit.kept
         (comes shown terms code c t s p x since u.found may x.start flight
@@ -106,9 +114,10 @@ module _ {T : Type 0} (kept : Bool) (code : Coding T) (c : ℕ) where
         (subst (λ o. first_row (going_rows code (kept_now shown terms code c t s) o None) ≡ None) u.is rows)
         (stands_there F t s p x since flight u.found u.doing)))
         (party_of p t.world.latest) refl
-    open_turn_sound (Die owner) e faithful = absurd (cc)
-    open_turn_sound (Decide p said) e faithful =
-        let b = row_passed (is_none (flight_in t.world p)) Idle _ e in
+    open_turn_sound (Die owner) unrefused faithful = absurd (cc)
+    -- a call is told a decision that it waits for
+    open_turn_sound (Decide p said) unrefused faithful =
+        let b = row_passed (is_none (flight_in t.world p)) Idle _ unrefused in
         let d = row_passed (not (is_due t.world.coding (flight_in t.world p))) Undecided None b.1 in
         let due : is_due code (flight_in t.world p) ≡ true =
         subst (λ y. is_due y (flight_in t.world p) ≡ true) s.coding (frame.is_true (is_due t.world.coding (flight_in t.world p)) d.0) in
@@ -122,9 +131,11 @@ module _ {T : Type 0} (kept : Bool) (code : Coding T) (c : ℕ) where
 -- ---- turns are counted
 
 module _ {T : Type 0} where
+  -- a turn takes back none that was counted
   turn_grows : (t : Trace T) (turn : Turn T) → t.world.turns ≤ (after_turn t turn).world.turns
   turn_grows t turn = grind arith
 
+  -- an attempted turn, refused or not, takes back none that was counted
   attempt_grows : (t : Trace T) (turn : Turn T) (o : Option Refusal) → t.world.turns ≤ (unless_refused t (after_turn t turn) o).world.turns
   attempt_grows t turn None = turn_grows t turn
   attempt_grows t turn (Some refusal) = omega arith
@@ -140,26 +151,29 @@ module _ {T : Type 0} where
 -- ---- whole runs
 
 both_true : (a b : Bool) → (a && b) ≡ true → (a ≡ true) × (b ≡ true)
-both_true true b e = (refl, e)
-both_true false b e = absurd (cc)
+both_true true b both_hold = (refl, both_hold)
+both_true false b both_hold = absurd (cc)
 
 not_true : (b : Bool) → not b ≡ true → b ≡ false
-not_true true e = absurd (cc)
-not_true false e = refl
+not_true true negated = absurd (cc)
+not_true false negated = refl
 
+-- `kept` says whether the run is faithful and of few turns
 module _ {T : Type 0} (kept : Bool) (code : Coding T) (c : ℕ) where
-  abbrev Holds : Trace T → Type 0
-  Holds t = frame.Sound (family_by (terms kept code c) code c) t
+  abbrev IsSoundRun : Trace T → Type 0
+  IsSoundRun t = frame.Sound (family_by (terms kept code c) code c) t
 
-  attempted : (t : Trace T) (turn : Turn T) (o : Option Refusal) → open_refusal t.world turn ≡ o → Holds t
+  -- an attempted turn, refused or not, leaves a sound machine sound
+  attempted : (t : Trace T) (turn : Turn T) (o : Option Refusal) → open_refusal t.world turn ≡ o → IsSoundRun t
       → (kept ≡ true → t.world.turns < 2 ^ 64 - 2) → (kept ≡ true → steps_for_gone t turn ≡ false)
-      → Holds (unless_refused t (after_turn t turn) o)
-  attempted t turn None e s few faithful = open_turn_sound kept code c t s few turn e faithful
-  attempted t turn (Some refusal) e s few faithful = s
+      → IsSoundRun (unless_refused t (after_turn t turn) o)
+  attempted t turn None refusal_is s few faithful = open_turn_sound kept code c t s few turn refusal_is faithful
+  attempted t turn (Some refusal) refusal_is s few faithful = s
 
-  -- a run from a sound machine, faithful and of few turns where the run keeps to that, leads to a sound machine
-  run_sound : (turns : List (Turn T)) (t : Trace T) → Holds t → (kept ≡ true → is_faithful turns t ≡ true)
-      → (kept ≡ true → (run_open turns t).world.turns < 2 ^ 64 - 2) → Holds (run_open turns t)
+  -- a run from a sound machine leads to a sound machine, if it is faithful and of few turns
+  -- where `kept` says so
+  run_sound : (turns : List (Turn T)) (t : Trace T) → IsSoundRun t → (kept ≡ true → is_faithful turns t ≡ true)
+      → (kept ≡ true → (run_open turns t).world.turns < 2 ^ 64 - 2) → IsSoundRun (run_open turns t)
   run_sound [] t s faithful few = s
   run_sound (turn ∷ turns) t s faithful few =
       run_sound turns (attempt_open t turn)
@@ -169,20 +183,21 @@ module _ {T : Type 0} (kept : Bool) (code : Coding T) (c : ℕ) where
       (both_true (not (steps_for_gone t turn)) (is_faithful turns (attempt_open t turn)) (faithful keeps)).0))
       (λ keeps. (both_true (not (steps_for_gone t turn)) (is_faithful turns (attempt_open t turn)) (faithful keeps)).1) few
 
+-- the terms of any open run, faithful or not
 module _ {T : Type 0} (code : Coding T) (c : ℕ) where
-  abbrev Any : Trace T → Type 0
-  Any t = Holds false code c t
+  abbrev IsSoundAnyhow : Trace T → Type 0
+  IsSoundAnyhow t = IsSoundRun false code c t
 
-  -- an attempted turn that takes no step for one who is gone leaves an honest machine honest, and sound
-  attempt_honest : (t : Trace T) (turn : Turn T) (o : Option Refusal) → open_refusal t.world turn ≡ o → Any t → IsHonest t.events
-      → steps_for_gone t turn ≡ false → Any (unless_refused t (after_turn t turn) o) × IsHonest (unless_refused t (after_turn t turn) o).events
-  attempt_honest t turn None e any honest steps =
-      let next : Any (after_turn t turn) = open_turn_sound false code c t any (λ keeps. absurd (cc)) turn e (λ keeps. absurd (cc)) in
-      (next, turn_honest (terms false code c) code c t any honest turn e steps next)
-  attempt_honest t turn (Some refusal) e any honest steps = (any, honest)
+  -- an attempted turn that takes no step for an owner who is gone leaves an honest machine honest, and sound
+  attempt_honest : (t : Trace T) (turn : Turn T) (o : Option Refusal) → open_refusal t.world turn ≡ o → IsSoundAnyhow t → IsHonest t.events
+      → steps_for_gone t turn ≡ false → IsSoundAnyhow (unless_refused t (after_turn t turn) o) × IsHonest (unless_refused t (after_turn t turn) o).events
+  attempt_honest t turn None refusal_is any honest steps =
+      let next : IsSoundAnyhow (after_turn t turn) = open_turn_sound false code c t any (λ keeps. absurd (cc)) turn refusal_is (λ keeps. absurd (cc)) in
+      (next, turn_honest (terms false code c) code c t any honest turn refusal_is steps next)
+  attempt_honest t turn (Some refusal) refusal_is any honest steps = (any, honest)
 
   -- a faithful run from an honest machine leads to an honest one
-  run_honest : (turns : List (Turn T)) (t : Trace T) → Any t → IsHonest t.events → is_faithful turns t ≡ true → IsHonest (run_open turns t).events
+  run_honest : (turns : List (Turn T)) (t : Trace T) → IsSoundAnyhow t → IsHonest t.events → is_faithful turns t ≡ true → IsHonest (run_open turns t).events
   run_honest [] t any honest faithful = honest
   run_honest (turn ∷ turns) t any honest faithful =
       let both = both_true (not (steps_for_gone t turn)) (is_faithful turns (attempt_open t turn)) faithful in
@@ -190,28 +205,29 @@ module _ {T : Type 0} (code : Coding T) (c : ℕ) where
       run_honest turns (attempt_open t turn) next.0 next.1 both.1
 
 -- `t` is the machine that an open run has reached
-module _ {T : Type 0} (t : Trace T) (is : t.world.kind ≡ kinds.Container) (r : IsReachedOpen t) where
+module _ {T : Type 0} (t : Trace T) (kind_is : t.world.kind ≡ kinds.Container) (r : IsReachedOpen t) where
   abbrev first : Trace T
   first = opening t.world.coding t.world.kind t.world.capacity t.world.parties
 
   -- the machine of an open run is sound as it opens
-  open_at_first : (kept : Bool) → Holds kept t.world.coding t.world.capacity first
+  open_at_first : (kept : Bool) → IsSoundRun kept t.world.coding t.world.capacity first
   open_at_first kept =
       let world = t.world in
-      let may = admitted_is world.capacity (subst (λ kind. capacity_error kind world.capacity ≡ None) is r.admitted) in
-      subst (λ kind. Holds kept world.coding world.capacity (opening world.coding kind world.capacity world.parties)) (sym is)
+      let may = admitted_is world.capacity (subst (λ kind. capacity_error kind world.capacity ≡ None) kind_is r.admitted) in
+      subst (λ kind. IsSoundRun kept world.coding world.capacity (opening world.coding kind world.capacity world.parties)) (sym kind_is)
       (opening_sound shown (terms kept world.coding world.capacity) world.coding world.capacity world.parties r.coded may.0 may.1)
 
-  -- where an open run has led is sound, on terms that are kept only if the run is faithful and has few turns
+  -- the machine that an open run has reached is sound, also on the terms of a faithful run if it is faithful
+  -- and of few turns
   reached_sound : (kept : Bool) → (kept ≡ true → is_faithful r.turns first ≡ true) → (kept ≡ true → t.world.turns < 2 ^ 64 - 2)
-      → Holds kept t.world.coding t.world.capacity t
+      → IsSoundRun kept t.world.coding t.world.capacity t
   reached_sound kept faithful few =
       let world = t.world in
-      subst (Holds kept world.coding world.capacity) (sym r.is)
+      subst (IsSoundRun kept world.coding world.capacity) (sym r.is)
       (run_sound kept world.coding world.capacity r.turns first (open_at_first kept) faithful
       (λ keeps. subst (λ (u : Trace T). u.world.turns < 2 ^ 64 - 2) r.is (few keeps)))
 
-  -- the terms of any run
+  -- the terms of any open run: an owner is gone by the word of a recovery's begin
   abbrev pub any : Terms
   any = terms false t.world.coding t.world.capacity
 
@@ -224,23 +240,23 @@ module _ {T : Type 0} (t : Trace T) (is : t.world.kind ≡ kinds.Container) (r :
       subst (λ (u : Trace T). IsHonest u.events) (sym r.is)
       (run_honest t.world.coding t.world.capacity r.turns first (open_at_first false) (Each-nil _) faithful)
 
-  -- nobody dies in it
+  -- nobody dies in an open run
   pub reached_open_lives : AllLive t.events
   reached_open_lives =
       let code = t.world.coding in
       let c = t.world.capacity in
-      (kept_by open_refusal (λ u. Holds false code c u × AllLive u.events)
+      (kept_by open_refusal (λ u. IsSoundRun false code c u × AllLive u.events)
       (λ u turn e h.
       (open_turn_sound false code c u h.0 (λ keeps. absurd (cc)) turn e (λ keeps. absurd (cc)), all_live_on u (steps_leave any code c u h.0) turn e h.1))
       t (open_at_first false, λ owner. refl) r).1
 
-  -- no turn changes how many words it has
+  -- no turn of an open run changes how many words the machine has
   pub reached_open_wide : length t.world.words ≡ total_words t.world.capacity t.world.coding.size
   reached_open_wide =
       let sound_there = reached_open_sound in
       ap length sound_there.fit.words ∙ sound_there.holds.elements.wide
 
-  -- what is promised of each open run of a container holds of this one
+  -- all that is promised of an open container holds of the machine that an open run has reached
   pub reached_open_kept : IsOpenContainer t r
   reached_open_kept =
       let world = t.world in
@@ -273,16 +289,16 @@ module _ {T : Type 0} (t : Trace T) (is : t.world.kind ≡ kinds.Container) (r :
   and_true false b h k = absurd (cc)
 
   few_is : (n : ℕ) → nat_lt n (2 ^ 64 - 2) ≡ true → n < 2 ^ 64 - 2
-  few_is n e = grind (arith, nat_tests)
+  few_is n few_turns = grind (arith, nat_tests)
 
   is_few : (n : ℕ) → n < 2 ^ 64 - 2 → nat_lt n (2 ^ 64 - 2) ≡ true
   is_few n less = grind (arith, nat_tests)
 
-  -- a turn that an open run does not refuse tells what is promised of it, and some of it only
-  -- where the run is faithful, and with this turn well-formed and honest
+  -- a turn that an open run does not refuse tells what is promised of it; some of that only where the run is
+  -- faithful and of few turns, and with this turn well-formed and honest
   pub reached_open_tells : (turn : Turn T) → open_refusal t.world turn ≡ None
       → TellsIf (IsFaithfulRun t r × IsWellFormedRun (after_turn t turn) × IsHonest (after_turn t turn).events) t turn (after_turn t turn)
-  reached_open_tells turn e =
+  reached_open_tells turn unrefused =
       let world = t.world in
       let new = after_turn t turn in
       let faithful : Bool = is_faithful r.turns first in
@@ -290,15 +306,16 @@ module _ {T : Type 0} (t : Trace T) (is : t.world.kind ≡ kinds.Container) (r :
       let on = terms (faithful && few) world.coding world.capacity in
       let are_few : (faithful && few) ≡ true → world.turns < 2 ^ 64 - 2 = λ keeps. few_is world.turns (both_true faithful few keeps).1 in
       let sound_there = reached_sound (faithful && few) (λ keeps. (both_true faithful few keeps).0) are_few in
-      tells_if shown on world.coding t sound_there (record { room = tt; few = are_few }) turn (allowed_open world turn e)
+      tells_if shown on world.coding t sound_there (record { room = tt; few = are_few }) turn (allowed_open world turn unrefused)
       (IsFaithfulRun t r × IsWellFormedRun new × IsHonest new.events)
       (λ run. well_formed_on on new (and_true faithful few run.0.faithful (is_few world.turns run.0.few)) run.2 run.1)
 
-  -- where the turn is faithful too, the run with it is honest
+  -- where the run is faithful and the turn is no step for an owner who is gone, the run
+  -- with this turn is honest
   pub reached_turn_honest : (turn : Turn T) → open_refusal t.world turn ≡ None → IsFaithful t r → steps_for_gone t turn ≡ false
       → IsHonest (after_turn t turn).events
-  reached_turn_honest turn e faithful steps =
+  reached_turn_honest turn unrefused faithful steps =
       let world = t.world in
       let sound_there = reached_open_sound in
-      turn_honest any world.coding world.capacity t sound_there (reached_open_honest faithful) turn e steps
-      (open_turn_sound false world.coding world.capacity t sound_there (λ keeps. absurd (cc)) turn e (λ keeps. absurd (cc)))
+      turn_honest any world.coding world.capacity t sound_there (reached_open_honest faithful) turn unrefused steps
+      (open_turn_sound false world.coding world.capacity t sound_there (λ keeps. absurd (cc)) turn unrefused (λ keeps. absurd (cc)))

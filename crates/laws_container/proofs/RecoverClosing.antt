@@ -1,4 +1,6 @@
--- How a recovery of a container ends: the second look at the counter, and the count of the change.
+-- The end of a recovery: it loads the counter again, behind the last index, and counts its change. At last,
+-- any step of a recovery, and any decision that one waits for. What a step has to show is said by `StepOf`
+-- and `Leads` of `Stages`.
 use Rattle.laws_container.proofs.Names.{◌≡◌, ◌≢◌, ⊎_elim, ℕ, ◌+◌, ◌*◌, ◌≤◌, ◌==◌, if◌then◌else◌, Bool, false}
 use Rattle.laws_container.proofs.Names.{true, Option, Some, None, List, [], ◌∷◌, refl, sym, subst, append-nil, arith}
 use Rattle.laws_container.proofs.Names.{cases_lt, nat_tests, Ask, RecoverStage, ReleaseState}
@@ -26,7 +28,7 @@ use Rattle.laws_container.proofs.KeptLocks.{NoIndex, FilledBut, filled_each}
 use Rattle.laws_container.proofs.Knows.{RecoverSays, RecoverKnows, IsLong, Knows}
 use Rattle.laws_container.proofs.RecoverParts.{Recovery, none, hidden_still, first, then_at}
 use Rattle.laws_container.proofs.RecoverEnds.{empties_step, hides_step}
-use Rattle.laws_container.proofs.RecoverReads.{Here, Becomes, calm_on}
+use Rattle.laws_container.proofs.RecoverReads.{IsAtStage, LeadsOn, calm_on}
 use Rattle.laws_container.proofs.RecoverReads.{counter_step, cell_step, count_step}
 use Rattle.laws_container.proofs.RecoverWords.{word_step}
 use Rattle.laws_container.proofs.RecoverWords.{check_step, decided}
@@ -39,6 +41,7 @@ use Rattle.laws_container.proofs.Writing.{adds_one, adds_to_change}
 use Rattle.laws_container.proofs.Recovers.{locks_step, most_is, raises_step}
 use Rattle.laws_robust.proofs.Cases.{on_bool}
 
+-- a recovery of `owner` in mode `mode` is under way, by party `p` of the scene
 module _ {T : Type 0} (recovery : Recovery T) where
   open recovery use {scene, inv, owner, mode}
   open recovery.scene use {coding as code, capacity as c, party as p, steps, backs, events}
@@ -51,36 +54,37 @@ module _ {T : Type 0} (recovery : Recovery T) where
 
   -- ---- the second look at the counter
 
-  module _ (room : buffers.Buffer 128) (here : Here recovery room recovers.LoadsCounterAgain) (long : IsLong room)
+  -- the recovery has come past all indices, and loads the counter again
+  module _ (room : buffers.Buffer 128) (here : IsAtStage recovery room recovers.LoadsCounterAgain) (long : IsLong room)
       (freed : RecoverAt c z (all scene) (done scene) owner mode recovers.LoadsCounterAgain)
-      (k : RecoverKnows code c owner mode room recovers.LoadsCounterAgain (sees_now scene))
-      (s : steps ≤ 1 + c * for_index c z mode + backs * for_back c z mode)
-      (f : FilledBut (IsWorn scene.terms.by ws) mode p owner NoIndex events) where
+      (knows : RecoverKnows code c owner mode room recovers.LoadsCounterAgain (sees_now scene))
+      (few_steps : steps ≤ 1 + c * for_index c z mode + backs * for_back c z mode)
+      (filled_since : FilledBut (IsWorn scene.terms.by ws) mode p owner NoIndex events) where
     abbrev load_again : Option Ask
     load_again = Some (set_stages.loads 0)
 
     paid_again : backs_then scene false + since_then scene load_again ≤ changes_then scene load_again
-    paid_again = let paid = k.0 in omega arith
+    paid_again = let paid = knows.0 in omega arith
 
     -- a recovery that has come past all indices has recovered its owner
     recovered : HasRecoveredBy scene.terms.by p owner events
     recovered =
         record {
-          gone = λ honest i told. ⊎_elim (λ gone. gone) (λ never. absurd never) (k.1.gone honest i told);
+          gone = λ honest i told. ⊎_elim (λ gone. gone) (λ never. absurd never) (knows.1.gone honest i told);
           asked = λ i through.
-              ⊎_elim (λ below. k.1.asked i below through)
+              ⊎_elim (λ below. knows.1.asked i below through)
               (λ beyond. ⊎_elim
               (λ filled. some_none (filled_of i events) owner (none_beyond (of_set scene) (inv_of_set scene inv) i beyond) filled)
               (λ was_freed. freed i was_freed) (through_now p (StillToFree p owner i) events through))
               (cases_lt i c);
         }
 
-    -- the load leaves the counter
+    -- the load leaves what the recovery knows of its locks
     each_again : FilledSinceEachBy (IsWorn scene.terms.by ws) mode p owner events
         → FilledSinceEachBy (IsWorn scene.terms.by (words_after ws load_again)) mode p owner events
     each_again = grind (arith, each_on, loads_same)
 
-    -- what a recovery has freed is hidden as before, after it has loaded the counter again
+    -- what the recovery has freed is hidden still, after it has loaded the counter again
     hidden_again : (state : ReleaseState)
         → HasHidden code c p owner none (after scene (words_after ws load_again) (then_at recovery room recovers.LoadsCounterAgain here room
         (recovers.AddsChange state) load_again false)
@@ -88,12 +92,13 @@ module _ {T : Type 0} (recovery : Recovery T) where
     hidden_again state =
         hidden_still recovery room recovers.LoadsCounterAgain here load_again (then_at recovery room recovers.LoadsCounterAgain here room
         (recovers.AddsChange state) load_again false)
-        k.1.hidden
+        knows.1.hidden
 
-    -- the step in which a recovery looks at the counter again shows what it has to
+    -- the step in which a recovery loads the counter again: it goes on to count its change, with the state
+    -- that the counter says
     again_step : StepOf scene (Recover owner mode) (recover_at c owner mode room recovers.LoadsCounterAgain)
     again_step =
-        on_bool (λ b. Becomes recovery (Some (set_stages.loads 0)) false [] room
+        on_bool (λ b. LeadsOn recovery (Some (set_stages.loads 0)) false [] room
         (recover_ends (first recovery) (if b then states.Locked else states.Unlocked)))
         (counter_of ws == locked)
         (λ t.
@@ -116,7 +121,7 @@ module _ {T : Type 0} (recovery : Recovery T) where
                 × HasRecoveredBy scene.terms.by p owner es
                 × FilledSinceEachBy (IsWorn scene.terms.by (words_after ws load_again)) mode p owner es)
                 (sym (append-nil events))
-                (k.1.dead, now, recovered, each_again (filled_each p owner (IsWorn scene.terms.by ws) mode events free f)),
+                (knows.1.dead, now, recovered, each_again (filled_each p owner (IsWorn scene.terms.by ws) mode events free filled_since)),
             hidden_again states.Unlocked,
           ),
           tt,
@@ -124,24 +129,27 @@ module _ {T : Type 0} (recovery : Recovery T) where
 
   -- ---- the change is counted, and the call ends
 
-  module _ (room : buffers.Buffer 128) (state : ReleaseState) (here : Here recovery room (recovers.AddsChange state))
-      (k : RecoverKnows code c owner mode room (recovers.AddsChange state) (sees_now scene))
-      (s : steps ≤ 2 + c * for_index c z mode + backs * for_back c z mode) where
+  -- the recovery counts its change, and answers `state`
+  module _ (room : buffers.Buffer 128) (state : ReleaseState) (here : IsAtStage recovery room (recovers.AddsChange state))
+      (knows : RecoverKnows code c owner mode room (recovers.AddsChange state) (sees_now scene))
+      (few_steps : steps ≤ 2 + c * for_index c z mode + backs * for_back c z mode) where
     abbrev end_it : Option Ask
     end_it = Some (adds_one (change_word c))
 
+    -- a counter at its end is at its end after the change is counted
     counter_stays : counter_of ws ≡ greatest → counter_of (words_after ws end_it) ≡ greatest
     counter_stays end =
         (leaves_behind (of_set scene) (inv_of_set scene inv) (words_after ws end_it) (change_word c) _ (omega arith)
         (adds_to_change scene inv)).stuck
         end
 
+    -- the answer of the recovery is right, from what the recovery knows of its state (`RecoverSays`)
     answers_right : (state : ReleaseState) → RecoverSays code c owner mode state (sees_now scene)
         → AnswersBy scene.terms.by (IsWorn scene.terms.by (words_after ws end_it)) c events
         (Finished p (Container (Recover owner mode)) (answers.State state))
     answers_right = grind (arith, each_on, worn_on, counter_stays)
 
-    -- the step in which a recovery counts the change ends it
+    -- the step in which a recovery counts its change ends the recovery
     end_step : StepOf scene (Recover owner mode) (recover_at c owner mode room (recovers.AddsChange state))
     end_step =
         let party_after = party_then scene (Recover owner mode) end_it false (Done (answers.State state)) in
@@ -157,23 +165,23 @@ module _ {T : Type 0} (recovery : Recovery T) where
         (leaves_behind (of_set scene) (inv_of_set scene inv) (words_after ws end_it) (change_word c) _ (omega arith) new)
         (quiet_end p (Container (Recover owner mode)) (answers.State state) (λ i o. refl) (λ i r. refl))
         (refl, tt) (tt, tt) (tt, tt))
-        (answers_right state k.1) well_formed
-        (λ holds i was. ⊎_elim (λ empty. empty) (λ never. absurd never) (k.2 (well_formed holds) i was)) new
+        (answers_right state knows.1) well_formed
+        (λ holds i was. ⊎_elim (λ empty. empty) (λ never. absurd never) (knows.2 (well_formed holds) i was)) new
         (λ holds i said. inv.elements.announced holds i said))
-        ((refl, tt), tt) (omega arith) (let paid = k.0 in omega arith)
+        ((refl, tt), tt) (omega arith) (let paid = knows.0 in omega arith)
 
   -- ---- any step
 
-  -- the step of a recovery that stands there shows what it has to
-  abbrev Moves : buffers.Buffer 128 → RecoverStage → Type 0
-  Moves room stage =
-      RecoverAt c z (all scene) (done scene) owner mode stage → Here recovery room stage
+  -- the step of a recovery at this stage keeps the invariant
+  abbrev StepShows : buffers.Buffer 128 → RecoverStage → Type 0
+  StepShows room stage =
+      RecoverAt c z (all scene) (done scene) owner mode stage → IsAtStage recovery room stage
       → Knows code c (recover_at c owner mode room stage) (sees_now scene)
       → steps ≤ recover_number c z mode stage backs
       → StepOf scene (Recover owner mode) (recover_at c owner mode room stage)
 
-  -- any step of a recovery that stands at a stage, and knows what the stage tells, shows what it has to
-  pub recover_step : (room : buffers.Buffer 128) (stage : RecoverStage) → Moves room stage
+  -- any step of a recovery, at whatever stage, keeps the invariant
+  pub recover_step : (room : buffers.Buffer 128) (stage : RecoverStage) → StepShows room stage
   recover_step room recovers.LoadsCounter at here k s = counter_step recovery room here k.0 at k.1 s
   recover_step room (recovers.LoadsCell index) at here k s = cell_step recovery room index here k.0 at k.1 s k.2
   recover_step room (recovers.LoadsCount index) at here k s = count_step recovery room index here k.0 at k.1 s k.2
@@ -202,11 +210,11 @@ module _ {T : Type 0} (recovery : Recovery T) where
   recover_step room recovers.LoadsCounterAgain at here k s = again_step room here k.0 at k.1 s k.2
   recover_step room (recovers.AddsChange state) at here k s = end_step room state here k.1 s
 
-  -- any answer to a question of a recovery shows what it has to
+  -- a recovery that waits at its question keeps the invariant, whatever it is told
   pub recover_decided : (room : buffers.Buffer 128) (index count : ℕ)
       → RecoverAt c z (all scene) (done scene) owner mode (recovers.Asks index count)
-      → Here recovery room (recovers.Asks index count)
+      → IsAtStage recovery room (recovers.Asks index count)
       → Knows code c (recover_at c owner mode room (recovers.Asks index count)) (sees_now scene)
       → steps ≤ recover_number c z mode (recovers.Asks index count) backs → (answer : ℕ)
       → AnswerOf scene (Recover owner mode) (recover_at c owner mode room (recovers.Asks index count)) None answer
-  recover_decided room index count at here knows s answer = decided recovery room index count at here knows.0 knows.1 s knows.2 answer
+  recover_decided room index count stands here knows few_steps answer = decided recovery room index count stands here knows.0 knows.1 few_steps knows.2 answer

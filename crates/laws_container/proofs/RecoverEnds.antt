@@ -1,4 +1,6 @@
--- The steps of a recovery behind its question: it empties the cell, and hides what stands there.
+-- The steps of a recovery behind its question at an index: it empties the cell, if that has its owner still,
+-- and then hides what stands there, unless the number of the element has changed. What a step has to show is
+-- said by `StepOf` and `Leads` of `Stages`.
 use Rattle.laws_container.proofs.Names.{◌≡◌, ◌≢◌, ◌⊎◌, ⊎_elim, inl, inr, ℕ, ◌+◌, ◌*◌, ◌%◌, ◌≤◌, ◌==◌}
 use Rattle.laws_container.proofs.Names.{if◌then◌else◌, Bool, false, true, Option, Some, None, List, [], ◌∷◌, ◌++◌}
 use Rattle.laws_container.proofs.Names.{set, refl, sym, ap, subst, ◌∙◌, append-nil, arith, nat_tests, fold-append}
@@ -19,13 +21,13 @@ use Rattle.laws_container.specs.Gone.{FreedBy}
 use Rattle.laws_container.proofs.Core.{count_at}
 use Rattle.laws_container.proofs.HiddenKnows.{StillStands}
 use Rattle.laws_container.proofs.HiddenOn.{hidden_even, hidden_other, hidden_freed, hides_it}
-use Rattle.laws_container.proofs.Invariant.{Does, before, after, of_set, inv_of_set}
+use Rattle.laws_container.proofs.Invariant.{KeepsInvariant, before, after, of_set, inv_of_set}
 use Rattle.laws_container.proofs.KeptLocks.{NoIndex, FilledBut}
 use Rattle.laws_container.proofs.Knows.{Recovers, RecoverKnows, IsLong, Knows}
 use Rattle.laws_container.proofs.Left.{left_after, left_of}
 use Rattle.laws_container.proofs.RecoverParts.{Recovery, fill_same, none, hidden_still, as_recover, first, Few, then_at}
 use Rattle.laws_container.proofs.RecoverParts.{stays_does, go_on, recs, fills_on, asked_on, told_none, comes_to_next}
-use Rattle.laws_container.proofs.RecoverReads.{Here, Becomes, Goes, Course, course_calm, calm_recs, calm_on, index_at_least}
+use Rattle.laws_container.proofs.RecoverReads.{IsAtStage, LeadsOn, LeadsToStage, IsInCourseAt, course_calm, calm_recs, calm_on, index_at_least}
 use Rattle.laws_container.proofs.Recoveries.{rehidden, one_of_none, has_of_none, has_latest, was_act, course_then}
 use Rattle.laws_container.proofs.SetSteps.{rest_set, wide_set, frees}
 use Rattle.laws_container.proofs.Stages.{all, done, sees_now, then_sees, StepOf, Leads, none_lengthens, backs_then, since_then, changes_then, was_well_formed}
@@ -35,6 +37,7 @@ use Rattle.laws_container.proofs.Turns.{owes, count_in}
 use Rattle.laws_container.proofs.Writing.{even_is, odd_is, hides_count}
 use Rattle.laws_robust.proofs.Cases.{on_bool}
 
+-- a recovery of `owner` in mode `mode` is under way, by party `p` of the scene
 module _ {T : Type 0} (recovery : Recovery T) where
   open recovery use {scene, inv, owner, mode, fits}
   open recovery.scene use {coding as code, capacity as c, party as p, steps, backs, events, latest}
@@ -47,12 +50,13 @@ module _ {T : Type 0} (recovery : Recovery T) where
 
   -- ---- a step on the counter
 
-  module _ (room : buffers.Buffer 128) (stage : RecoverStage) (here : Here recovery room stage) (long : IsLong room) (ask : Option Ask) (back : Bool)
+  -- the recovery has come past `index`, and takes a step that leaves all words but the counter
+  module _ (room : buffers.Buffer 128) (stage : RecoverStage) (here : IsAtStage recovery room stage) (long : IsLong room) (ask : Option Ask) (back : Bool)
       (stays : set_effects.Stays (of_set scene) (words_after ws ask))
       (paid : backs_then scene back + since_then scene ask ≤ changes_then scene ask) (index : ℕ)
       (rec : Recovers code c owner (index + 1) none none (sees_now scene)) where
-    -- over a step that leaves all words but the counter, and writes nothing, a recovery that
-    -- has come past an index knows what it knew
+    -- what a recovery that has come past an index knows it knows after a step that leaves all words but the
+    -- counter and writes nothing
     pub stays_recs : (y : Party T) → Recovers code c owner (index + 1) none none (then_sees scene ask back scene.states y [])
     stays_recs y =
         let goes = (set_effects.quietly (of_set scene) (inv_of_set scene inv) (words_after ws ask) [] stays.leaves set_effects.quiet_none tt tt tt).goes in
@@ -60,25 +64,25 @@ module _ {T : Type 0} (recovery : Recovery T) where
         (asked_on recovery room stage here ask back y [] tt tt none_lengthens goes (index + 1) rec.asked)
         (told_none recovery room stage here) (λ i e. absurd e) (λ i e. absurd e) (hidden_still recovery room stage here ask y rec.hidden)
 
-    -- a recovery goes on from a step that leaves all words but the counter, and writes nothing,
-    -- where the next stage's conditions hold
+    -- a step that leaves all words but the counter, and writes nothing, leads a recovery to the stage `next`,
+    -- where the conditions of that stage hold
     pub stays_on : (next : RecoverStage)
         → steps + step_count ask ≤ recover_number c z mode next (backs_then scene back)
         → RecoverAt c z (all scene ++ []) (done scene ++ []) owner mode next
         → Knows code c (recover_at c owner mode room next)
         (then_sees scene ask back scene.states (then_at recovery room stage here room next ask back) [])
-        → Goes recovery ask back [] room next
-    stays_on next few at known =
+        → LeadsToStage recovery ask back [] room next
+    stays_on next few stands known =
         go_on recovery room stage here room next ask back [] none_lengthens (stays_does recovery room stage here (words_after ws ask) stays
         (then_at recovery room stage here room next ask back) refl)
-        tt few at known
+        tt few stands known
 
-    -- a step that leaves all words but the counter, and writes nothing, brings a recovery to
-    -- the next index, or to its last steps
+    -- a step that leaves all words but the counter, and writes nothing, brings a recovery to the next index,
+    -- or behind the last one to its last load of the counter
     pub stays_next : Few recovery ask back 1 (index + 1)
-        → Course recovery index (index + 1)
+        → IsInCourseAt recovery index (index + 1)
         → FilledBut (IsWorn scene.terms.by (words_after ws ask)) mode p owner NoIndex (events ++ [])
-        → Becomes recovery ask back [] room (recover_comes_to (first recovery) (index + 1))
+        → LeadsOn recovery ask back [] room (recover_comes_to (first recovery) (index + 1))
     stays_next few course fill =
         comes_to_next recovery room stage here long ask back [] none_lengthens tt
         (λ y owe. stays_does recovery room stage here (words_after ws ask) stays y owe) index few
@@ -89,11 +93,13 @@ module _ {T : Type 0} (recovery : Recovery T) where
 
   -- ---- the exchange of a cell
 
-  module _ (room : buffers.Buffer 128) (index count : ℕ) (here : Here recovery room (recovers.EmptiesCell index count)) (long : IsLong room)
+  -- the recovery empties the cell of `index`, after a yes or after it was shown under the number `count` that
+  -- nothing stands there
+  module _ (room : buffers.Buffer 128) (index count : ℕ) (here : IsAtStage recovery room (recovers.EmptiesCell index count)) (long : IsLong room)
       (stands : RecoverAt c z (all scene) (done scene) owner mode (recovers.EmptiesCell index count))
-      (k : RecoverKnows code c owner mode room (recovers.EmptiesCell index count) (sees_now scene))
-      (s : steps ≤ 4 + z + index * for_index c z mode + backs * for_back c z mode)
-      (f : FilledBut (IsWorn scene.terms.by ws) mode p owner NoIndex events) where
+      (knows : RecoverKnows code c owner mode room (recovers.EmptiesCell index count) (sees_now scene))
+      (few_steps : steps ≤ 4 + z + index * for_index c z mode + backs * for_back c z mode)
+      (filled_since : FilledBut (IsWorn scene.terms.by ws) mode p owner NoIndex events) where
     abbrev empty_it : Option Ask
     empty_it = Some (exchanges (cell_word index) owner empty)
 
@@ -101,10 +107,11 @@ module _ {T : Type 0} (recovery : Recovery T) where
     freeing = FreedOf p index owner ∷ []
 
     paid_now : backs_then scene false + since_then scene empty_it ≤ changes_then scene empty_it
-    paid_now = let paid = k.0 in omega arith
+    paid_now = let paid = knows.0 in omega arith
 
-    -- the cell has another owner by now, or none
-    misses : cell ws index ≢ owner → Becomes recovery empty_it false [] room (recover_comes_to (first recovery) (index + 1))
+    -- where the cell has another owner by now, or none, the recovery frees nothing and goes
+    -- on to the next index
+    misses : cell ws index ≢ owner → LeadsOn recovery empty_it false [] room (recover_comes_to (first recovery) (index + 1))
     misses other =
         let same = fails_same ws (cell_word index) owner empty other in
         let wide = index_at_least c z mode in
@@ -115,13 +122,14 @@ module _ {T : Type 0} (recovery : Recovery T) where
         (λ y owe. stays_does recovery room stage here (words_after ws empty_it) stays y owe) index (omega arith) stands.0.within
         (λ i low. course_calm recovery index (index + 1) i (index + 1) stands.0 low (omega arith)) paid_now
         (λ y. recs recovery room stage here empty_it false y [] tt tt none_lengthens goes
-        (index + 1) (index + 1) (λ i. i ≡ index) none none none none k.1
-        (asked_on recovery room stage here empty_it false y [] tt tt none_lengthens goes (index + 1) k.1.asked) (told_none recovery room stage here)
+        (index + 1) (index + 1) (λ i. i ≡ index) none none none none knows.1
+        (asked_on recovery room stage here empty_it false y [] tt tt none_lengthens goes (index + 1) knows.1.asked) (told_none recovery room stage here)
         (λ i e. inl (λ filled. other (inv.good.cells index stands.0.within
         ∙ ap cell_of
         (subst (λ n. filled_of n events ≡ Some owner) e (subst (λ es. filled_of i es ≡ Some owner) (append-nil events) filled)))))
-        (λ i e. absurd e) (hidden_still recovery room stage here empty_it y k.1.hidden)) (fill_same recovery empty_it same NoIndex f)
+        (λ i e. absurd e) (hidden_still recovery room stage here empty_it y knows.1.hidden)) (fill_same recovery empty_it same NoIndex filled_since)
 
+    -- the cell has the recovery's owner still
     module _ (is : cell ws index ≡ owner) where
       new : words_after ws empty_it ≡ set ws (cell_word index) empty
       new = exchange_sets ws (cell_word index) owner empty is
@@ -144,18 +152,19 @@ module _ {T : Type 0} (recovery : Recovery T) where
           set_frees.frees (of_set scene) (inv_of_set scene inv) (words_after ws empty_it) index owner
           stands.0.within filled (subst (LivesToRelease owner events) (sym here.span) tt)
           (λ calm q ne o alive h. let same : owner ≡ o = one_owner (filled_of index events) owner o filled h.filled in
-          both_ways (is_gone scene.terms.by o events) alive (subst (λ n. is_gone scene.terms.by n events ≡ true) same k.1.dead))
+          both_ways (is_gone scene.terms.by o events) alive (subst (λ n. is_gone scene.terms.by n events ≡ true) same knows.1.dead))
           (λ calm o alive h.
           let theirs = ((inv.good.owned (calm_less scene.terms.by events freeing calm)).settled index o h).0 in
           let same : owner ≡ o = one_owner (filled_of index events) owner o filled theirs in
-          both_ways (is_gone scene.terms.by o events) alive (subst (λ n. is_gone scene.terms.by n events ≡ true) same k.1.dead))
+          both_ways (is_gone scene.terms.by o events) alive (subst (λ n. is_gone scene.terms.by n events ≡ true) same knows.1.dead))
           new
 
+      -- the recovery was told to free the index, or was shown that nothing stood there
       was_known : IsOneOf (Yes index owner) (all scene) ⊎ WasShown p index events
       was_known = grind (arith, inl, by_latest, all, inr, has_latest, done)
 
       -- the exchange that empties the cell does for the machine what freeing the index does
-      does : (y : Party T) → owes (flight_of (Some y.doing)) ≡ true → Does scene (words_after ws empty_it) scene.states y freeing
+      does : (y : Party T) → owes (flight_of (Some y.doing)) ≡ true → KeepsInvariant scene (words_after ws empty_it) scene.states y freeing
       does y owe =
           frees scene inv (Recover owner mode) (recover_at c owner mode room (recovers.EmptiesCell index count)) tt here y (words_after ws empty_it)
           (rest_set scene inv (Recover owner mode)
@@ -165,9 +174,10 @@ module _ {T : Type 0} (recovery : Recovery T) where
           (recover_at c owner mode room (recovers.EmptiesCell index count)) tt here y
           (words_after ws empty_it) (cell_word index) empty new)
           index owner set_does (was_well_formed scene (Recover owner mode) tt here.span (words_after ws empty_it) y freeing (refl, tt)) (λ was. owe)
-          (subst (FreedBy scene.terms.by p index owner events) (sym here.span) (refl, k.1.dead, was_known))
+          (subst (FreedBy scene.terms.by p index owner events) (sym here.span) (refl, knows.1.dead, was_known))
 
-      -- once the cell is empty the recovery has come past the index, and what stood there under the number still stands
+      -- once the cell is empty the recovery has come past the index, and what stood there under the number
+      -- still stands there
       recs_freed : (y : Party T)
           → Recovers code c owner (index + 1) none
           (StillStands code c index count (after scene (words_after ws empty_it) y freeing))
@@ -175,9 +185,9 @@ module _ {T : Type 0} (recovery : Recovery T) where
       recs_freed y =
           recs recovery room (recovers.EmptiesCell index count) here empty_it false y
           freeing (refl, tt) tt (λ start w. refl) set_does.goes (index + 1) (index + 1) (λ i. i ≡ index) none none
-          none (StillStands code c index count (after scene (words_after ws empty_it) y freeing)) k.1
+          none (StillStands code c index count (after scene (words_after ws empty_it) y freeing)) knows.1
           (asked_on recovery room (recovers.EmptiesCell index count) here empty_it
-          false y freeing (refl, tt) tt (λ start w. refl) set_does.goes (index + 1) k.1.asked)
+          false y freeing (refl, tt) tt (λ start w. refl) set_does.goes (index + 1) knows.1.asked)
           (λ i said. inl
           (⊎_elim (λ yes. ⊎_elim (λ had. inl had) (λ e. absurd (cc)) (was_one (Yes i owner) (Frees index owner) (all scene) yes))
           (λ seen. inr (has_of_none (Sees i) (done scene) seen)) said))
@@ -185,9 +195,10 @@ module _ {T : Type 0} (recovery : Recovery T) where
           (fold-append (filled_after i) None events freeing ∙ at_same index i None (filled_of i events) e) now))
           (λ i e. absurd e)
           (hidden_freed scene (Recover owner mode) tt here.span owner inv index count stands.0.within
-          (words_after ws empty_it) y stays_count k.1.hidden (λ earlier holds. k.4 earlier filled))
+          (words_after ws empty_it) y stays_count knows.1.hidden (λ earlier holds. knows.4 earlier filled))
 
-      -- nothing stands there under an even number
+      -- where the number is even nothing stands at the freed index, so all that the recovery
+      -- has freed is hidden
       recs_empty : is_even count ≡ true → (y : Party T) → owes (flight_of (Some y.doing)) ≡ true
           → Recovers code c owner (index + 1) none none (then_sees scene empty_it false scene.states y freeing)
       recs_empty even y owe =
@@ -197,17 +208,17 @@ module _ {T : Type 0} (recovery : Recovery T) where
           (hidden_even code c p owner index count (after scene (words_after ws empty_it) y freeing)
           (does y owe).changes.whole stands.0.within (even_is count even) (recs_freed y).hidden)
 
-      -- once the cell is empty, what a call that may lock has to show of each index that it has
-      -- freed is shown of all but this one
+      -- what a recovery that may lock has to show of each index that it has freed, it has shown of all but
+      -- the one that it frees now
       fills_freed : (y : Party T) → FilledBut (IsWorn scene.terms.by (words_after ws empty_it)) mode p owner (λ i. i ≡ index) (events ++ freeing)
       fills_freed y =
           fills_on recovery room (recovers.EmptiesCell index count) here empty_it false
           y freeing (refl, tt) tt (λ start w. refl) set_does.goes NoIndex (λ i. i ≡ index)
           (λ i was. ⊎_elim (λ had. inl had) (λ e. let same : index ≡ i = cc in inr (sym same))
           (was_one (Frees i owner) (Frees index owner) (all scene) was))
-          (λ i e. absurd e) f
+          (λ i e. absurd e) filled_since
 
-      -- the recovery that has freed an index it had asked about, or was shown, is in its course
+      -- the recovery has asked about the index that it has freed, or was shown it, and keeps its course
       course_freed : IsInCourse c z (all scene ++ Frees index owner ∷ []) (done scene ++ []) owner index (index + 1)
       course_freed =
           course_then c z (all scene) (Frees index owner ∷ []) (done scene) [] owner index (index + 1) index
@@ -218,37 +229,39 @@ module _ {T : Type 0} (recovery : Recovery T) where
           (⊎_elim (λ yes. inl yes.1) (λ shown. inr (has_latest (Sees index) (done scene) shown)) stands.1)))
           (was_one (Frees j owner) (Frees index owner) (all scene) was))
 
-      -- the exchange that finds the owner leads on, to the hiding if the number is odd and else to the counter
+      -- an exchange that empties the cell leads on: to hiding what stands there if the number is odd, and to
+      -- the raise of the counter if it is even
       empties : (b : Bool) → is_even count ≡ b
           → Leads scene (Recover owner mode) empty_it false scene.states freeing (as_recover recovery room
           (if b then recover_raises (first recovery) index else GoOn (record (first recovery) { stage = recovers.Hides index count })))
-      empties true t =
+      empties true even_test =
           let party_after = then_at recovery room (recovers.EmptiesCell index count) here room (recovers.Raises index raises.LoadsCounter) empty_it false in
           go_on recovery room (recovers.EmptiesCell index count) here room (recovers.Raises index raises.LoadsCounter) empty_it false freeing
           (λ start w. refl) (does party_after refl)
           ((refl, ⊎_elim (λ yes. inl yes.0) (λ shown. inr shown) stands.1), tt) (omega arith)
           (course_freed, record { index = index; owner = owner; latest = record { before = all scene; is = refl } })
-          (long, (paid_now, recs_empty t party_after refl), fills_freed party_after)
-      empties false t =
+          (long, (paid_now, recs_empty even_test party_after refl), fills_freed party_after)
+      empties false even_test =
           let party_after = then_at recovery room (recovers.EmptiesCell index count) here room (recovers.Hides index count) empty_it false in
           go_on recovery room (recovers.EmptiesCell index count) here room
           (recovers.Hides index count) empty_it false freeing (λ start w. refl) (does party_after refl)
           ((refl, ⊎_elim (λ yes. inl yes.0) (λ shown. inr shown) stands.1), tt) (omega arith)
-          (course_freed, odd_is count t, record { before = all scene; is = refl }) (
+          (course_freed, odd_is count even_test, record { before = all scene; is = refl }) (
             long,
             (
               paid_now,
               recs_freed party_after,
               record {
                 within = stands.0.within;
-                below = λ kept. let low = k.3 kept in let same = stays_count in omega arith;
+                below = λ kept. let low = knows.3 kept in let same = stays_count in omega arith;
                 left = λ well_formed eq. fold-append (left_after index) true events freeing ∙ at_same index index true (left_of index events) refl;
               },
             ),
             fills_freed party_after,
           )
 
-    -- the step in which a recovery empties the cell shows what it has to, whether it finds the owner or another
+    -- the step in which a recovery empties the cell: it frees the index if the cell has its owner, and else
+    -- goes to the next index
     pub empties_step : StepOf scene (Recover owner mode) (recover_at c owner mode room (recovers.EmptiesCell index count))
     empties_step =
         on_bool (λ b. Leads scene (Recover owner mode) (Some (exchanges (cell_word index) owner empty)) false scene.states
@@ -263,11 +276,12 @@ module _ {T : Type 0} (recovery : Recovery T) where
 
   -- ---- what stands there is hidden
 
-  module _ (room : buffers.Buffer 128) (index count : ℕ) (here : Here recovery room (recovers.Hides index count)) (long : IsLong room)
+  -- the recovery has freed `index`, and hides the element there if it has the odd number `count` still
+  module _ (room : buffers.Buffer 128) (index count : ℕ) (here : IsAtStage recovery room (recovers.Hides index count)) (long : IsLong room)
       (stands : RecoverAt c z (all scene) (done scene) owner mode (recovers.Hides index count))
-      (k : RecoverKnows code c owner mode room (recovers.Hides index count) (sees_now scene))
-      (s : steps ≤ 5 + z + index * for_index c z mode + backs * for_back c z mode)
-      (f : FilledBut (IsWorn scene.terms.by ws) mode p owner (λ i. i ≡ index) events) where
+      (knows : RecoverKnows code c owner mode room (recovers.Hides index count) (sees_now scene))
+      (few_steps : steps ≤ 5 + z + index * for_index c z mode + backs * for_back c z mode)
+      (filled_since : FilledBut (IsWorn scene.terms.by ws) mode p owner (λ i. i ≡ index) events) where
     abbrev hide_it : Option Ask
     hide_it = Some (exchanges (count_word c index) count (one_more count))
 
@@ -281,19 +295,21 @@ module _ {T : Type 0} (recovery : Recovery T) where
     next = recovers.Raises index raises.LoadsCounter
 
     paid_hide : backs_then scene false + since_then scene hide_it ≤ changes_then scene hide_it
-    paid_hide = let paid = k.0 in omega arith
+    paid_hide = let paid = knows.0 in omega arith
 
+    -- the latest act of the recovery on the set was to free an index
     just : HasJustFreed (all scene)
     just = record { index = index; owner = owner; latest = stands.2 }
 
-    -- the step in which a recovery hides what stands at an index shows what it has to, whether
-    -- it finds the number or another
+    -- the step in which a recovery hides what stands at a freed index: it goes on to the raise of the
+    -- counter, whether it finds the loaded number or another one
     pub hides_step : StepOf scene (Recover owner mode) (recover_at c owner mode room (recovers.Hides index count))
     hides_step =
         on_bool (λ b. Leads scene (Recover owner mode) (Some (exchanges (count_word c index) count (one_more count))) false
         scene.states ((if b then Hidden p index ∷ [] else []) ++ [])
         (as_recover recovery room (recover_raises (first recovery) index)))
         (count_now == count)
+        -- the number is the one that was loaded: the step hides what stood there
         (λ t.
         let same_count : count_now ≡ count = grind (arith, nat_tests) in
         let party_after = then_at recovery room (recovers.Hides index count) here room next hide_it false in
@@ -303,32 +319,35 @@ module _ {T : Type 0} (recovery : Recovery T) where
         (recover_at c owner mode room (recovers.Hides index count)) tt here party_after
         (words_after ws hide_it) index stands.0.within (hides_count scene inv index count stands.0.within same_count)
         refl odd
-        (λ holds q ne o theirs fresh. both_ways (left_of index events) fresh (k.2.left holds same_count))
+        (λ holds q ne o theirs fresh. both_ways (left_of index events) fresh (knows.2.left holds same_count))
         (was_well_formed scene (Recover owner mode) tt here.span (words_after ws hide_it) party_after hiding (refl, tt)) in
         go_on recovery room (recovers.Hides index count) here room next hide_it
         false hiding (λ start w. refl) does (stands.2, tt) (omega arith) (
+          -- the recovery keeps its course: the step frees no index, and asks about none
           course_then c z (all scene) [] (done scene) (acts hiding) owner index (index + 1) index (index + 1)
               stands.0 stands.0.within (omega arith) tt tt
               (λ j was. inl (one_of_none (Frees j owner) (all scene) was)),
           just_on just,
         ) (
+          -- what the recovery knows then: all that it has freed is hidden
           long,
           (
             paid_hide,
             recs recovery room (recovers.Hides index count) here hide_it false party_after
                 hiding (refl, tt) tt (λ start w. refl) does.set.goes (index + 1) (index + 1) none none none
-                (StillStands code c index count (before scene)) none k.1 (asked_on recovery room (recovers.Hides index count) here hide_it
-                false party_after hiding (refl, tt) tt (λ start w. refl) does.set.goes (index + 1) k.1.asked)
+                (StillStands code c index count (before scene)) none knows.1 (asked_on recovery room (recovers.Hides index count) here hide_it
+                false party_after hiding (refl, tt) tt (λ start w. refl) does.set.goes (index + 1) knows.1.asked)
                 (λ i said. inl (⊎_elim (λ yes. inl (one_of_none (Yes i owner) (all scene) yes))
                 (λ seen. ⊎_elim (λ had. inr had) (λ e. absurd (cc)) (was_act (Sees i) (HidesOne index) (done scene) seen))
                 said))
                 (λ i e. absurd e) (λ i e. absurd e)
-                (hides_it scene (Recover owner mode) tt here.span owner (words_after ws hide_it) party_after index count k.1.hidden),
+                (hides_it scene (Recover owner mode) tt here.span owner (words_after ws hide_it) party_after index count knows.1.hidden),
           ),
           fills_on recovery room (recovers.Hides index count) here hide_it false party_after
               hiding (refl, tt) tt (λ start w. refl) does.set.goes (λ i. i ≡ index) (λ i. i ≡ index)
-              (λ i was. inl (one_of_none (Frees i owner) (all scene) was)) (λ i e. e) f,
+              (λ i was. inl (one_of_none (Frees i owner) (all scene) was)) (λ i e. e) filled_since,
         ))
+        -- the number is another one: another call has hidden what stood there, and the step changes nothing
         (λ t.
         let other : count_now ≢ count = grind (arith, nat_tests) in
         let same = fails_same ws (count_word c index) count (one_more count) other in
@@ -340,7 +359,7 @@ module _ {T : Type 0} (recovery : Recovery T) where
             calm_recs recovery room (recovers.Hides index count) here long hide_it same
                 false paid_hide (then_at recovery room (recovers.Hides index count) here room next hide_it false) (index + 1)
                 (rehidden code c owner (index + 1) none (StillStands code c index count (before scene)) none
-                (sees_now scene) k.1 (hidden_other code c p owner index count (before scene) other k.1.hidden)),
+                (sees_now scene) knows.1 (hidden_other code c p owner index count (before scene) other knows.1.hidden)),
           ),
-          fill_same recovery hide_it same (λ i. i ≡ index) f,
+          fill_same recovery hide_it same (λ i. i ≡ index) filled_since,
         ))

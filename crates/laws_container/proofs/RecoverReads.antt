@@ -1,4 +1,6 @@
--- The steps of a recovery up to its question: the counter, a cell, the number of an element, its copy, and the answer.
+-- The steps of a recovery before its question: it loads the counter; then at each index the cell, the number
+-- of the element, and, under an odd number, its words (`RecoverWords`). What a step has to show is said by
+-- `StepOf` and `Leads` of `Stages`.
 use Rattle.laws_container.proofs.Names.{◌≡◌, ◌≢◌, ◌⊎◌, ⊎_elim, inl, inr, ℕ, ◌+◌, ◌*◌, ◌<◌, ◌≤◌, ◌==◌, if◌then◌else◌}
 use Rattle.laws_container.proofs.Names.{nat_lt, Bool, false, true, Option, Some, None, is_some, List, [], ◌∷◌, ◌++◌}
 use Rattle.laws_container.proofs.Names.{refl, sym, ap, subst, ◌∙◌, append-nil, arith, nat_tests, Ask, After, GoOn}
@@ -28,7 +30,7 @@ use Rattle.laws_container.proofs.RecoverParts.{Recovery, fill_same, none, hidden
 use Rattle.laws_container.proofs.RecoverParts.{go_on, recs, fills_on, asked_on, asked_more, told_none, comes_to_next}
 use Rattle.laws_container.proofs.Recoveries.{one_of_none, was_act, course_then}
 use Rattle.laws_container.proofs.Silent.{silent_set}
-use Rattle.laws_container.proofs.Stages.{IsHere, all, done, sees_now, then_sees, ShowsThen, StepOf, Leads}
+use Rattle.laws_container.proofs.Stages.{IsUnderWay, all, done, sees_now, then_sees, ShowsThen, StepOf, Leads}
 use Rattle.laws_container.proofs.Stages.{none_lengthens, backs_then, since_then, changes_then, acts_more}
 use Rattle.laws_container.proofs.Stages.{was_well_formed}
 use Rattle.laws_container.proofs.CallProgress.{recover_at, recover_number, for_back, for_index, AreBelow, IsInCourse, RecoverAt}
@@ -48,6 +50,7 @@ pub index_at_least : (c z : ℕ) (mode : ReleaseMode) → z + 7 ≤ for_index c 
 index_at_least c z Default = omega arith
 index_at_least c z LockIfLastIndex = omega arith
 
+-- a recovery of `owner` in mode `mode` is under way, by party `p` of the scene
 module _ {T : Type 0} (recovery : Recovery T) where
   open recovery use {scene, inv, owner, mode, fits}
   open recovery.scene use {coding as code, capacity as c, party as p, steps, backs, events}
@@ -58,25 +61,30 @@ module _ {T : Type 0} (recovery : Recovery T) where
   abbrev z : ℕ
   z = code.size
 
-  abbrev pub Here : buffers.Buffer 128 → RecoverStage → Type 0
-  Here room stage = IsHere scene (Recover owner mode) (recover_at c owner mode room stage)
+  -- the party's call under way is this recovery, at this stage, with this room for its copy
+  abbrev pub IsAtStage : buffers.Buffer 128 → RecoverStage → Type 0
+  IsAtStage room stage = IsUnderWay scene (Recover owner mode) (recover_at c owner mode room stage)
 
-  abbrev pub Goes : Option Ask → Bool → List (Event T) → buffers.Buffer 128 → RecoverStage → Type 0
-  Goes ask back es room next =
+  -- a step with the operation `ask` that writes `es` leads the recovery to stage `next`
+  abbrev pub LeadsToStage : Option Ask → Bool → List (Event T) → buffers.Buffer 128 → RecoverStage → Type 0
+  LeadsToStage ask back es room next =
       ShowsThen scene (Recover owner mode) ask back scene.states es (GoOn (recover_at c owner mode room next))
 
-  abbrev pub Becomes : Option Ask → Bool → List (Event T) → buffers.Buffer 128 → After (recover_calls.Recover T (buffers.Buffer 128)) ReleaseState → Type 0
-  Becomes ask back es room a =
+  -- a step with the operation `ask` that writes `es` leads to what becomes of the recovery
+  abbrev pub LeadsOn : Option Ask → Bool → List (Event T) → buffers.Buffer 128 → After (recover_calls.Recover T (buffers.Buffer 128)) ReleaseState → Type 0
+  LeadsOn ask back es room a =
       ShowsThen scene (Recover owner mode) ask back scene.states es (as_recover recovery room a)
 
-  abbrev pub Course : ℕ → ℕ → Type 0
-  Course index bound = IsInCourse c z (all scene) (done scene) owner index bound
+  -- the recovery is at `index`, has seen indices below `bound`, and has asked about each that it has freed,
+  -- or was shown it
+  abbrev pub IsInCourseAt : ℕ → ℕ → Type 0
+  IsInCourseAt index bound = IsInCourse c z (all scene) (done scene) owner index bound
 
   right_none : (words' : List ℕ) (y : Party T) → AreAllRight scene words' y []
   right_none = grind arith
 
-  -- a recovery keeps its course over a step that writes nothing
-  pub course_calm : (index bound index' bound' : ℕ) → Course index bound → index' < c → bound ≤ bound'
+  -- a recovery keeps its course over a step that writes nothing, and may move on to a higher bound
+  pub course_calm : (index bound index' bound' : ℕ) → IsInCourseAt index bound → index' < c → bound ≤ bound'
       → IsInCourse c z (all scene ++ []) (done scene ++ []) owner index' bound'
   course_calm index bound index' bound' on_course low more =
       course_then c z (all scene) [] (done scene) [] owner index bound index' bound' on_course low more tt tt
@@ -84,10 +92,11 @@ module _ {T : Type 0} (recovery : Recovery T) where
 
   -- ---- any step that changes and writes nothing
 
-  module _ (room : buffers.Buffer 128) (stage : RecoverStage) (here : Here room stage) (long : IsLong room)
+  -- the recovery is at `stage`, and takes a step that leaves the words
+  module _ (room : buffers.Buffer 128) (stage : RecoverStage) (here : IsAtStage room stage) (long : IsLong room)
       (ask : Option Ask) (same : words_after ws ask ≡ ws) (back : Bool)
       (paid : backs_then scene back + since_then scene ask ≤ changes_then scene ask) where
-    -- what it knows of what it has lost and asked about
+    -- what a recovery knows of the indices below `k` it knows after a step that changes and writes nothing
     pub calm_recs : (y : Party T) (k : ℕ) → Recovers code c owner k none none (sees_now scene)
         → Recovers code c owner k none none (then_sees scene ask back scene.states y [])
     calm_recs y k recovers_so_far =
@@ -96,7 +105,7 @@ module _ {T : Type 0} (recovery : Recovery T) where
         none none recovers_so_far (asked_on recovery room stage here ask back y [] tt tt none_lengthens goes k recovers_so_far.asked)
         (told_none recovery room stage here) (λ i e. absurd e) (λ i e. absurd e) (hidden_still recovery room stage here ask y recovers_so_far.hidden)
 
-    -- a recovery that has asked about an index, or was shown it, or need not free it, has come past it
+    -- a recovery that has asked about index `k`, or was shown it, or need not free it, has come past it
     calm_recs_more : (y : Party T) (k : ℕ) → Recovers code c owner k none none (sees_now scene)
         → (HeldThroughout p (StillToFree p owner k) (events ++ [])
         → IsOneOf (Asks k owner) (set_acts_of p (events ++ [])) ⊎ WasShown p k (events ++ []))
@@ -107,26 +116,28 @@ module _ {T : Type 0} (recovery : Recovery T) where
         none none none recovers_so_far (asked_more recovery room stage here ask back y [] tt tt none_lengthens goes k recovers_so_far.asked now)
         (told_none recovery room stage here) (λ i e. absurd e) (λ i e. absurd e) (hidden_still recovery room stage here ask y recovers_so_far.hidden)
 
-    -- a recovery goes on from a step that changes and writes nothing, where the next stage's conditions hold
+    -- a step that changes and writes nothing leads a recovery to the stage `next`, where the conditions of
+    -- that stage hold
     pub calm_on : (room' : buffers.Buffer 128) (next : RecoverStage)
         → steps + step_count ask ≤ recover_number c z mode next (backs_then scene back)
         → RecoverAt c z (all scene ++ []) (done scene ++ []) owner mode next
         → Knows code c (recover_at c owner mode room' next)
         (then_sees scene ask back scene.states (then_at recovery room stage here room' next ask back) [])
-        → Goes ask back [] room' next
-    calm_on room' next few at known =
+        → LeadsToStage ask back [] room' next
+    calm_on room' next few stands known =
         let party_after = then_at recovery room stage here room' next ask back in
         go_on recovery room stage here room' next ask back [] none_lengthens (reads_does recovery room stage here (words_after ws ask) same party_after [] tt tt
         (right_none (words_after ws ask) party_after) refl)
-        tt few at known
+        tt few stands known
 
-    -- a step that changes and writes nothing brings a recovery to the next index, or to its last steps
+    -- a step that changes and writes nothing brings a recovery to the next index, or behind the last one to
+    -- its last load of the counter
     pub calm_next : (index : ℕ)
         → steps + step_count ask ≤ 1 + (index + 1) * for_index c z mode + backs_then scene back * for_back c z mode
-        → Course index index ⊎ Course index (index + 1)
+        → IsInCourseAt index index ⊎ IsInCourseAt index (index + 1)
         → ((y : Party T) → Recovers code c owner (index + 1) none none (then_sees scene ask back scene.states y []))
         → FilledBut (IsWorn scene.terms.by ws) mode p owner NoIndex events
-        → Becomes ask back [] room (recover_comes_to (first recovery) (index + 1))
+        → LeadsOn ask back [] room (recover_comes_to (first recovery) (index + 1))
     calm_next index few course rec filled_but =
         comes_to_next recovery room stage here long ask back [] none_lengthens tt
         (λ y owe. reads_does recovery room stage here (words_after ws ask) same y [] tt tt (right_none (words_after ws ask) y) owe)
@@ -137,17 +148,19 @@ module _ {T : Type 0} (recovery : Recovery T) where
 
   -- ---- the counter
 
-  module _ (room : buffers.Buffer 128) (here : Here room recovers.LoadsCounter) (long : IsLong room)
-      (at : RecoverAt c z (all scene) (done scene) owner mode recovers.LoadsCounter)
-      (k : RecoverKnows code c owner mode room recovers.LoadsCounter (sees_now scene)) (s : steps ≤ 0) where
+  -- the recovery is at its first step, in which it loads the counter
+  module _ (room : buffers.Buffer 128) (here : IsAtStage room recovers.LoadsCounter) (long : IsLong room)
+      (stands : RecoverAt c z (all scene) (done scene) owner mode recovers.LoadsCounter)
+      (knows : RecoverKnows code c owner mode room recovers.LoadsCounter (sees_now scene)) (few_steps : steps ≤ 0) where
     abbrev load_counter : Option Ask
     load_counter = Some (set_stages.loads 0)
 
-    -- it has freed nothing yet
+    -- a recovery at its first step has freed no index, so there is nothing to hide
     nothing_freed : HasHidden code c p owner none (before scene)
-    nothing_freed holds i was = absurd (no_more was.before (Frees i owner) was.after (sym at.0 ∙ was.is))
+    nothing_freed holds i was = absurd (no_more was.before (Frees i owner) was.after (sym stands.0 ∙ was.is))
 
-    -- the step in which a recovery loads the counter leads on: it ends locked, or goes to the first index
+    -- the step in which a recovery loads the counter first: it goes on to count its change if that is locked,
+    -- and else goes to the first index
     pub counter_step : StepOf scene (Recover owner mode) (recover_at c owner mode room recovers.LoadsCounter)
     counter_step =
         on_bool (λ b. Leads scene (Recover owner mode) (Some (set_stages.loads 0)) false scene.states []
@@ -172,57 +185,60 @@ module _ {T : Type 0} (recovery : Recovery T) where
         next open_now (nat_lt 0 c) refl)
       where
         paid_on : backs_then scene false + since_then scene (Some (set_stages.loads 0)) ≤ changes_then scene (Some (set_stages.loads 0))
-        paid_on = let paid = k.0 in omega arith
+        paid_on = let paid = knows.0 in omega arith
 
-        -- with an unlocked counter the recovery goes to the first index, or to its last steps if there is none
+        -- where the counter is not locked the recovery goes to the first index, or to its last
+        -- steps if there is none
         next : counter_of ws ≢ locked → (b : Bool) → nat_lt 0 c ≡ b
-            → Becomes (Some (set_stages.loads 0)) false [] room (GoOn (record (first recovery) {
+            → LeadsOn (Some (set_stages.loads 0)) false [] room (GoOn (record (first recovery) {
               stage = if b then recovers.LoadsCell 0 else recovers.LoadsCounterAgain;
             }))
-        next open_now true t =
+        next open_now true index_test =
             let some = inv.good.some in
             let party_after = then_at recovery room recovers.LoadsCounter here room (recovers.LoadsCell 0) load_counter false in
             let now : Recovers code c owner 0 none none (sees_now scene) =
             record {
-              dead = k.1;
+              dead = knows.1;
               was_open = held_now p IsUnlocked events (unlocked (of_set scene) (inv_of_set scene inv) open_now);
               asked = λ i below. absurd (omega arith);
-              gone = k.2;
+              gone = knows.2;
               hidden = nothing_freed;
             } in
             calm_on room recovers.LoadsCounter here long load_counter (loads_same ws 0) false paid_on
             room (recovers.LoadsCell 0) (omega arith)
             (record {
               within = omega arith;
-              seen = subst (λ (d : List (Act T)). AreBelow 0 (seen_in (d ++ []))) (sym at.1) tt;
-              asked = subst (λ (d : List SetAct). AreBelow 0 (asked_in (d ++ []))) (sym at.0) tt;
-              freed = λ i was. let h = one_of_none (Frees i owner) (all scene) was in absurd (no_more h.before (Frees i owner) h.after (sym at.0 ∙ h.is));
+              seen = subst (λ (d : List (Act T)). AreBelow 0 (seen_in (d ++ []))) (sym stands.1) tt;
+              asked = subst (λ (d : List SetAct). AreBelow 0 (asked_in (d ++ []))) (sym stands.0) tt;
+              freed = λ i was. let h = one_of_none (Frees i owner) (all scene) was in absurd (no_more h.before (Frees i owner) h.after (sym stands.0 ∙ h.is));
             }) (
               long,
               (paid_on, calm_recs room recovers.LoadsCounter here long load_counter (loads_same ws 0) false paid_on party_after 0 now),
-              fill_same recovery load_counter (loads_same ws 0) NoIndex (filled_none p owner (IsWorn scene.terms.by ws) mode NoIndex events at.0),
+              fill_same recovery load_counter (loads_same ws 0) NoIndex (filled_none p owner (IsWorn scene.terms.by ws) mode NoIndex events stands.0),
             )
-        next open_now false t = let some = inv.good.some in let nothing : c ≤ 0 = grind (arith, nat_tests) in absurd (omega arith)
+        next open_now false index_test = let some = inv.good.some in let nothing : c ≤ 0 = grind (arith, nat_tests) in absurd (omega arith)
 
   -- ---- a cell
 
-  module _ (room : buffers.Buffer 128) (index : ℕ) (here : Here room (recovers.LoadsCell index))
-      (long : IsLong room) (course : Course index index)
-      (k : RecoverKnows code c owner mode room (recovers.LoadsCell index) (sees_now scene))
-      (s : steps ≤ 1 + index * for_index c z mode + backs * for_back c z mode) (f : FilledBut (IsWorn scene.terms.by ws) mode p owner NoIndex events) where
+  -- the recovery loads the cell of `index`, and has come past the indices below it
+  module _ (room : buffers.Buffer 128) (index : ℕ) (here : IsAtStage room (recovers.LoadsCell index))
+      (long : IsLong room) (course : IsInCourseAt index index)
+      (knows : RecoverKnows code c owner mode room (recovers.LoadsCell index) (sees_now scene))
+      (few_steps : steps ≤ 1 + index * for_index c z mode + backs * for_back c z mode)
+      (filled_since : FilledBut (IsWorn scene.terms.by ws) mode p owner NoIndex events) where
     abbrev load_cell : Option Ask
     load_cell = Some (set_stages.loads (cell_word index))
 
     paid_cell : backs_then scene false + since_then scene load_cell ≤ changes_then scene load_cell
-    paid_cell = let paid = k.0 in omega arith
+    paid_cell = let paid = knows.0 in omega arith
 
-    -- an index of another owner is none to free
+    -- an index whose cell has another owner is none that the recovery must free
     not_to_free : cell ws index ≢ owner → HeldThroughout p (StillToFree p owner index) (events ++ [])
         → IsOneOf (Asks index owner) (set_acts_of p (events ++ [])) ⊎ WasShown p index (events ++ [])
     not_to_free = grind (arith, append-nil, through_now)
 
-    -- the step in which a recovery loads a cell leads on: to the number of the element if it
-    -- has the owner, and else to the next index
+    -- the step in which a recovery loads a cell: it goes on to the number of the element if the cell has the
+    -- owner, and else to the next index
     pub cell_step : StepOf scene (Recover owner mode) (recover_at c owner mode room (recovers.LoadsCell index))
     cell_step =
         on_bool (λ b. Leads scene (Recover owner mode) (Some (set_stages.loads (cell_word index))) false scene.states []
@@ -230,6 +246,7 @@ module _ {T : Type 0} (recovery : Recovery T) where
         (if b then GoOn (record (first recovery) { stage = recovers.LoadsCount index }) else recover_comes_to
         (first recovery) (index + 1))))
         (cell ws index == owner)
+        -- the cell has the recovery's owner: the recovery goes on to the number of the element
         (λ t.
         let has_owner : cell ws index ≡ owner = grind (arith, nat_tests) in
         let y = then_at recovery room (recovers.LoadsCell index) here room (recovers.LoadsCount index) load_cell false in
@@ -239,31 +256,33 @@ module _ {T : Type 0} (recovery : Recovery T) where
           long,
           (
             paid_cell,
-            calm_recs room (recovers.LoadsCell index) here long load_cell (loads_same ws (cell_word index)) false paid_cell y index k.1,
+            calm_recs room (recovers.LoadsCell index) here long load_cell (loads_same ws (cell_word index)) false paid_cell y index knows.1,
             held_later p (IsFilledWith owner index) events [] tt
                 (held_now p (IsFilledWith owner index) events
                 (filled_by (of_set scene) (inv_of_set scene inv) index course.within owner fits has_owner)),
           ),
-          fill_same recovery load_cell (loads_same ws (cell_word index)) NoIndex f,
+          fill_same recovery load_cell (loads_same ws (cell_word index)) NoIndex filled_since,
         ))
+        -- the cell has another owner or none: the recovery goes on to the next index
         (λ t.
         let other : cell ws index ≢ owner = grind (arith, nat_tests) in
         let wide = index_at_least c z mode in
         calm_next room (recovers.LoadsCell index) here long load_cell
         (loads_same ws (cell_word index)) false paid_cell index (omega arith) (inl course)
         (λ y. calm_recs_more room (recovers.LoadsCell index) here long load_cell
-        (loads_same ws (cell_word index)) false paid_cell y index k.1 (not_to_free other))
-        f)
+        (loads_same ws (cell_word index)) false paid_cell y index knows.1 (not_to_free other))
+        filled_since)
 
   -- ---- the number of an element, loaded or found at a check
 
-  module _ (room : buffers.Buffer 128) (stage : RecoverStage) (index : ℕ) (here : Here room stage)
-      (long : IsLong room) (course : Course index index) (rec : Recovers code c owner index none none (sees_now scene))
+  -- the recovery has found the number of the element at `index`, by a load or by a check that failed
+  module _ (room : buffers.Buffer 128) (stage : RecoverStage) (index : ℕ) (here : IsAtStage room stage)
+      (long : IsLong room) (course : IsInCourseAt index index) (rec : Recovers code c owner index none none (sees_now scene))
       (filled : WasFilled owner index (sees_now scene))
       (ask : Option Ask) (same : words_after ws ask ≡ ws) (back : Bool)
       (paid : backs_then scene back + since_then scene ask ≤ changes_then scene ask)
       (few : steps + step_count ask ≤ 3 + index * for_index c z mode + backs_then scene back * for_back c z mode)
-      (f : FilledBut (IsWorn scene.terms.by ws) mode p owner NoIndex events) where
+      (filled_since : FilledBut (IsWorn scene.terms.by ws) mode p owner NoIndex events) where
     abbrev pub number : ℕ
     number = count_in code c (before scene) index
 
@@ -273,14 +292,16 @@ module _ {T : Type 0} (recovery : Recovery T) where
     abbrev showing : List (Event T)
     showing = Shown p index ∷ []
 
-    -- nothing stands there
-    is_shown : is_even number ≡ true → Goes ask back showing room (recovers.EmptiesCell index number)
+    -- under an even number nothing stands at the index: the recovery is shown that, and goes
+    -- on to empty the cell
+    is_shown : is_even number ≡ true → LeadsToStage ask back showing room (recovers.EmptiesCell index number)
     is_shown even =
         let party_after = then_at recovery room stage here room (recovers.EmptiesCell index number) ask back in
         let goes = (silent_set scene inv (words_after ws ask) same party_after showing (tt, tt) (refl, tt)).goes in
         let acts_then : acts_of p (events ++ showing) ≡ done scene ++ Sees index ∷ [] =
         acts_more scene (Recover owner mode) here.span showing (refl, tt) (λ start w. refl) in
         go_on recovery room stage here room (recovers.EmptiesCell index number) ask back showing (λ start w. refl)
+        -- its event is right: under an even number nothing stands
         (reads_does recovery room stage here (words_after ws ask) same party_after showing (tt, tt) (refl, tt) (record {
           asks = (tt, tt);
           recovers = (tt, tt);
@@ -295,12 +316,14 @@ module _ {T : Type 0} (recovery : Recovery T) where
           places = λ holds. (tt, tt);
         })
         refl)
+        -- the recovery keeps its course, with one index more seen
         (course.seen, tt) (omega arith) (
           course_then c z (all scene) [] (done scene) (Sees index ∷ []) owner index index index (index + 1) course
               course.within (omega arith) (omega arith, tt) tt
               (λ j was. inl (one_of_none (Frees j owner) (all scene) was)),
           inr (record { before = done scene; is = refl }),
         ) (
+          -- what the recovery knows before it empties the cell: `index` is the one that it is about to free
           long,
           (
             paid,
@@ -320,11 +343,11 @@ module _ {T : Type 0} (recovery : Recovery T) where
             λ holds filled. inl same_number,
           ),
           fills_on recovery room stage here ask back party_after showing (refl, tt) tt (λ start w. refl) goes
-              NoIndex NoIndex (λ i was. inl (one_of_none (Frees i owner) (all scene) was)) (λ i e. e) f,
+              NoIndex NoIndex (λ i was. inl (one_of_none (Frees i owner) (all scene) was)) (λ i e. e) filled_since,
         )
 
-    -- it begins a copy
-    is_copied : is_even number ≡ false → Goes ask back [] room (recovers.LoadsWord index number 0)
+    -- under an odd number the recovery begins to copy the element
+    is_copied : is_even number ≡ false → LeadsToStage ask back [] room (recovers.LoadsWord index number 0)
     is_copied odd =
         let some = inv.elements.coded.some in
         let party_after = then_at recovery room stage here room (recovers.LoadsWord index number 0) ask back in
@@ -340,18 +363,19 @@ module _ {T : Type 0} (recovery : Recovery T) where
                 long (odd_is number odd) (λ kept. omega (arith, same_number)),
             λ holds filled. inl same_number,
           ),
-          fill_same recovery ask same NoIndex f,
+          fill_same recovery ask same NoIndex filled_since,
         )
 
-    -- the step in which it loads the number of an element leads on by whether that is even
+    -- the step in which a recovery finds the number of an element: it begins a copy if the number is odd, and
+    -- goes on to the cell if it is even
     pub sees_number : Leads scene (Recover owner mode) ask back scene.states
         ((if is_even number then Shown p index ∷ [] else []) ++ []) (as_recover recovery room (recover_sees (first recovery) index number))
     sees_number = grind (arith, is_shown, is_copied)
 
-  -- the step in which a recovery loads the number of an element leads on: to its words under an
-  -- odd one, and else to the cell
+  -- the step in which a recovery loads the number of an element: it begins a copy if the number is odd, and
+  -- goes on to the cell if it is even
   pub count_step : (room : buffers.Buffer 128) (index : ℕ)
-      (here : Here room (recovers.LoadsCount index)) (long : IsLong room) (course : Course index index)
+      (here : IsAtStage room (recovers.LoadsCount index)) (long : IsLong room) (course : IsInCourseAt index index)
       (k : RecoverKnows code c owner mode room (recovers.LoadsCount index) (sees_now scene))
       (s : steps ≤ 2 + index * for_index c z mode + backs * for_back c z mode)
       → FilledBut (IsWorn scene.terms.by ws) mode p owner NoIndex events

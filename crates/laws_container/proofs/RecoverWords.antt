@@ -1,4 +1,6 @@
--- A recovery of a container reads the words of an element, checks its number, and is told.
+-- The steps of a recovery by which it reads the words of an element, checks the number of the element by an
+-- exchange for itself, and is told whether to free the index. What a step has to show is said by `StepOf` and
+-- `Leads` of `Stages`.
 use Rattle.laws_container.proofs.Names.{◌≡◌, ◌≢◌, ⊎_elim, inl, inr, ℕ, ◌+◌, ◌*◌, ◌<◌, ◌≤◌, ◌==◌, if◌then◌else◌}
 use Rattle.laws_container.proofs.Names.{nat_lt, Bool, false, true, not, Option, Some, None, List, [], ◌∷◌, ◌++◌, set}
 use Rattle.laws_container.proofs.Names.{fold, refl, sym, ap, subst, ◌∙◌, append-nil, append_assoc, arith, nat_tests}
@@ -26,7 +28,7 @@ use Rattle.laws_container.proofs.RecoverParts.{Recovery, fill_same, none, as_rec
 use Rattle.laws_container.proofs.RecoverParts.{go_on, recs, fills_on, asked_on, asked_more}
 use Rattle.laws_container.proofs.Recoveries.{one_more_of, has_of_none, was_act, course_then}
 use Rattle.laws_container.proofs.Silent.{silent_set}
-use Rattle.laws_container.proofs.Stages.{IsHere, all, done, sees_now, then_sees, ShowsThen, StepOf, AnswerOf, Leads}
+use Rattle.laws_container.proofs.Stages.{IsUnderWay, all, done, sees_now, then_sees, ShowsThen, StepOf, AnswerOf, Leads}
 use Rattle.laws_container.proofs.Stages.{backs_then, since_then, changes_then, set_acts_more, acts_more}
 use Rattle.laws_container.proofs.Stages.{was_well_formed}
 use Rattle.laws_container.proofs.CallProgress.{recover_at, for_back, for_index, AreBelow, RecoverAt}
@@ -34,6 +36,7 @@ use Rattle.laws_container.proofs.Turns.{count_in, datum_in}
 use Rattle.laws_container.proofs.RecoverReads.{back_at_least, calm_next, calm_on, calm_recs, course_calm, index_at_least, sees_number}
 use Rattle.laws_robust.proofs.Cases.{on_bool}
 
+-- a recovery of `owner` in mode `mode` is under way, by party `p` of the scene
 module _ {T : Type 0} (recovery : Recovery T) where
   open recovery use {scene, inv, owner, mode}
   open recovery.scene use {coding as code, capacity as c, party as p, steps, backs, events, latest}
@@ -44,25 +47,29 @@ module _ {T : Type 0} (recovery : Recovery T) where
   abbrev z : ℕ
   z = code.size
 
-  abbrev pub Here : buffers.Buffer 128 → RecoverStage → Type 0
-  Here room stage = IsHere scene (Recover owner mode) (recover_at c owner mode room stage)
+  -- the party's call under way is this recovery, at this stage, with this room for its copy
+  abbrev pub IsAtStage : buffers.Buffer 128 → RecoverStage → Type 0
+  IsAtStage room stage = IsUnderWay scene (Recover owner mode) (recover_at c owner mode room stage)
 
-  abbrev pub Goes : Option Ask → Bool → List (Event T) → buffers.Buffer 128 → RecoverStage → Type 0
-  Goes ask back es room next =
+  -- a step with the operation `ask` that writes `es` leads the recovery to stage `next`
+  abbrev pub LeadsToStage : Option Ask → Bool → List (Event T) → buffers.Buffer 128 → RecoverStage → Type 0
+  LeadsToStage ask back es room next =
       ShowsThen scene (Recover owner mode) ask back scene.states es (GoOn (recover_at c owner mode room next))
 
-  abbrev pub Becomes : Option Ask → Bool → List (Event T) → buffers.Buffer 128 → After (recover_calls.Recover T (buffers.Buffer 128)) ReleaseState → Type 0
-  Becomes ask back es room a =
+  -- a step with the operation `ask` that writes `es` leads to what becomes of the recovery
+  abbrev pub LeadsOn : Option Ask → Bool → List (Event T) → buffers.Buffer 128 → After (recover_calls.Recover T (buffers.Buffer 128)) ReleaseState → Type 0
+  LeadsOn ask back es room a =
       ShowsThen scene (Recover owner mode) ask back scene.states es (as_recover recovery room a)
 
   -- ---- a word of the element
 
+  -- the recovery copies the element at `index`, of which `at` words are read under the number `count`
   module _ (room : buffers.Buffer 128) (index count at : ℕ)
-      (here : Here room (recovers.LoadsWord index count at)) (long : IsLong room)
+      (here : IsAtStage room (recovers.LoadsWord index count at)) (long : IsLong room)
       (stands : RecoverAt c z (all scene) (done scene) owner mode (recovers.LoadsWord index count at))
-      (k : RecoverKnows code c owner mode room (recovers.LoadsWord index count at) (sees_now scene))
-      (s : steps ≤ 3 + at + index * for_index c z mode + backs * for_back c z mode)
-      (f : FilledBut (IsWorn scene.terms.by ws) mode p owner NoIndex events) where
+      (knows : RecoverKnows code c owner mode room (recovers.LoadsWord index count at) (sees_now scene))
+      (few_steps : steps ≤ 3 + at + index * for_index c z mode + backs * for_back c z mode)
+      (filled_since : FilledBut (IsWorn scene.terms.by ws) mode p owner NoIndex events) where
     abbrev word : ℕ
     word = datum_in code c (before scene) index at
 
@@ -76,12 +83,12 @@ module _ {T : Type 0} (recovery : Recovery T) where
     same_words = loads_same ws (element_word c z index at)
 
     paid_word : backs_then scene false + since_then scene load_word ≤ changes_then scene load_word
-    paid_word = ⊎_elim (λ h. let paid = h.1 in omega arith) (λ h. omega arith) k.0
+    paid_word = ⊎_elim (λ h. let paid = h.1 in omega arith) (λ h. omega arith) knows.0
 
     long_word : IsLong room'
     long_word = length-set room.words at word ∙ long
 
-    -- what it knows of the copy and of the (number recovery)
+    -- what a recovery knows of its copy, and of the indices below, after it has read one word more
     knows_word : (next : RecoverStage) (n : ℕ) → n ≡ at + 1
         → CheckPaid code c index count
         (then_sees scene load_word false scene.states (then_at recovery room (recovers.LoadsWord index count at) here room' next load_word false) [])
@@ -97,18 +104,18 @@ module _ {T : Type 0} (recovery : Recovery T) where
     knows_word next n is =
         let party_after = then_at recovery room (recovers.LoadsWord index count at) here room' next load_word false in
         let v' = then_sees scene load_word false scene.states party_after [] in (
-          ⊎_elim (λ h. let paid = h.1 in inl (ap (λ w. count_at c w index) same_words ∙ h.0, omega arith)) (λ h. inr (omega arith)) k.0,
-          (calm_recs recovery) room (recovers.LoadsWord index count at) here long load_word same_words false paid_word party_after index k.1,
-          held_later p (IsFilledWith owner index) events [] tt k.2,
+          ⊎_elim (λ h. let paid = h.1 in inl (ap (λ w. count_at c w index) same_words ∙ h.0, omega arith)) (λ h. inr (omega arith)) knows.0,
+          (calm_recs recovery) room (recovers.LoadsWord index count at) here long load_word same_words false paid_word party_after index knows.1,
+          held_later p (IsFilledWith owner index) events [] tt knows.2,
           subst (λ m. Copying code c index count room'.words m v') (sym is)
               (copying_more code c (sees_now scene) v' index count room.words at stands.2 inv.elements.coded.few
               same_words (λ kept. kept)
-              (was_well_formed scene (Recover owner mode) tt here.span (words_after ws load_word) party_after [] tt) k.3),
+              (was_well_formed scene (Recover owner mode) tt here.span (words_after ws load_word) party_after [] tt) knows.3),
           covers_on scene (Recover owner mode) tt here.span owner (words_after ws load_word) party_after [] tt index count
-              (ap (λ w. count_at c w index) same_words) (fold-append (filled_after index) None events []) k.4,
+              (ap (λ w. count_at c w index) same_words) (fold-append (filled_after index) None events []) knows.4,
         )
 
-    -- the step in which a recovery loads a word leads on, to the next word or to the check of the number
+    -- the step in which a recovery loads a word: it goes on to the next word, or to the check of the number
     pub word_step : StepOf scene (Recover owner mode) (recover_at c owner mode room (recovers.LoadsWord index count at))
     word_step =
         on_bool (λ b. Leads scene (Recover owner mode) (Some (set_stages.loads (element_word c z index at))) false
@@ -124,7 +131,7 @@ module _ {T : Type 0} (recovery : Recovery T) where
         ((course_calm recovery) index index index index stands.0 stands.0.within (omega arith), stands.1, more) (
           long_word,
           knows_word (recovers.LoadsWord index count (at + 1)) (at + 1) refl,
-          fill_same recovery load_word same_words NoIndex f,
+          fill_same recovery load_word same_words NoIndex filled_since,
         ))
         (λ t.
         let last : z ≤ at + 1 = grind (arith, nat_tests) in
@@ -134,17 +141,18 @@ module _ {T : Type 0} (recovery : Recovery T) where
         ((course_calm recovery) index index index index stands.0 stands.0.within (omega arith), stands.1) (
           long_word,
           knows_word (recovers.ChecksCount index count) z (omega arith),
-          fill_same recovery load_word same_words NoIndex f,
+          fill_same recovery load_word same_words NoIndex filled_since,
         ))
 
-  -- ---- its (number recovery) is checked
+  -- ---- the number of the element is checked
 
+  -- the recovery has read all words of the element at `index` under the number `count`
   module _ (room : buffers.Buffer 128) (index count : ℕ)
-      (here : Here room (recovers.ChecksCount index count)) (long : IsLong room)
+      (here : IsAtStage room (recovers.ChecksCount index count)) (long : IsLong room)
       (stands : RecoverAt c z (all scene) (done scene) owner mode (recovers.ChecksCount index count))
-      (k : RecoverKnows code c owner mode room (recovers.ChecksCount index count) (sees_now scene))
-      (s : steps ≤ 3 + z + index * for_index c z mode + backs * for_back c z mode)
-      (f : FilledBut (IsWorn scene.terms.by ws) mode p owner NoIndex events) where
+      (knows : RecoverKnows code c owner mode room (recovers.ChecksCount index count) (sees_now scene))
+      (few_steps : steps ≤ 3 + z + index * for_index c z mode + backs * for_back c z mode)
+      (filled_since : FilledBut (IsWorn scene.terms.by ws) mode p owner NoIndex events) where
     abbrev check_it : Option Ask
     check_it = Some (exchanges (count_word c index) count count)
 
@@ -157,19 +165,23 @@ module _ {T : Type 0} (recovery : Recovery T) where
     abbrev asking : List (Event T)
     asking = Copied p index value ∷ Asked p index owner ∷ []
 
+    -- a copy and a question make the span of an open call longer, and do not end it
     asking_longer : (start : ContainerStart T) (w : List (Event T))
         → fold own_after (Open (Container start) w) (Copied p index value ∷ Asked p index owner ∷ [])
         ≡ Open (Container start) (w ++ Copied p index value ∷ Asked p index owner ∷ [])
     asking_longer = grind (arith, append_assoc)
 
-    -- the copy is whole, and it asks
-    asks : count_now ≡ count → Goes check_it false asking room (recovers.Asks index count)
+    -- where the number is still the one under which the words were read, the copy is whole, and the recovery
+    -- asks about it
+    asks : count_now ≡ count → LeadsToStage check_it false asking room (recovers.Asks index count)
     asks is =
+        -- the check leaves the words, since it exchanges the number for itself
         let same : words_after ws check_it ≡ ws =
         exchange_sets ws (count_word c index) count count is
         ∙ (ap (set ws (count_word c index)) (sym is) ∙ set-get_or ws (count_word c index) 0) in
         let party_after = then_at recovery room (recovers.ChecksCount index count) here room (recovers.Asks index count) check_it false in
         let goes = (silent_set scene inv (words_after ws check_it) same party_after asking (tt, (tt, tt)) (refl, (refl, tt))).goes in
+        -- with this step the recovery has copied the element, and has asked about it
         let set_acts_then : set_acts_of p (events ++ asking) ≡ all scene ++ Asks index owner ∷ [] =
         set_acts_more scene (Recover owner mode) here.span asking (refl, (refl, tt)) asking_longer in
         let acts_then : acts_of p (events ++ asking) ≡ done scene ++ Copies index value ∷ [] =
@@ -180,14 +192,16 @@ module _ {T : Type 0} (recovery : Recovery T) where
         flat_map-append set_act (wrote_of p events) (Copied p index value ∷ []) ∙ append-nil (all scene) in
         go_on recovery room (recovers.ChecksCount index count) here room (recovers.Asks index count) check_it false asking asking_longer
         (reads_does recovery room (recovers.ChecksCount index count) here (words_after ws check_it) same party_after asking (tt, (tt, tt)) (refl, (refl, tt))
+        -- its events are right: the copy is the value that stands, and the question is of an
+        -- index that its owner had
         (record {
           asks = (
             tt,
             (
               (
-                held_later p (IsFilledWith owner index) events (Copied p index value ∷ []) tt k.2,
-                held_later p IsUnlocked events (Copied p index value ∷ []) tt k.1.was_open,
-                gone_more scene.terms.by owner events (Copied p index value ∷ []) k.1.dead,
+                held_later p (IsFilledWith owner index) events (Copied p index value ∷ []) tt knows.2,
+                held_later p IsUnlocked events (Copied p index value ∷ []) tt knows.1.was_open,
+                gone_more scene.terms.by owner events (Copied p index value ∷ []) knows.1.dead,
               ),
               tt,
             ),
@@ -196,13 +210,14 @@ module _ {T : Type 0} (recovery : Recovery T) where
           answers = (tt, (tt, tt));
           contains =
               λ holds. (
-                copied_value code c (sees_now scene) index count room.words inv.elements.coded inv.elements.whole k.3 is
+                copied_value code c (sees_now scene) index count room.words inv.elements.coded inv.elements.whole knows.3 is
                     (was_well_formed scene (Recover owner mode) tt here.span (words_after ws check_it) party_after asking (refl, (refl, tt)) holds),
                 (tt, tt),
               );
           places = λ holds. (tt, (tt, tt));
         })
         refl) (
+          -- its events may stand in the span of the recovery
           stands.0.seen,
           (
             (
@@ -213,19 +228,21 @@ module _ {T : Type 0} (recovery : Recovery T) where
             tt,
           ),
         ) (omega arith) (
+          -- the recovery keeps its course, with one index more seen and asked about
           course_then c z (all scene) (Asks index owner ∷ []) (done scene) (Copies index value ∷ []) owner index
               index index (index + 1) stands.0 stands.0.within (omega arith) (omega arith, tt) (omega arith, tt)
               (λ j was. ⊎_elim (λ had. inl had) (λ e. absurd (cc)) (was_one (Frees j owner) (Asks index owner) (all scene) was)),
           stands.1,
           record { before = all scene; is = refl },
         ) (
+          -- what the recovery knows at its question
           long,
           (
-            ⊎_elim (λ h. let paid = h.1 in omega arith) (λ h. omega arith) k.0,
+            ⊎_elim (λ h. let paid = h.1 in omega arith) (λ h. omega arith) knows.0,
             recs recovery room (recovers.ChecksCount index count) here check_it false party_after
-                asking (refl, (refl, tt)) tt asking_longer goes index (index + 1) none none none none none k.1
+                asking (refl, (refl, tt)) tt asking_longer goes index (index + 1) none none none none none knows.1
                 (asked_more recovery room (recovers.ChecksCount index count) here
-                check_it false party_after asking (refl, (refl, tt)) tt asking_longer goes index k.1.asked
+                check_it false party_after asking (refl, (refl, tt)) tt asking_longer goes index knows.1.asked
                 (λ through. inl (subst (IsOneOf (Asks index owner)) (sym set_acts_then) (last_one (Asks index owner) (all scene)))))
                 (λ i said. inl
                 (⊎_elim (λ yes. ⊎_elim (λ had. inl had) (λ e. absurd (cc)) (was_one (Yes i owner) (Asks index owner) (all scene) yes))
@@ -235,21 +252,21 @@ module _ {T : Type 0} (recovery : Recovery T) where
                 (hidden_on scene (Recover owner mode) tt here.span owner (words_after ws check_it) party_after asking
                 (refl, (refl, tt)) tt asking_longer
                 (λ i was. ⊎_elim (λ had. had) (λ e. absurd (cc)) (was_one (Frees i owner) (Asks index owner) (all scene) was))
-                k.1.hidden),
+                knows.1.hidden),
             stands.0.within,
-            λ kept. let eq = ap (λ w. count_at c w index) same in let low = k.3.below kept in omega arith,
+            λ kept. let eq = ap (λ w. count_at c w index) same in let low = knows.3.below kept in omega arith,
             record { before = done scene; is = acts_then },
             covers_on scene (Recover owner mode) tt here.span owner (words_after ws check_it) party_after asking
                 (refl, (refl, tt)) index count (ap (λ w. count_at c w index) same)
-                (fold-append (filled_after index) None events asking) k.4,
+                (fold-append (filled_after index) None events asking) knows.4,
           ),
           fills_on recovery room (recovers.ChecksCount index count) here check_it false
               party_after asking (refl, (refl, tt)) tt asking_longer goes NoIndex NoIndex
               (λ i was. ⊎_elim (λ had. inl had) (λ e. absurd (cc)) (was_one (Frees i owner) (Asks index owner) (all scene) was))
-              (λ i e. e) f,
+              (λ i e. e) filled_since,
         )
 
-    -- the step in which a recovery checks the number leads on: it asks under the same number,
+    -- the step in which a recovery checks the number: it asks if the number is the one under which it read,
     -- and else begins anew at the number that it finds
     pub check_step : StepOf scene (Recover owner mode) (recover_at c owner mode room (recovers.ChecksCount index count))
     check_step =
@@ -261,37 +278,41 @@ module _ {T : Type 0} (recovery : Recovery T) where
         (if b then GoOn (record (first recovery) { stage = recovers.Asks index count }) else recover_sees
         (first recovery) index count_now)))
         (count_now == count)
+        -- the number is the one under which the words were read: the recovery asks about its copy
         (λ t. let same_count : count_now ≡ count = grind (arith, nat_tests) in asks same_count)
+        -- the number is another one: the recovery begins anew at that number
         (λ t.
         let other : count_now ≢ count = grind (arith, nat_tests) in
         let wide = back_at_least c z mode in
-        (sees_number recovery) room (recovers.ChecksCount index count) index here long stands.0 k.1 k.2
+        (sees_number recovery) room (recovers.ChecksCount index count) index here long stands.0 knows.1 knows.2
         check_it (fails_same ws (count_word c index) count count other) true
-        (⊎_elim (λ h. absurd (other h.0)) (λ h. omega arith) k.0) (omega arith) f)
+        (⊎_elim (λ h. absurd (other h.0)) (λ h. omega arith) knows.0) (omega arith) filled_since)
 
   -- ---- it is told whether to free it
 
+  -- the recovery waits to be told whether to free `index`, whose value it has copied
   module _ (room : buffers.Buffer 128) (index count : ℕ)
       (stands : RecoverAt c z (all scene) (done scene) owner mode (recovers.Asks index count))
-      (here : Here room (recovers.Asks index count)) (long : IsLong room)
-      (k : RecoverKnows code c owner mode room (recovers.Asks index count) (sees_now scene))
-      (s : steps ≤ 4 + z + index * for_index c z mode + backs * for_back c z mode)
-      (f : FilledBut (IsWorn scene.terms.by ws) mode p owner NoIndex events) where
+      (here : IsAtStage room (recovers.Asks index count)) (long : IsLong room)
+      (knows : RecoverKnows code c owner mode room (recovers.Asks index count) (sees_now scene))
+      (few_steps : steps ≤ 4 + z + index * for_index c z mode + backs * for_back c z mode)
+      (filled_since : FilledBut (IsWorn scene.terms.by ws) mode p owner NoIndex events) where
     abbrev telling : List (Event T)
     telling = Told p index owner ∷ []
 
     paid_now : backs_then scene false + since_then scene None ≤ changes_then scene None
-    paid_now = let paid = k.0 in omega arith
+    paid_now = let paid = knows.0 in omega arith
 
     -- a recovery that is told yes goes on to empty the cell
-    says_yes : Goes None false telling room (recovers.EmptiesCell index count)
+    says_yes : LeadsToStage None false telling room (recovers.EmptiesCell index count)
     says_yes =
         let party_after = then_at recovery room (recovers.Asks index count) here room (recovers.EmptiesCell index count) None false in
         let goes = (silent_set scene inv ws refl party_after telling (tt, tt) (refl, tt)).goes in
         go_on recovery room (recovers.Asks index count) here room (recovers.EmptiesCell index count) None false telling (λ start w. refl)
         (reads_does recovery room (recovers.Asks index count) here ws refl party_after telling (tt, tt) (refl, tt)
-        (record { asks = (k.1.dead, tt); recovers = (tt, tt); answers = (tt, tt); contains = λ holds. (tt, tt); places = λ holds. (tt, tt) }) refl)
+        (record { asks = (knows.1.dead, tt); recovers = (tt, tt); answers = (tt, tt); contains = λ holds. (tt, tt); places = λ holds. (tt, tt) }) refl)
         ((refl, stands.2), tt) (omega arith) (
+          -- the recovery keeps its course, and was told to free the index that it asked about
           course_then c z (all scene) (Yes index owner ∷ []) (done scene) [] owner index (index + 1) index
               (index + 1) stands.0 stands.0.within (omega arith) tt tt
               (λ j was. ⊎_elim (λ had. inl had) (λ e. absurd (cc)) (was_one (Frees j owner) (Yes index owner) (all scene) was)),
@@ -301,13 +322,14 @@ module _ {T : Type 0} (recovery : Recovery T) where
                 (record { before = stands.2.before; after = []; is = stands.2.is }),
           ),
         ) (
+          -- what the recovery knows before it empties the cell: `index` is the one that it is about to free
           long,
           (
             paid_now,
             recs recovery room (recovers.Asks index count) here None false party_after telling
                 (refl, tt) tt (λ start w. refl) goes (index + 1) (index + 1) none (λ i. i ≡ index) (λ i. i ≡ index) none
-                none k.1 (asked_on recovery room (recovers.Asks index count) here None false party_after
-                telling (refl, tt) tt (λ start w. refl) goes (index + 1) k.1.asked)
+                none knows.1 (asked_on recovery room (recovers.Asks index count) here None false party_after
+                telling (refl, tt) tt (λ start w. refl) goes (index + 1) knows.1.asked)
                 (λ i said. ⊎_elim (λ yes. ⊎_elim (λ had. inl (inl had)) (λ e. let is : index ≡ i = cc in inr (sym is))
                 (was_one (Yes i owner) (Yes index owner) (all scene) yes))
                 (λ seen. inl (inr (has_of_none (Sees i) (done scene) seen))) said)
@@ -315,22 +337,24 @@ module _ {T : Type 0} (recovery : Recovery T) where
                 (hidden_on scene (Recover owner mode) tt here.span owner ws party_after telling (refl, tt) tt
                 (λ start w. refl)
                 (λ i was. ⊎_elim (λ had. had) (λ e. absurd (cc)) (was_one (Frees i owner) (Yes index owner) (all scene) was))
-                k.1.hidden),
-            k.2,
-            k.3,
+                knows.1.hidden),
+            knows.2,
+            knows.3,
             covers_on scene (Recover owner mode) tt here.span owner ws party_after telling (refl, tt) index count refl
-                (fold-append (filled_after index) None events telling) k.5,
+                (fold-append (filled_after index) None events telling) knows.5,
           ),
           fills_on recovery room (recovers.Asks index count) here None false party_after telling (refl, tt) tt (λ start w. refl) goes NoIndex NoIndex
               (λ i was. ⊎_elim (λ had. inl had) (λ e. absurd (cc)) (was_one (Frees i owner) (Yes index owner) (all scene) was))
-              (λ i e. e) f,
+              (λ i e. e) filled_since,
         )
 
-    says_no : Becomes None false [] room (recover_comes_to (first recovery) (index + 1))
+    -- a recovery that is told no goes on to the next index
+    says_no : LeadsOn None false [] room (recover_comes_to (first recovery) (index + 1))
     says_no =
         let wide = index_at_least c z mode in
         (calm_next recovery) room (recovers.Asks index count) here long None refl false paid_now index (omega arith) (inr stands.0)
-        (λ y. (calm_recs recovery) room (recovers.Asks index count) here long None refl false paid_now y (index + 1) k.1) f
+        (λ y. (calm_recs recovery) room (recovers.Asks index count) here long None refl false paid_now y (index + 1) knows.1) filled_since
 
+    -- a decision that a recovery waits for lets it go on as it is told
     pub decided : (answer : ℕ) → AnswerOf scene (Recover owner mode) (recover_at c owner mode room (recovers.Asks index count)) None answer
     decided = grind (arith, says_yes, says_no)

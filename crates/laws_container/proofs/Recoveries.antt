@@ -1,4 +1,5 @@
--- What a recovery knows once its party has taken a turn: of moments, of what it has asked about, and of what it has lost.
+-- What a recovery knows once its party has taken a turn: what it has asked about, been told and been shown,
+-- and which indices its owner has lost.
 use Rattle.laws_container.proofs.Names.{◌≡◌, ◌≢◌, ◌⊎◌, ⊎_elim, inl, inr, ℕ, ◌+◌, ◌<◌, ◌≤◌, Some, List, [], ◌∷◌, ◌++◌}
 use Rattle.laws_container.proofs.Names.{sym, subst, append_assoc, append-nil, arith, cases_eq}
 use Rattle.laws_container.proofs.Names.{flat_map-append, ContainerState, Event, Party, Coding, WasShown, Act, Sees}
@@ -11,31 +12,36 @@ use Rattle.laws_container.proofs.HiddenKnows.{HasHidden}
 use Rattle.laws_container.proofs.Knows.{View, now, IsGone, AskedBelow, GoneBut, Recovers}
 use Rattle.laws_container.proofs.CallProgress.{AreBelow, AskedOrShown, IsInCourse}
 
--- ---- what it has done
+-- ---- what the recovery has done
 
+-- what the call has done it has done still when it has done more
 pub one_more_of : (one : SetAct) (all more : List SetAct) → IsOneOf one all → IsOneOf one (all ++ more)
 one_more_of = grind (arith, append_assoc)
 
--- nothing was done besides
+-- where no act was added, each act is one of the earlier ones
 pub one_of_none : (one : SetAct) (all : List SetAct) → IsOneOf one (all ++ []) → IsOneOf one all
 one_of_none one all is_one = subst (IsOneOf one) (append-nil all) is_one
 
 module _ {T : Type 0} where
+  -- where no act on elements was added, each act is one of the earlier ones
   pub has_of_none : (one : Act T) (all : List (Act T)) → IsOneOf one (all ++ []) → IsOneOf one all
   has_of_none one all is_one = subst (IsOneOf one) (append-nil all) is_one
 
-  -- one of them is one of the earlier ones, or the last
+  -- where one act was added, each act is one of the earlier ones, or that last one
   pub was_act : (one last : Act T) (all : List (Act T)) → IsOneOf one (all ++ last ∷ []) → IsOneOf one all ⊎ (last ≡ one)
   was_act one last all is_one = go (split_last all last is_one.before one is_one.after is_one.is)
     where
+      -- the cases are whether the act is the last one
       go : SplitAt all last is_one.before one is_one.after → IsOneOf one all ⊎ (last ≡ one)
       go (Last p q) = inr q
       go (Earlier rest p) = inl (record { before = is_one.before; after = rest; is = p })
 
+  -- the latest act is one of the acts
   pub has_latest : (one : Act T) (all : List (Act T)) → IsLatest one all → IsOneOf one all
   has_latest one all latest = record { before = latest.before; after = []; is = latest.is }
 
-  -- it is in its course still
+  -- the recovery keeps its course when it has done more, if it has seen and asked about indices below the new
+  -- bound, and has freed none but those it had, or had asked about or was shown
   pub course_then : (c z : ℕ) (all ds : List SetAct) (done fresh : List (Act T)) (owner i b i' b' : ℕ)
       → IsInCourse c z all done owner i b → i' < c → b ≤ b' → AreBelow b' (seen_in fresh) → AreBelow b' (asked_in ds)
       → ((j : ℕ) → IsOneOf (Frees j owner) (all ++ ds) → IsOneOf (Frees j owner) all ⊎ AskedOrShown c z all done owner j)
@@ -52,13 +58,15 @@ module _ {T : Type 0} where
         freed = λ j was. later j (⊎_elim (λ earlier. in_course.freed j earlier) (λ known. known) (freed j was));
       }
     where
+      -- what the recovery has asked about or was shown it has asked about or was shown still
       later : (j : ℕ) → AskedOrShown c z all done owner j → AskedOrShown c z (all ++ ds) (done ++ fresh) owner j
       later j asked_or_shown =
           ⊎_elim (λ asked. inl (one_more_of (Asks j owner) all ds asked)) (λ shown. inr (has_more (Sees j) done fresh shown)) asked_or_shown
 
--- ---- what it knows
+-- ---- what the recovery knows
 
--- `c` is the capacity, and `v` what the party sees before its turn
+-- `c` is the capacity, and `v` what the party sees before its turn, which leaves words, states and calls, and
+-- writes the events `es`
 module _ {T : Type 0} (code : Coding T) (c owner : ℕ) (v : View T) (words' : List ℕ)
     (states' : List (ℕ × ContainerState T)) (latest' : List (ℕ × Party T)) (since' changes' backs' : ℕ)
     (es : List (Event T)) (none : BeginsNone v.party es)
@@ -86,31 +94,37 @@ module _ {T : Type 0} (code : Coding T) (c owner : ℕ) (v : View T) (words' : L
         backs = backs';
       }
 
-  -- what it was told or shown by now, it was earlier, or just now
+  -- what the recovery was told to free or shown by the end of the turn, it was told or shown
+  -- before, or is in `New`
   abbrev pub SplitsTold : (ℕ → Type 0) → Type 0
   SplitsTold New =
       (i : ℕ) → IsOneOf (Yes i owner) (set_acts_of v.party v.events ++ set_acts es) ⊎ IsOneOf (Sees i) (acts_of v.party v.events ++ acts es)
       → (IsOneOf (Yes i owner) (set_acts_of v.party v.events) ⊎ WasShown v.party i v.events) ⊎ New i
 
+  -- the recovery has still asked about the indices below `k`
   pub asked_then : (k : ℕ) → AskedBelow code c owner k v → AskedBelow code c owner k then_view
-  asked_then k h i below through =
+  asked_then k asked_so i below through =
       ⊎_elim (λ a. inl (subst (IsOneOf (Asks i owner)) (sym set_acts_more) (one_more_of (Asks i owner) (set_acts_of p events) (set_acts es) a)))
       (λ s. inr (subst (IsOneOf (Sees i)) (sym acts_more) (has_more (Sees i) (acts_of p events) (acts es) s)))
-      (h i below (through_less p (StillToFree p owner i) events es none through))
+      (asked_so i below (through_less p (StillToFree p owner i) events es none through))
 
-  -- it has come to one index more, which it need not free, or has asked about, or was shown
+  -- the recovery has asked about one index more, if it need not free that one, or has asked
+  -- about it, or was shown it
   pub asked_next : (k : ℕ) → AskedBelow code c owner k v
       → (HeldThroughout v.party (StillToFree v.party owner k) (v.events ++ es)
       → IsOneOf (Asks k owner) (set_acts_of v.party (v.events ++ es)) ⊎ WasShown v.party k (v.events ++ es))
       → AskedBelow code c owner (k + 1) then_view
   asked_next = grind (arith, asked_then, cases_eq)
 
+  -- the indices that its owner has lost are lost still; of those told or shown in the turn,
+  -- `Now` is not lost yet
   pub gone_then : (Was Now New : ℕ → Type 0) → IsGone owner v → GoneBut code c owner Was v → SplitsTold New
       → ((i : ℕ) → Was i → (filled_of i (v.events ++ es) ≢ Some owner) ⊎ Now i)
       → ((i : ℕ) → New i → (filled_of i (v.events ++ es) ≢ Some owner) ⊎ Now i) → GoneBut code c owner Now then_view
   gone_then = grind (arith, inl, stays_lost, honest_less, inr)
 
-  -- what a recovery knows after a turn, from what it knew, how far it has come, and what it was told or shown in it
+  -- what a recovery knows after a turn, from what it knew, how far it has come, and what it
+  -- was told or shown in it
   pub recovers_then : (k k' : ℕ) (Was Now New But But' : ℕ → Type 0) → Recovers code c owner k Was But v
       → AskedBelow code c owner k' then_view → SplitsTold New
       → ((i : ℕ) → Was i → (filled_of i (v.events ++ es) ≢ Some owner) ⊎ Now i)
@@ -125,7 +139,7 @@ module _ {T : Type 0} (code : Coding T) (c owner : ℕ) (v : View T) (words' : L
         hidden = hidden;
       }
 
--- the same, once other indices are exempt
+-- what a recovery knows with other indices exempt from being hidden
 pub rehidden : {T : Type 0} (code : Coding T) (c owner k : ℕ) (Now But But' : ℕ → Type 0) (v : View T)
     → Recovers code c owner k Now But v → HasHidden code c v.party owner But' (now v)
     → Recovers code c owner k Now But' v

@@ -1,4 +1,6 @@
--- The last steps of a recovery: it raises the counter, locks, looks at the counter again, and counts its change.
+-- The last steps of a recovery at an index, and at its end: it raises the counter, tries to lock in mode
+-- LockIfLastIndex, loads the counter again behind the last index, and counts its change. What a step has to
+-- show is said by `StepOf` and `Leads` of `Stages`.
 use Rattle.laws_container.proofs.Names.{◌≡◌, ⊎_elim, inl, inr, ℕ, ◌+◌, ◌*◌, ◌<◌, ◌≤◌, Bool, false, Option, Some, None}
 use Rattle.laws_container.proofs.Names.{is_some, List, [], ◌∷◌, ◌++◌, set, refl, sym, ap, subst, append-nil, arith}
 use Rattle.laws_container.proofs.Names.{fold-append, Ask, After, RecoverStage, ReleaseMode, LockIfLastIndex, Default}
@@ -28,7 +30,7 @@ use Rattle.laws_container.proofs.Knows.{RecoverKnows, IsLong}
 use Rattle.laws_container.proofs.RecoverParts.{Recovery, fill_same, fill_stays, none, hidden_still, as_recover, first}
 use Rattle.laws_container.proofs.RecoverParts.{Few, then_at, recs, asked_on, comes_to_next}
 use Rattle.laws_container.proofs.RecoverEnds.{stays_recs, stays_on, stays_next, just_on}
-use Rattle.laws_container.proofs.RecoverReads.{Here, Course, course_calm, back_at_least}
+use Rattle.laws_container.proofs.RecoverReads.{IsAtStage, IsInCourseAt, course_calm, back_at_least}
 use Rattle.laws_container.proofs.RecoverReads.{index_at_least}
 use Rattle.laws_container.proofs.Recoveries.{has_of_none, course_then}
 use Rattle.laws_container.proofs.SetSteps.{rest_set, wide_set, locks}
@@ -36,10 +38,12 @@ use Rattle.laws_container.proofs.Stages.{all, done, sees_now, Leads}
 use Rattle.laws_container.proofs.Stages.{backs_then, since_then, changes_then, was_well_formed}
 use Rattle.laws_container.proofs.CallProgress.{recover_at, for_back, for_index}
 
+-- the bound on the steps of a recovery, written as these files count them
 pub most_is : (c z : ℕ) (owner backs : ℕ) (T : Type 0) (mode : ReleaseMode)
     → 3 + c * for_index c z mode + backs * for_back c z mode ≡ most_steps {T = T} c z (Recover owner mode) backs
 most_is = grind arith
 
+-- a recovery of `owner` in mode `mode` is under way, by party `p` of the scene
 module _ {T : Type 0} (recovery : Recovery T) where
   open recovery use {scene, inv, owner, mode}
   open recovery.scene use {coding as code, capacity as c, party as p, steps, backs, events}
@@ -52,11 +56,13 @@ module _ {T : Type 0} (recovery : Recovery T) where
 
   -- ---- the raise of the counter
 
-  module _ (room : buffers.Buffer 128) (index : ℕ) (raise : Raise) (here : Here recovery room (recovers.Raises index raise)) (long : IsLong room)
-      (course : Course recovery index (index + 1)) (just : HasJustFreed (all scene))
-      (k : RecoverKnows code c owner mode room (recovers.Raises index raise) (sees_now scene))
-      (s : steps ≤ 6 + z + raise_number raise + index * for_index c z mode + backs * for_back c z mode)
-      (f : FilledBut (IsWorn scene.terms.by ws) mode p owner (λ i. i ≡ index) events) where
+  -- the recovery has freed `index`, and is in the raise of the counter
+  module _ (room : buffers.Buffer 128) (index : ℕ) (raise : Raise) (here : IsAtStage recovery room (recovers.Raises index raise)) (long : IsLong room)
+      (course : IsInCourseAt recovery index (index + 1)) (just : HasJustFreed (all scene))
+      (knows : RecoverKnows code c owner mode room (recovers.Raises index raise) (sees_now scene))
+      (few_steps : steps ≤ 6 + z + raise_number raise + index * for_index c z mode + backs * for_back c z mode)
+      (filled_since : FilledBut (IsWorn scene.terms.by ws) mode p owner (λ i. i ≡ index) events) where
+    -- what a step of the raise leads to, as a step of the recovery
     abbrev raises_to : Option Ask → Bool → After Raise ReleaseState → Type 0
     raises_to ask back r =
         Leads scene (Recover owner mode) ask back scene.states [] (as_recover recovery room (recover_raised (first recovery) index mode r))
@@ -64,67 +70,75 @@ module _ {T : Type 0} (recovery : Recovery T) where
     abbrev this : RecoverStage
     this = recovers.Raises index raise
 
-    -- it locks in the mode for that alone
+    -- a recovery whose raise has ended goes on to the lock in mode LockIfLastIndex, and
+    -- else to the next index
     by_mode : (m : ReleaseMode) → mode ≡ m → (ask : Option Ask) (back : Bool)
         → set_effects.Stays (of_set scene) (words_after ws ask)
         → backs_then scene back + since_then scene ask ≤ changes_then scene ask
         → Few recovery ask back (8 + z) index
         → Leads scene (Recover owner mode) ask back scene.states [] (as_recover recovery room
         (recover_raised (first recovery) index m (Done states.Unlocked)))
-    by_mode Default is ask back stays paid few =
+    -- in mode Default the recovery comes to the next index
+    by_mode Default mode_is ask back stays paid few =
         let wide = index_at_least c z mode in
-        stays_next recovery room this here long ask back stays paid index k.1 (omega arith) course
-        (subst (λ m. FilledBut (IsWorn scene.terms.by (words_after ws ask)) m p owner NoIndex (events ++ [])) (sym is) tt)
-    by_mode LockIfLastIndex is ask back stays paid few =
+        stays_next recovery room this here long ask back stays paid index knows.1 (omega arith) course
+        (subst (λ m. FilledBut (IsWorn scene.terms.by (words_after ws ask)) m p owner NoIndex (events ++ [])) (sym mode_is) tt)
+    -- in mode LockIfLastIndex the recovery comes to the first step of the lock
+    by_mode LockIfLastIndex mode_is ask back stays paid few =
         let party_after = then_at recovery room this here room (recovers.Locks index first_lock) ask back in
-        stays_on recovery room this here long ask back stays paid index k.1 (recovers.Locks index first_lock) (omega arith) (
+        stays_on recovery room this here long ask back stays paid index knows.1 (recovers.Locks index first_lock) (omega arith) (
           course_calm recovery index (index + 1) index (index + 1) course course.within (omega arith),
           just_on recovery just,
-          is,
+          mode_is,
           tt,
         ) (
           long,
-          (paid, stays_recs recovery room this here long ask back stays paid index k.1 party_after, tt),
-          (fill_stays recovery ask stays (λ i. i ≡ index) f, tt),
+          (paid, stays_recs recovery room this here long ask back stays paid index knows.1 party_after, tt),
+          (fill_stays recovery ask stays (λ i. i ≡ index) filled_since, tt),
         )
 
-    -- the step in which a recovery raises the counter leads on: to the lock in its mode, or to the next index
+    -- the step of a raise in a recovery: it goes on in the raise, to the lock or to the next index, and where
+    -- the set is locked to count its change
     pub raises_step : raises_to (Some (raise_ask raise)) (raise_goes_back raise (counter_of ws)) (raise_after raise (counter_of ws))
     raises_step =
         let one = back_at_least c z mode in
-        raise_step (of_set scene) (inv_of_set scene inv) raises_to raise k.0
+        raise_step (of_set scene) (inv_of_set scene inv) raises_to raise knows.0
+        -- the raise goes on: it has read the counter, or has found it moved
         (λ number ask back same held few.
         let low = few (6 + z + index * for_index c z mode) (for_back c z mode) (omega arith) (omega arith) in
         let stays = set_effects.stays_same (of_set scene) (inv_of_set scene inv) (words_after ws ask) same in
         let paid = held_is ask back number held in
         let party_after = then_at recovery room this here room (recovers.Raises index (raises.ExchangesCounter number)) ask back in
-        stays_on recovery room this here long ask back stays paid index k.1 (recovers.Raises index (raises.ExchangesCounter number)) (omega arith)
+        stays_on recovery room this here long ask back stays paid index knows.1 (recovers.Raises index (raises.ExchangesCounter number)) (omega arith)
         (course_calm recovery index (index + 1) index (index + 1) course course.within (omega arith), just_on recovery just) (
           long,
           (
             subst (λ es. set_knows.Holding number (set_stages.seen (of_set scene) ask back es)) (sym (append-nil events)) held,
-            stays_recs recovery room this here long ask back stays paid index k.1 party_after,
+            stays_recs recovery room this here long ask back stays paid index knows.1 party_after,
           ),
-          fill_stays recovery ask stays (λ i. i ≡ index) f,
+          fill_stays recovery ask stays (λ i. i ≡ index) filled_since,
         ))
+        -- the set is locked: the recovery goes on to count its change
         (λ ask back same shut paid few.
         let low = few (6 + z + index * for_index c z mode) (for_back c z mode) (omega arith) (omega arith) in
         let wide = index_at_least c z mode in
         let times = times_below c index (for_index c z mode) course.within in
         let stays = set_effects.stays_same (of_set scene) (inv_of_set scene inv) (words_after ws ask) same in
-        stays_on recovery room this here long ask back stays paid index k.1 (recovers.AddsChange states.Locked) (omega arith) tt (
+        stays_on recovery room this here long ask back stays paid index knows.1 (recovers.AddsChange states.Locked) (omega arith) tt (
           long,
           (
             paid,
             locked_later events [] (is_shut (of_set scene) (inv_of_set scene inv) shut),
             hidden_still recovery room this here ask (then_at recovery room this here room (recovers.AddsChange states.Locked) ask back)
-                k.1.hidden,
+                knows.1.hidden,
           ),
           tt,
         ))
+        -- the counter is at its end, and stays there
         (λ ask back same worn end paid few.
         let low = few (6 + z + index * for_index c z mode) (for_back c z mode) (omega arith) (omega arith) in
         by_mode mode refl ask back (set_effects.stays_same (of_set scene) (inv_of_set scene inv) (words_after ws ask) same) paid (omega arith))
+        -- the counter is raised
         (λ ask less new paid few.
         let low = few (6 + z + index * for_index c z mode) (for_back c z mode) (omega arith) (omega arith) in
         by_mode mode refl ask false (set_effects.stays_raised (of_set scene) (inv_of_set scene inv) (words_after ws ask) less new) paid (omega arith))
@@ -136,12 +150,14 @@ module _ {T : Type 0} (recovery : Recovery T) where
 
   -- ---- the lock
 
-  module _ (room : buffers.Buffer 128) (index : ℕ) (lock : Lock) (here : Here recovery room (recovers.Locks index lock)) (long : IsLong room)
-      (course : Course recovery index (index + 1)) (just : HasJustFreed (all scene)) (may_lock : mode ≡ LockIfLastIndex) (at : LockAt c lock)
-      (k : RecoverKnows code c owner mode room (recovers.Locks index lock) (sees_now scene))
-      (s : steps ≤ 8 + z + lock_number c lock + index * for_index c z mode + backs * for_back c z mode)
-      (f : FilledBut (IsWorn scene.terms.by ws) mode p owner (λ i. i ≡ index) events
+  -- the recovery has freed `index` and raised the counter, and is in the lock, in mode LockIfLastIndex
+  module _ (room : buffers.Buffer 128) (index : ℕ) (lock : Lock) (here : IsAtStage recovery room (recovers.Locks index lock)) (long : IsLong room)
+      (course : IsInCourseAt recovery index (index + 1)) (just : HasJustFreed (all scene)) (may_lock : mode ≡ LockIfLastIndex) (stands : LockAt c lock)
+      (knows : RecoverKnows code c owner mode room (recovers.Locks index lock) (sees_now scene))
+      (few_steps : steps ≤ 8 + z + lock_number c lock + index * for_index c z mode + backs * for_back c z mode)
+      (filled_since : FilledBut (IsWorn scene.terms.by ws) mode p owner (λ i. i ≡ index) events
       × set_knows.LockSays c (FoundFilled p events) lock) where
+    -- what a step of the lock leads to, as a step of the recovery
     abbrev locks_to : Option Ask → Bool → List (Event T) → After Lock ReleaseState → Type 0
     locks_to ask back did r =
         Leads scene (Recover owner mode) ask back scene.states (did ++ []) (as_recover recovery room (recover_locked (first recovery) index r))
@@ -155,6 +171,7 @@ module _ {T : Type 0} (recovery : Recovery T) where
     for_an_index : for_index c z mode ≡ z + c + 10
     for_an_index = ap (for_index c z) may_lock
 
+    -- an index was found filled after all that the recovery had done to the set
     abbrev Says : ℕ → ℕ → Type 0
     Says = FoundFilled p events
 
@@ -174,7 +191,8 @@ module _ {T : Type 0} (recovery : Recovery T) where
     abbrev locking : List (Event T)
     locking = Locked p ∷ []
 
-    -- a recovery that sets the counter to locked goes on to count its change
+    -- a recovery whose lock sets the counter to locked goes on to the next index, or behind the last one to
+    -- its last load of the counter
     locks_set : (ask : Option Ask) → (IsCalm scene.terms.by events → (i : ℕ) → holder_of i events ≡ None)
         → counter_of ws < greatest → words_after ws ask ≡ set ws 0 locked
         → backs_then scene false + since_then scene ask ≤ changes_then scene ask
@@ -192,33 +210,36 @@ module _ {T : Type 0} (recovery : Recovery T) where
         set_does (was_well_formed scene (Recover owner mode) tt here.span (words_after ws ask) y locking (refl, tt))
         (λ was. owe))
         index few course.within
+        -- the lock frees no index and asks about none, so the recovery keeps its course
         (λ i low. course_then c z (all scene) (Locks ∷ []) (done scene) [] owner index (index + 1) i (index + 1)
         course low (omega arith) tt tt
         (λ j was. ⊎_elim (λ had. inl had) (λ e. absurd (cc)) (was_one (Frees j owner) Locks (all scene) was)))
         paid (λ y. recs recovery room locks_at here ask false y locking (refl, tt) tt (λ start w. refl)
-        set_does.goes (index + 1) (index + 1) none none none none none k.1
-        (asked_on recovery room locks_at here ask false y locking (refl, tt) tt (λ start w. refl) set_does.goes (index + 1) k.1.asked)
+        set_does.goes (index + 1) (index + 1) none none none none none knows.1
+        (asked_on recovery room locks_at here ask false y locking (refl, tt) tt (λ start w. refl) set_does.goes (index + 1) knows.1.asked)
         (λ i said. inl (⊎_elim (λ yes. ⊎_elim (λ had. inl had) (λ e. absurd (cc)) (was_one (Yes i owner) Locks (all scene) yes))
         (λ seen. inr (has_of_none (Sees i) (done scene) seen)) said))
         (λ i e. absurd e) (λ i e. absurd e)
         (hidden_on scene (Recover owner mode) tt here.span owner (words_after ws ask) y locking (refl, tt) tt
         (λ start w. refl)
         (λ i was. ⊎_elim (λ had. had) (λ e. absurd (cc)) (was_one (Frees i owner) Locks (all scene) was))
-        k.1.hidden))
+        knows.1.hidden))
         (filled_locked p owner (IsWorn scene.terms.by (words_after ws ask)) mode NoIndex (events ++ locking) (fold-append locked_after false events locking))
 
-    -- the step of a lock in a recovery shows what it has to
+    -- the step of a lock in a recovery: it goes on in the lock, or to the next index once the lock has ended,
+    -- whatever that answers
     pub locks_step : locks_to (Some (lock_ask lock)) (lock_goes_back lock (old_of ws (Some (lock_ask lock))))
         (locked_by p lock (old_of ws (Some (lock_ask lock)))) (lock_after c lock (old_of ws (Some (lock_ask lock))))
     locks_step =
         let wide = for_a_back in
         let each = for_an_index in
-        lock_step (of_set scene) (inv_of_set scene inv) Says said locks_to lock at k.0 k.2 f.1
+        lock_step (of_set scene) (inv_of_set scene inv) Says said locks_to lock stands knows.0 knows.2 filled_since.1
+        -- the lock goes on
         (λ next ask back stays next_at held scanned says few.
         let low = few (8 + z + index * for_index c z mode) (for_back c z mode) (omega arith) (omega arith) in
         let paid = lock_paid next ask back held in
         let party_after = then_at recovery room locks_at here room (recovers.Locks index next) ask back in
-        stays_on recovery room locks_at here long ask back stays paid index k.1 (recovers.Locks index next) (omega arith) (
+        stays_on recovery room locks_at here long ask back stays paid index knows.1 (recovers.Locks index next) (omega arith) (
           course_calm recovery index (index + 1) index (index + 1) course course.within (omega arith),
           just_on recovery just,
           may_lock,
@@ -227,28 +248,32 @@ module _ {T : Type 0} (recovery : Recovery T) where
           long,
           (
             paid_calm next ask back held,
-            stays_recs recovery room locks_at here long ask back stays paid index k.1 party_after,
+            stays_recs recovery room locks_at here long ask back stays paid index knows.1 party_after,
             scanned_calm next ask back scanned,
           ),
           (
-            fill_stays recovery ask stays (λ i. i ≡ index) f.0,
+            fill_stays recovery ask stays (λ i. i ≡ index) filled_since.0,
             subst (λ es. set_knows.LockSays c (FoundFilled p es) next) (sym (append-nil events)) says,
           ),
         ))
+        -- the set is locked already
         (λ ask same shut paid few.
         let low = few (8 + z + index * for_index c z mode) (for_back c z mode) (omega arith) (omega arith) in
         stays_next recovery room locks_at here long ask false
-        (set_effects.stays_same (of_set scene) (inv_of_set scene inv) (words_after ws ask) same) paid index k.1
+        (set_effects.stays_same (of_set scene) (inv_of_set scene inv) (words_after ws ask) same) paid index knows.1
         (omega arith) course (fill_same recovery ask same NoIndex
         (filled_locked p owner (IsWorn scene.terms.by ws) mode NoIndex events (is_shut (of_set scene) (inv_of_set scene inv) shut))))
+        -- an index is filled, so the lock is not made
         (λ filled ask stays open_now more says paid few.
         let low = few (8 + z + index * for_index c z mode) (for_back c z mode) (omega arith) (omega arith) in
-        stays_next recovery room locks_at here long ask false stays paid index k.1 (omega arith)
+        stays_next recovery room locks_at here long ask false stays paid index knows.1 (omega arith)
         course (fill_stays recovery ask stays NoIndex (filled_last p owner (IsWorn scene.terms.by ws) mode NoIndex events (says more))))
+        -- the counter is at its end, so the lock is not made
         (λ ask stays open_now worn paid few.
         let low = few (8 + z + index * for_index c z mode) (for_back c z mode) (omega arith) (omega arith) in
-        stays_next recovery room locks_at here long ask false stays paid index k.1 (omega arith) course
+        stays_next recovery room locks_at here long ask false stays paid index knows.1 (omega arith) course
         (filled_worn p owner (IsWorn scene.terms.by (words_after ws ask)) mode NoIndex (events ++ []) worn))
+        -- no index is filled, and the lock is made
         (λ ask nobody less new paid few.
         let low = few (8 + z + index * for_index c z mode) (for_back c z mode) (omega arith) (omega arith) in
         locks_set ask nobody less new paid (omega arith))
@@ -263,7 +288,7 @@ module _ {T : Type 0} (recovery : Recovery T) where
             → backs_then scene back + since_then scene ask ≤ changes_then scene ask
         lock_paid next ask back paid = held_paid (set_knows.lock_holds next) ask back paid
 
-        -- what a lock has paid is paid still at the events that it sees
+        -- what is paid for a lock's turns back is paid still after a step that writes nothing
         paid_calm : (next : Lock) (ask : Option Ask) (back : Bool)
             → set_knows.Paid (set_knows.lock_holds next) (set_stages.sees (of_set scene) ask back)
             → set_knows.Paid (set_knows.lock_holds next) (set_stages.seen (of_set scene) ask back (events ++ []))

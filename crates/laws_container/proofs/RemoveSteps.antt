@@ -1,4 +1,5 @@
--- A remove loads the number that it hides; and any step of one.
+-- The first step of a remove, in which it loads the number of the element that it will hide; and any step of
+-- a remove. What a step has to show is said by `StepOf` and `Leads` of `Stages`.
 use Rattle.laws_container.proofs.Names.{◌≡◌, inl, ℕ, ◌+◌, ◌<◌, ◌≤◌, false, Option, Some, None, List, [], ◌∷◌, refl}
 use Rattle.laws_container.proofs.Names.{sym, ap, subst, arith, Ask, ContainerHandleNotOwnedByContainer, RemoveStage}
 use Rattle.laws_container.proofs.Names.{ReleaseMode, count_word, empty, Finished, Container}
@@ -18,13 +19,14 @@ use Rattle.laws_container.proofs.HiddenRemoves.{Removing, total_is, hides_step, 
 use Rattle.laws_container.proofs.Invariant.{Scene, Inv, ActsFor, before, of_set, inv_of_set}
 use Rattle.laws_container.proofs.Knows.{RemoveKnows}
 use Rattle.laws_container.proofs.Silent.{silently}
-use Rattle.laws_container.proofs.Stages.{IsHere, all, done, sees_now, StepOf, none_lengthens}
+use Rattle.laws_container.proofs.Stages.{IsUnderWay, all, done, sees_now, StepOf, none_lengthens}
 use Rattle.laws_container.proofs.Stages.{party_then, ends}
 use Rattle.laws_container.proofs.Stages.{owes_none, was_well_formed}
 use Rattle.laws_container.proofs.CallProgress.{remove_at, remove_number, RemoveAt, place_is}
 use Rattle.laws_container.proofs.Turns.{count_in}
 use Rattle.laws_container.proofs.Removes.{refused_done, refused_right, release_step, stays_on}
 
+-- the steps of one remove
 module _ {T : Type 0} (removing : Removing T) where
   open removing use {scene, inv, index, owner, mode, below}
   open removing.scene use {coding as code, capacity as c, steps}
@@ -35,24 +37,27 @@ module _ {T : Type 0} (removing : Removing T) where
   abbrev start : ContainerStart T
   start = Remove index owner mode
 
+  -- the remove as a call at this stage
   abbrev at_stage : RemoveStage → ContainerFlight T
   at_stage stage = remove_at c index owner mode stage
 
-  abbrev Here : RemoveStage → Type 0
-  Here stage = IsHere scene (Remove index owner mode) (remove_at c index owner mode stage)
+  -- the party's call under way is this remove, at this stage
+  abbrev IsAtStage : RemoveStage → Type 0
+  IsAtStage stage = IsUnderWay scene (Remove index owner mode) (remove_at c index owner mode stage)
 
   -- ---- the number is loaded
 
-  module _ (here : Here removes.LoadsCount) (none : all scene ≡ []) (nothing : done scene ≡ [])
-      (k : set_knows.Knows c (release_at c index owner mode releases.EmptiesCell) (set_stages.now (of_set scene)))
-      (s : steps ≤ 0) where
+  -- the remove loads the number of the element at its index
+  module _ (here : IsAtStage removes.LoadsCount) (none : all scene ≡ []) (nothing : done scene ≡ [])
+      (knows : set_knows.Knows c (release_at c index owner mode releases.EmptiesCell) (set_stages.now (of_set scene)))
+      (few_steps : steps ≤ 0) where
     abbrev load_it : Option Ask
     load_it = Some (set_stages.loads (count_word c index))
 
     abbrev number : ℕ
     number = count_in code c (before scene) index
 
-    -- the step in which a remove loads the number of the element leads to the release
+    -- the step in which a remove loads the number of the element leads to the release of the set
     loads_step : StepOf scene start (at_stage removes.LoadsCount)
     loads_step =
         let next = removes.Releases number releases.EmptiesCell in
@@ -60,25 +65,27 @@ module _ {T : Type 0} (removing : Removing T) where
         stays_on removing removes.LoadsCount next here refl load_it false
         (set_effects.stays_same (of_set scene) (inv_of_set scene inv) (words_after ws load_it) same) (omega arith)
         (below, none, nothing) (
-          record { paid = let paid = k.paid in omega arith; scanned = tt; owns = k.owns; says = tt; gone = tt },
+          record { paid = let paid = knows.paid in omega arith; scanned = tt; owns = knows.owns; says = tt; gone = tt },
           (below, λ kept. let eq : count_at c (words_after ws load_it) index ≡ number = ap (λ w. count_at c w index) same in omega arith),
           λ holds lives since. inl (ap (λ w. count_at c w index) same),
         )
 
 -- ---- any step of a remove
 
+-- a remove of this handle, in mode `mode`, is under way in the turn of the scene
 module _ {T : Type 0} (scene : Scene T) (inv : Inv scene) (index owner : ℕ) (mode : ReleaseMode) (fits : owner < empty) (acts : ActsFor scene owner) where
   open scene use {coding as code, capacity as c, party as p, steps as steps, backs as backs, events as events}
 
-  -- what a step of a remove at this stage shows, whose index is placed so
-  abbrev Moves : RemoveStage → ℕ → Type 0
-  Moves stage at =
-      IsHere scene (Remove index owner mode) (remove_at c at owner mode stage)
+  -- a step of the remove at this stage, of the place `at`, keeps the invariant
+  abbrev StepShows : RemoveStage → ℕ → Type 0
+  StepShows stage at =
+      IsUnderWay scene (Remove index owner mode) (remove_at c at owner mode stage)
       → RemoveKnows code c at owner mode stage (sees_now scene) → steps ≤ remove_number c at owner mode stage backs
       → StepOf scene (Remove index owner mode) (remove_at c at owner mode stage)
 
-  -- an index that is none of the container
-  past : (at : ℕ) → c ≤ index → all scene ≡ [] → Moves removes.Refuses at
+  -- a remove whose index is not below the capacity ends with the answer that its handle is
+  -- not the container's
+  past : (at : ℕ) → c ≤ index → all scene ≡ [] → StepShows removes.Refuses at
   past at beyond none here paid s =
       let start = Remove index owner mode in
       let party_after = party_then scene start None false (Done (answers.NotRemoved ContainerHandleNotOwnedByContainer)) in
@@ -99,7 +106,7 @@ module _ {T : Type 0} (scene : Scene T) (inv : Inv scene) (index owner : ℕ) (m
       ((refl, refused_done T index owner mode (all scene) (done scene) none), tt)
       (let most = total_is c code.size index owner mode (backs + 0) T in omega arith) (omega arith)
 
-  -- the remove, where its index is one of the container
+  -- the record of a remove whose index is below the capacity
   abbrev now : index < c → Removing T
   now below =
       record {
@@ -113,15 +120,15 @@ module _ {T : Type 0} (scene : Scene T) (inv : Inv scene) (index owner : ℕ) (m
         below = below;
       }
 
-  -- any step of a remove that stands at a stage, and knows what the stage tells, shows what it has to
-  pub remove_step : (stage : RemoveStage) → RemoveAt c code.size (all scene) (done scene) index owner mode stage → Moves stage (place_of c index)
-  remove_step removes.Refuses at = past (place_of c index) at.0 at.1
-  remove_step removes.LoadsCount at =
-      subst (Moves removes.LoadsCount) (sym (place_is c index at.0)) (λ here k s. loads_step (now at.0) here at.1 at.2 k s)
-  remove_step (removes.Releases count stage) at =
-      subst (Moves (removes.Releases count stage)) (sym (place_is c index at.0))
-      (λ here k s. release_step (now at.0) count stage here at.1 at.2 k.1 k.2 k.0 s)
-  remove_step (removes.Hides count state) at =
-      subst (Moves (removes.Hides count state)) (sym (place_is c index at.0)) (λ here k s. hides_step (now at.0) count state here at k s)
-  remove_step (removes.AddsChange state) at =
-      subst (Moves (removes.AddsChange state)) (sym (place_is c index at.0)) (λ here k s. end_step (now at.0) state here at.1 k s)
+  -- any step of a remove, at whatever stage, keeps the invariant
+  pub remove_step : (stage : RemoveStage) → RemoveAt c code.size (all scene) (done scene) index owner mode stage → StepShows stage (place_of c index)
+  remove_step removes.Refuses stands = past (place_of c index) stands.0 stands.1
+  remove_step removes.LoadsCount stands =
+      subst (StepShows removes.LoadsCount) (sym (place_is c index stands.0)) (λ here k s. loads_step (now stands.0) here stands.1 stands.2 k s)
+  remove_step (removes.Releases count stage) stands =
+      subst (StepShows (removes.Releases count stage)) (sym (place_is c index stands.0))
+      (λ here k s. release_step (now stands.0) count stage here stands.1 stands.2 k.1 k.2 k.0 s)
+  remove_step (removes.Hides count state) stands =
+      subst (StepShows (removes.Hides count state)) (sym (place_is c index stands.0)) (λ here k s. hides_step (now stands.0) count state here stands k s)
+  remove_step (removes.AddsChange state) stands =
+      subst (StepShows (removes.AddsChange state)) (sym (place_is c index stands.0)) (λ here k s. end_step (now stands.0) state here stands.1 k s)

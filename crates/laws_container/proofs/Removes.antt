@@ -1,5 +1,6 @@
--- The steps of a remove: what the release of the set leads to, in a call that goes on; then it hides what stood there, unless that
--- has changed, and counts its change.
+-- The steps of a remove. It goes through the release of the set, which frees its index; then it hides what
+-- stood there, unless the number of the element has changed, and counts its change. What a step has to show
+-- is said by `StepOf` and `Leads` of `Stages`.
 use Rattle.laws_container.proofs.Names.{◌≡◌, ◌≢◌, ◌⊎◌, ⊎_elim, inl, inr, ℕ, ◌+◌, ◌%◌, ◌<◌, ◌≤◌, if◌then◌else◌, Bool}
 use Rattle.laws_container.proofs.Names.{false, true, Option, Some, None, List, [], ◌∷◌, ◌++◌, set, refl, sym, ap}
 use Rattle.laws_container.proofs.Names.{subst, ◌∙◌, arith, Ok, fold-append, Ask, After, GoOn}
@@ -37,12 +38,12 @@ use Rattle.laws_container.proofs.Effects.{calmly}
 use Rattle.laws_container.proofs.HiddenKnows.{RemoveCovers, StillStands, HasHidden, no_index}
 use Rattle.laws_container.proofs.HiddenRemoves.{Removing, total_is}
 use Rattle.laws_container.proofs.HiddenOn.{hidden_even, hidden_calm, stands_calm, hidden_on, stands_on, hidden_freed}
-use Rattle.laws_container.proofs.Invariant.{Does, before, after, of_set, inv_of_set, wrote_of, view}
+use Rattle.laws_container.proofs.Invariant.{KeepsInvariant, before, after, of_set, inv_of_set, wrote_of, view}
 use Rattle.laws_container.proofs.Knows.{View, HasLeft, ReleaseHides, ReleaseLeft, RemoveSays, IsPaid, Knows}
 use Rattle.laws_container.proofs.Left.{left_after, left_of}
 use Rattle.laws_container.proofs.SetSteps.{rest_set, wide_set, frees, locks}
 use Rattle.laws_container.proofs.Silent.{silently}
-use Rattle.laws_container.proofs.Stages.{IsHere, all, done, sees_now, then_sees, StepOf, Leads, none_lengthens}
+use Rattle.laws_container.proofs.Stages.{IsUnderWay, all, done, sees_now, then_sees, StepOf, Leads, none_lengthens}
 use Rattle.laws_container.proofs.Stages.{party_then, since_then, changes_then, backs_then, goes_on, goes_calmly, ends}
 use Rattle.laws_container.proofs.Stages.{owes_none, was_well_formed, was_well_formed_calmly, does_with}
 use Rattle.laws_container.proofs.CallProgress.{remove_at, remove_number, release_total, RemoveAt, place_is}
@@ -54,16 +55,20 @@ use Rattle.laws_robust.proofs.Cases.{on_bool}
 
 -- ---- what its answers say, by the mode
 
+-- a remove that answers that its handle is not the container's has done nothing to the set
 pub refused_done : (T : Type 0) (index owner : ℕ) (mode : ReleaseMode) (set_acts : List SetAct) (acts : List (Act T))
     → set_acts ≡ []
     → HasDone {T = T} (Remove index owner mode) (answers.NotRemoved ContainerHandleNotOwnedByContainer) set_acts acts
 refused_done = grind arith
 
+-- that answer is right where the index is not below the capacity, or is not filled with
+-- the owner of the handle
 pub refused_right : {T : Type 0} (by : GoneBy) (worn : Type 0) (c p index owner : ℕ) (mode : ReleaseMode) (events : List (Event T))
     → (c ≤ index) ⊎ (filled_of index events ≢ Some owner)
     → AnswersBy by worn c events (Finished p (Container (Remove index owner mode)) (answers.NotRemoved ContainerHandleNotOwnedByContainer))
 refused_right = grind arith
 
+-- a remove is under way: of the handle with `index` and `owner`, in mode `mode`, by party `p` of the scene
 module _ {T : Type 0} (removing : Removing T) where
   open removing use {scene, inv, index, owner, mode, fits, acts, below}
   open removing.scene use {coding as code, capacity as c, party as p, steps, backs, events, latest}
@@ -77,9 +82,11 @@ module _ {T : Type 0} (removing : Removing T) where
   abbrev start : ContainerStart T
   start = Remove index owner mode
 
+  -- the remove as a call at this stage
   abbrev at_stage : RemoveStage → ContainerFlight T
   at_stage stage = remove_at c index owner mode stage
 
+  -- how the remove goes on, as a call of the container
   abbrev as_remove : After remove_calls.Remove Removed → After (ContainerFlight T) (Answer T)
   as_remove a =
       as_call calls.Remove removed
@@ -88,12 +95,15 @@ module _ {T : Type 0} (removing : Removing T) where
   abbrev first : remove_calls.Remove
   first = record { capacity = c; stage = removes.LoadsCount }
 
-  abbrev Here : RemoveStage → Type 0
-  Here stage = IsHere scene (Remove index owner mode) (remove_at c index owner mode stage)
+  -- the party's call under way is this remove, at this stage
+  abbrev IsAtStage : RemoveStage → Type 0
+  IsAtStage stage = IsUnderWay scene (Remove index owner mode) (remove_at c index owner mode stage)
 
+  -- the party after the step by which the remove comes to stage `next`
   abbrev then_at : RemoveStage → Option Ask → Bool → Party T
   then_at next ask back = party_then scene start ask back (GoOn (at_stage next))
 
+  -- what the remove sees after a step that writes nothing and leads to stage `next`
   abbrev SeesCalmly : RemoveStage → Option Ask → Bool → View T
   SeesCalmly next ask back =
       view scene.terms (words_after ws ask) scene.states (put p (then_at next ask back) latest) events p
@@ -104,10 +114,10 @@ module _ {T : Type 0} (removing : Removing T) where
 
   -- ---- a step on the counter, or none, that writes nothing
 
-  -- a step of a remove that owes nothing, which leaves all words but the counter and writes
+  -- a step of a remove that owes no raise of the changes, which leaves all words but the counter and writes
   -- nothing, keeps what holds of the machine
-  stays_does : (stage : RemoveStage) → Here stage → (words' : List ℕ) → set_effects.Stays (of_set scene) words'
-      → (y : Party T) → remove_owes stage ≡ false → Does scene words' scene.states y []
+  stays_does : (stage : RemoveStage) → IsAtStage stage → (words' : List ℕ) → set_effects.Stays (of_set scene) words'
+      → (y : Party T) → remove_owes stage ≡ false → KeepsInvariant scene words' scene.states y []
   stays_does stage here words' stays y owes =
       let well_formed = was_well_formed scene start tt here.span words' y [] tt in
       does_with scene inv start (at_stage stage) tt here words' y []
@@ -117,20 +127,20 @@ module _ {T : Type 0} (removing : Removing T) where
       (set_effects.quietly (of_set scene) (inv_of_set scene inv) words' [] stays.leaves set_effects.quiet_none tt tt tt)
       (right_none scene inv start (at_stage stage) tt here y words')
 
-  -- a remove goes on from a step that leaves all words but the counter, and writes nothing,
-  -- where the next stage's conditions hold
-  pub stays_on : (stage next : RemoveStage) → Here stage → remove_owes stage ≡ false → (ask : Option Ask) (back : Bool)
+  -- a step that leaves all words but the counter, and writes nothing, leads a remove to the stage `next`,
+  -- where the conditions of that stage hold
+  pub stays_on : (stage next : RemoveStage) → IsAtStage stage → remove_owes stage ≡ false → (ask : Option Ask) (back : Bool)
       → set_effects.Stays (of_set scene) (words_after ws ask)
       → steps + step_count ask ≤ remove_number c index owner mode next (backs_then scene back)
       → RemoveAt c z (all scene) (done scene) index owner mode next
       → Knows code c (at_stage next) (SeesCalmly next ask back) → Leads scene start ask back scene.states [] (GoOn (at_stage next))
-  stays_on stage next here owes ask back stays few at known =
+  stays_on stage next here owes ask back stays few stands known =
       goes_calmly scene start (at_stage next) ask back scene.states here.span
-      (stays_does stage here (words_after ws ask) stays (then_at next ask back) owes) few (refl, given_is, fits, at)
+      (stays_does stage here (words_after ws ask) stays (then_at next ask back) owes) few (refl, given_is, fits, stands)
       known
 
-  -- it ends with nothing removed
-  refuses : (stage : RemoveStage) → Here stage → remove_owes stage ≡ false → (ask : Option Ask)
+  -- a remove that finds another owner in the cell ends with the answer that its handle is not the container's
+  refuses : (stage : RemoveStage) → IsAtStage stage → remove_owes stage ≡ false → (ask : Option Ask)
       → words_after ws ask ≡ ws → filled_of index events ≢ Some owner → all scene ≡ [] → IsPaid (sees_now scene)
       → steps + step_count ask ≤ 1 + release_total c index owner mode (backs_then scene false)
       → Leads scene start ask false scene.states [] (Done (answers.NotRemoved ContainerHandleNotOwnedByContainer))
@@ -156,28 +166,35 @@ module _ {T : Type 0} (removing : Removing T) where
 
   -- ---- the release
 
-  module _ (count : ℕ) (stage : ReleaseStage) (here : Here (removes.Releases count stage))
+  -- the remove is in the release of the set, at `stage`, after it has loaded the number
+  -- `count` of the element
+  module _ (count : ℕ) (stage : ReleaseStage) (here : IsAtStage (removes.Releases count stage))
       (now_at : ReleaseAt c index owner mode (all scene) stage) (nothing : done scene ≡ [])
       (left : ReleaseLeft code c index count stage (sees_now scene))
       (hiding : ReleaseHides code c index owner count stage (sees_now scene)) where
+    -- the owner for whom the index is given back lives
     lives : LivesToRelease owner events (span_of p events)
     lives = subst (LivesToRelease owner events) (sym here.span) acts.alive
 
+    -- where the run is honest with the freeing of the index, its owner is not gone
     gives_back : IsHonest (events ++ FreedOf p index owner ∷ []) → is_gone Word owner events ≡ false
     gives_back honest = subst (GivesBackRight owner events) here.span (honest events [] (FreedOf p index owner) refl)
 
+    -- where the run is calm with the freeing of the index, its owner is not gone, and the index was settled
+    -- for him when the remove began
     began : IsCalm scene.terms.by (events ++ FreedOf p index owner ∷ [])
         → (is_gone scene.terms.by owner events ≡ false) × SinceBegin p (λ part since. settled_of index part ≡ Some owner) events
     began = grind (arith, lives_freed, gives_back)
 
-    abbrev Lead : Option Ask → Bool → List (Event T) → After set_calls.Release Released → Type 0
-    Lead ask back did a =
+    -- what a step of the release leads to, as a step of the remove
+    abbrev LeadsInRemove : Option Ask → Bool → List (Event T) → After set_calls.Release Released → Type 0
+    LeadsInRemove ask back did a =
         Leads scene start ask back scene.states (did ++ []) (as_remove (remove_released first count a))
 
     abbrev this : RemoveStage
     this = removes.Releases count stage
 
-    -- what was left is left still
+    -- what was left at the index is left still after a step that leaves all words but the counter
     left_calm : (next : RemoveStage) (ask : Option Ask) (back : Bool)
         → set_effects.Stays (of_set scene) (words_after ws ask) → HasLeft code c index count (sees_now scene)
         → HasLeft code c index count (SeesCalmly next ask back)
@@ -189,88 +206,93 @@ module _ {T : Type 0} (removing : Removing T) where
           left = λ holds is. was_left.left (was_well_formed_calmly scene start tt here.span (then_at next ask back) holds) (sym same ∙ is);
         }
 
-    -- a release that has freed
+    -- a release that has freed the index knows that what stands there under the loaded number was left there
     has_left : all scene ≡ Frees index owner ∷ [] → HasLeft code c index count (sees_now scene)
     has_left freed = grind arith
 
-    -- over a step that leaves all words but the counter, the release knows at its next stage what was left at the index
+    -- after a step that leaves all words but the counter, the release knows at its next stage what was left
+    -- at the index
     left_next : (next : ReleaseStage) (ask : Option Ask) (back : Bool)
         → set_effects.Stays (of_set scene) (words_after ws ask) → ReleaseAt c index owner mode (all scene) next
         → ReleaseLeft code c index count next (SeesCalmly (removes.Releases count next) ask back)
-    left_next releases.EmptiesCell ask back stays at = (below, low stage now_at left)
+    left_next releases.EmptiesCell ask back stays stands = (below, low stage now_at left)
       where
         same : count_at c (words_after ws ask) index ≡ count_in code c (before scene) index
         same = stays.others (count_word c index) (omega arith)
 
-        -- after such a step the number at the index is no lower than the one that was loaded
+        -- after a step that leaves all words but the counter, the number at the index is no lower than the
+        -- one that was loaded
         low : (s : ReleaseStage) → ReleaseAt c index owner mode (all scene) s
             → ReleaseLeft code c index count s (sees_now scene) → Keeps scene.terms
             → count ≤ count_at c (words_after ws ask) index
-        low releases.EmptiesCell at release_left kept = omega (arith, release_left.1 kept, same)
-        low (releases.Raises raise) at release_left kept = omega (arith, release_left.below kept, same)
-        low (releases.Locks lock) at release_left kept = omega (arith, release_left.below kept, same)
-    left_next (releases.Raises raise) ask back stays at =
-        left_calm (removes.Releases count (releases.Raises raise)) ask back stays (has_left at)
-    left_next (releases.Locks lock) ask back stays at =
-        left_calm (removes.Releases count (releases.Locks lock)) ask back stays (has_left at.2)
+        low releases.EmptiesCell stands release_left kept = omega (arith, release_left.1 kept, same)
+        low (releases.Raises raise) stands release_left kept = omega (arith, release_left.below kept, same)
+        low (releases.Locks lock) stands release_left kept = omega (arith, release_left.below kept, same)
+    left_next (releases.Raises raise) ask back stays stands =
+        left_calm (removes.Releases count (releases.Raises raise)) ask back stays (has_left stands)
+    left_next (releases.Locks lock) ask back stays stands =
+        left_calm (removes.Releases count (releases.Locks lock)) ask back stays (has_left stands.2)
 
-    -- before it frees, its number is covered
+    -- until the release frees the index, the loaded number covers what stands there (`RemoveCovers`)
     covers : all scene ≡ [] → RemoveCovers code c p owner index count (before scene)
     covers none = grind arith
 
-    -- and then what stood there stands under it, or has been hidden
+    -- after it has freed the index, what stood there stands under the loaded number, or has been hidden
     stands_still : all scene ≡ Frees index owner ∷ [] → HasHidden code c p owner (StillStands code c index count (before scene)) (before scene)
     stands_still freed = grind arith
 
-    -- over a step that leaves all words but the counter, the release knows at its next stage
-    -- what it knew of the element that stood there
+    -- after a step that leaves all words but the counter, the release knows at its next stage whether what
+    -- stood at the index is hidden
     hides_next : (next : ReleaseStage) (ask : Option Ask) (back : Bool)
         → set_effects.Stays (of_set scene) (words_after ws ask) → ReleaseAt c index owner mode (all scene) next
         → ReleaseHides code c index owner count next (SeesCalmly (removes.Releases count next) ask back)
-    hides_next releases.EmptiesCell ask back stays at =
+    hides_next releases.EmptiesCell ask back stays stands =
         let same : count_at c (words_after ws ask) index ≡ count_in code c (before scene) index = stays.others (count_word c index) (omega arith) in
         λ well_formed lives since. ⊎_elim (λ is. inl (same ∙ is)) (λ even. inr (ap (λ n. n % 2) same ∙ even))
-        (covers at (was_well_formed_calmly scene start tt here.span
+        (covers stands (was_well_formed_calmly scene start tt here.span
         (then_at (removes.Releases count releases.EmptiesCell) ask back) well_formed)
         lives since)
-    hides_next (releases.Raises raise) ask back stays at =
+    hides_next (releases.Raises raise) ask back stays stands =
         stands_calm scene start tt here.span owner (words_after ws ask)
         (then_at (removes.Releases count (releases.Raises raise)) ask back) index count
-        (stays.others (count_word c index) (omega arith)) (stands_still at)
-    hides_next (releases.Locks lock) ask back stays at =
+        (stays.others (count_word c index) (omega arith)) (stands_still stands)
+    hides_next (releases.Locks lock) ask back stays stands =
         stands_calm scene start tt here.span owner (words_after ws ask)
         (then_at (removes.Releases count (releases.Locks lock)) ask back) index count
-        (stays.others (count_word c index) (omega arith)) (stands_still at.2)
+        (stays.others (count_word c index) (omega arith)) (stands_still stands.2)
 
-    -- nothing stands there under an even number
+    -- where the loaded number is even nothing stood at the index, so there is nothing to hide
     none_stands : all scene ≡ Frees index owner ∷ [] → is_even count ≡ true → HasHidden code c p owner no_index (before scene)
     none_stands = grind (arith, hidden_even, before, even_is, stands_still)
 
-    -- what the end of the release says
+    -- the end of the release says what the remove needs for its own answer
     says_now : (next : RemoveStage) (ask : Option Ask) (back : Bool) (m : ReleaseMode) (state : ReleaseState)
         → Ends (of_set scene) (inv_of_set scene inv) index owner mode fits below lives began 1 (words_after ws ask) m state
         → RemoveSays code c index owner m state (SeesCalmly next ask back)
     says_now = grind (arith, held_now)
 
+    -- a remove that has freed its index and ends with this state has done to the set what the answer says
     done_now : (words' : List ℕ) (m : ReleaseMode) (state : ReleaseState)
         → Ends (of_set scene) (inv_of_set scene inv) index owner mode fits below lives began 1 words' m state
         → all scene ≡ Frees index owner ∷ []
         → HasDone {T = T} (Remove index owner m) (answers.State state) (all scene) []
     done_now words' m state why freed = grind arith
 
-    -- the release has ended with this state
+    -- the release has ended with this state: the remove hides next what stood at the index, or counts its
+    -- change if nothing stood there
     released : (state : ReleaseState) (ask : Option Ask) (back : Bool)
         → set_effects.Stays (of_set scene) (words_after ws ask)
         → Ends (of_set scene) (inv_of_set scene inv) index owner mode fits below lives began 1 (words_after ws ask) mode state
         → all scene ≡ Frees index owner ∷ []
         → backs_then scene back + since_then scene ask ≤ changes_then scene ask
         → steps + step_count ask ≤ 1 + release_total c index owner mode (backs_then scene back)
-        → Lead ask back [] (Done (Ok state))
+        → LeadsInRemove ask back [] (Done (Ok state))
     released state ask back stays why freed paid few =
         on_bool (λ b. Leads scene start ask back scene.states []
         (as_remove
         (if b then GoOn (at_remove first (removes.AddsChange state)) else GoOn (at_remove first (removes.Hides count state)))))
         (is_even count)
+        -- nothing stood at the index: the remove counts its change next
         (λ t.
         stays_on this (removes.AddsChange state) here refl ask back stays (omega arith)
         (below, done_now (words_after ws ask) mode state why freed) (
@@ -279,6 +301,7 @@ module _ {T : Type 0} (removing : Removing T) where
           hidden_calm scene start tt here.span owner (words_after ws ask)
               (then_at (removes.AddsChange state) ask back) (none_stands freed t),
         ))
+        -- a value stood at the index: the remove hides it next
         (λ t.
         stays_on this (removes.Hides count state) here refl ask back stays (omega arith) (
           below,
@@ -295,18 +318,20 @@ module _ {T : Type 0} (removing : Removing T) where
               (stays.others (count_word c index) (omega arith)) (stands_still freed),
         ))
 
-    -- the release has ended and has locked the set
+    -- the release has ended by locking the set: the remove hides next what stood at the index, or counts its
+    -- change if nothing stood there
     locked_by : (ask : Option Ask) → mode ≡ LockIfLastIndex
         → (IsCalm scene.terms.by events → (i : ℕ) → holder_of i events ≡ None) → counter_of ws < greatest
         → words_after ws ask ≡ set ws 0 locked → all scene ≡ Frees index owner ∷ []
         → backs_then scene false + since_then scene ask ≤ changes_then scene ask
         → steps + step_count ask ≤ 1 + release_total c index owner mode (backs_then scene false)
-        → Lead ask false (Locked p ∷ []) (Done (Ok states.Locked))
+        → LeadsInRemove ask false (Locked p ∷ []) (Done (Ok states.Locked))
     locked_by ask may_lock nobody less new freed paid few =
         on_bool (λ b. Leads scene start ask false scene.states (Locked p ∷ [])
         (as_remove (if b then GoOn (at_remove first (removes.AddsChange states.Locked)) else GoOn
         (at_remove first (removes.Hides count states.Locked)))))
         (is_even count)
+        -- nothing stood at the index: the remove counts its change next
         (λ t.
         goes_on scene start (at_stage (removes.AddsChange states.Locked)) ask false
         scene.states (Locked p ∷ []) here.span (λ start w. refl)
@@ -319,6 +344,7 @@ module _ {T : Type 0} (removing : Removing T) where
               (then_at (removes.AddsChange states.Locked) ask false) (Locked p ∷ [])
               (refl, tt) tt (λ start w. refl) frees_none (none_stands freed t),
         ))
+        -- a value stood at the index: the remove hides it next
         (λ t.
         goes_on scene start (at_stage (removes.Hides count states.Locked)) ask false
         scene.states (Locked p ∷ []) here.span (λ start w. refl)
@@ -345,14 +371,15 @@ module _ {T : Type 0} (removing : Removing T) where
         set_does : set_invariant.Does (of_set scene) (words_after ws ask) (Locked p ∷ [])
         set_does = set_locks.locks (of_set scene) (inv_of_set scene inv) (words_after ws ask) [] set_effects.quiet_none tt tt tt nobody less new
 
-        -- for the machine the lock does what locking the set does
-        does : (y : Party T) → Does scene (words_after ws ask) scene.states y (Locked p ∷ [])
+        -- for the machine of the container the lock does what it does for that of the set
+        does : (y : Party T) → KeepsInvariant scene (words_after ws ask) scene.states y (Locked p ∷ [])
         does y =
             locks scene inv start (at_stage this) tt here y (words_after ws ask)
             (rest_set scene inv start (at_stage this) tt here y (words_after ws ask) 0 locked (omega arith) new)
             (wide_set scene inv start (at_stage this) tt here y (words_after ws ask) 0 locked new) set_does
             (was_well_formed scene start tt here.span (words_after ws ask) y (Locked p ∷ []) (refl, tt)) (owes_none scene start (at_stage this) y here refl)
 
+        -- the event of the lock may stand in this remove, which has freed its index
         stands : AllFollow (Stands promise c) (Open (Container (Remove index owner mode)) (wrote_of p events)) (Locked p ∷ [])
         stands = grind (arith, promise)
 
@@ -362,7 +389,7 @@ module _ {T : Type 0} (removing : Removing T) where
         says : is_locked (events ++ Locked p ∷ []) ≡ true
         says = fold-append locked_after false events (Locked p ∷ [])
 
-        -- after the lock, what was left at the index is left still
+        -- what was left at the index before the lock is left there after it
         left_then : (y : Party T) → HasLeft code c index count (then_sees scene ask false scene.states y (Locked p ∷ []))
         left_then y =
             let h = has_left freed in
@@ -378,11 +405,11 @@ module _ {T : Type 0} (removing : Removing T) where
                   (sym same ∙ is);
             }
 
-        -- the lock frees nothing
+        -- what the remove has freed after the lock, it had freed before
         frees_none : (i : ℕ) → IsOneOf (Frees i owner) (all scene ++ Locks ∷ []) → IsOneOf (Frees i owner) (all scene)
         frees_none i was = ⊎_elim (λ had. had) (λ e. absurd (cc)) (was_one (Frees i owner) Locks (all scene) was)
 
-        -- after the lock, what stood there under the number stands, or has been hidden
+        -- what stood at the index under the loaded number stands there after the lock, or has been hidden
         stands_then : (y : Party T)
             → HasHidden code c p owner
             (StillStands code c index count (after scene (words_after ws ask) y (Locked p ∷ [])))
@@ -392,8 +419,10 @@ module _ {T : Type 0} (removing : Removing T) where
             (rest_set scene inv start (at_stage this) tt here y (words_after ws ask) 0 locked (omega arith) new (count_word c index) (omega arith))
             (fold-append (contents_after index) None events (Locked p ∷ [])) (stands_still freed)
 
-    -- what the release of the set leads to, in a remove that goes on: each of its steps, and each of its ends
-    caller : Caller (of_set scene) (inv_of_set scene inv) index owner mode fits below lives began 1 Lead
+    -- what the release of the set leads to as part of a remove: one field for each kind of step of the
+    -- release, and for each of its ends
+    caller : Caller (of_set scene) (inv_of_set scene inv) index owner mode fits below lives began 1 LeadsInRemove
+    -- the release goes on in a step that leaves all words but the counter
     caller =
         record {
           quiet = λ next ask back stays at known few.
@@ -432,10 +461,14 @@ module _ {T : Type 0} (removing : Removing T) where
         low : {n : ℕ} → n ≡ count_in code c (before scene) index → Keeps scene.terms → count ≤ n
         low {n} same kept = go stage now_at left
           where
+            -- the cases are the stages of the release
             go : (s : ReleaseStage) → ReleaseAt c index owner mode (all scene) s → ReleaseLeft code c index count s (sees_now scene) → count ≤ n
             go = grind arith
 
+    -- the step of a remove in the release of the set keeps the invariant
     pub release_step : set_knows.Knows c (release_at c index owner mode stage) (set_stages.now (of_set scene))
         → steps ≤ 1 + release_number c mode stage backs
         → StepOf scene start (at_stage (removes.Releases count stage))
-    release_step knows s = held_step (of_set scene) (inv_of_set scene inv) index owner mode fits below lives began 1 Lead caller stage now_at knows s
+    release_step knows few_steps =
+        held_step (of_set scene) (inv_of_set scene inv) index owner mode fits below lives began 1 LeadsInRemove caller
+        stage now_at knows few_steps

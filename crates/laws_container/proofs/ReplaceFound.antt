@@ -1,4 +1,6 @@
--- A replace that has found its owner, and any step of one.
+-- The steps of a replace from the one on at which it has found its owner in the cell: it loads the number of
+-- the element, hides what stands there, stores the words of its value, places it and counts the change. At
+-- last, any step of a replace. What a step has to show is said by `StepOf` and `Leads` of `Stages`.
 use Rattle.laws_container.proofs.Names.{◌≡◌, ◌≢◌, ⊎_elim, inl, inr, ℕ, ◌+◌, ◌%◌, ◌<◌, ◌≤◌, ◌==◌, if◌then◌else◌}
 use Rattle.laws_container.proofs.Names.{nat_lt, Bool, false, true, Option, Some, None, is_some, List, [], ◌∷◌, ◌++◌}
 use Rattle.laws_container.proofs.Names.{get_or, set, fold, refl, sym, ap, subst, ◌∙◌, append-nil, arith, cases_eq}
@@ -29,7 +31,7 @@ use Rattle.laws_container.proofs.WellFormed.{IsWellFormedSoFar, well_formed_befo
 use Rattle.laws_container.proofs.Replacers.{replacer_after}
 use Rattle.laws_container.proofs.Replaces.{ReplaceOwns, earlier}
 use Rattle.laws_container.proofs.Sets.{leaves_behind}
-use Rattle.laws_container.proofs.Stages.{IsHere, Lengthens, all, done, sees_now, then_sees, StepOf, Leads}
+use Rattle.laws_container.proofs.Stages.{IsUnderWay, Lengthens, all, done, sees_now, then_sees, StepOf, Leads}
 use Rattle.laws_container.proofs.Stages.{none_lengthens, party_then, since_then, changes_then, backs_then, acts_more}
 use Rattle.laws_container.proofs.Stages.{goes_on, goes_calmly, ends, owes_none}
 use Rattle.laws_container.proofs.CallProgress.{replace_at, replace_number, ReplaceAt, MayHaveHidden, place_is}
@@ -40,6 +42,7 @@ use Rattle.laws_container.proofs.Writing.{even_is, odd_is, adds_one, stores_to, 
 use Rattle.laws_container.proofs.ReplaceSteps.{Replacing, calm_step, cell_step, found_calm, found_then, given_is, stands_if, was_calm, was_going}
 use Rattle.laws_robust.proofs.Cases.{on_bool}
 
+-- a replace is under way: of the value at `index`, with the handle's `owner`, by party `p` of the scene
 module _ {T : Type 0} (replacing : Replacing T) where
   open replacing use {scene, inv, index, value, owner, fits, acts, below, none_done}
   open replacing.scene use {coding as code, capacity as c, party as p, steps, backs, events, latest}
@@ -53,9 +56,11 @@ module _ {T : Type 0} (replacing : Replacing T) where
   abbrev start : ContainerStart T
   start = Replace index value owner
 
+  -- the replace as a call at this stage
   abbrev at_stage : ReplaceStage → ContainerFlight T
   at_stage stage = replace_at c index value owner stage
 
+  -- how the replace goes on, as a call of the container
   abbrev as_replace : After (replace_calls.Replace T) Replaced → After (ContainerFlight T) (Answer T)
   as_replace a =
       as_call calls.Replace replaced
@@ -64,12 +69,15 @@ module _ {T : Type 0} (replacing : Replacing T) where
   abbrev first : replace_calls.Replace T
   first = record { capacity = c; stage = replaces.LoadsCell; of = record {} }
 
-  abbrev Here : ReplaceStage → Type 0
-  Here stage = IsHere scene (Replace index value owner) (replace_at c index value owner stage)
+  -- the party's call under way is this replace, at this stage
+  abbrev IsAtStage : ReplaceStage → Type 0
+  IsAtStage stage = IsUnderWay scene (Replace index value owner) (replace_at c index value owner stage)
 
+  -- the party after the step by which the replace comes to stage `next`
   abbrev then_at : ReplaceStage → Option Ask → Party T
   then_at next ask = party_then scene start ask false (GoOn (at_stage next))
 
+  -- what the replace sees after a step that writes nothing and leads to stage `next`
   abbrev SeesCalmly : ReplaceStage → Ask → View T
   SeesCalmly next ask =
       view scene.terms (words_after ws (Some ask)) scene.states (put p (then_at next (Some ask)) latest) events p
@@ -77,55 +85,60 @@ module _ {T : Type 0} (replacing : Replacing T) where
 
   -- ---- it has found him
 
-  module _ (k : ReplaceKnows c index owner value (sees_now scene)) where
+  -- the replace has found its owner in the cell
+  module _ (knows : ReplaceKnows c index owner value (sees_now scene)) where
+    -- in a well-formed run the party may write at the index
     mine : WellFormed (before scene) → IsWriter p i owner events
     mine = grind (arith, inr, replacing)
 
+    -- in a well-formed run no other party may write at the index
     nobody_else : {A : Type 0} → WellFormed (before scene) → (q : ℕ) → q ≢ p → (o : ℕ) → IsWriter q i o events → A
     nobody_else = grind (arith, one_writer, mine)
 
-    -- a replace that has found its owner knows so after a step that writes nothing
-    knows_calm : (stage next : ReplaceStage) → Here stage → (ask : Ask) → ReplaceKnows c index owner value (SeesCalmly next ask)
+    -- a replace that has found its owner in the cell knows so after a step that writes nothing
+    knows_calm : (stage next : ReplaceStage) → IsAtStage stage → (ask : Ask) → ReplaceKnows c index owner value (SeesCalmly next ask)
     knows_calm stage next here ask =
         record {
-          paid = let paid = k.paid in
+          paid = let paid = knows.paid in
               omega arith;
           within = below;
-          owns = k.owns;
+          owns = knows.owns;
           found = found_calm replacing stage next here ask;
-          filled = k.filled;
+          filled = knows.filled;
         }
 
-    -- events that leave the set, and take no replace
+    -- the party writes the events `es`, which begin none of its calls, and change neither for whom the index
+    -- is settled nor whose replace of it is the latest
     module _ (es : List (Event T)) (own : AreOwn p es) (none : BeginsNone p es) (longer : Lengthens es)
         (settled : (o : Option ℕ) → fold (settled_after i) o es ≡ o)
         (replacer : (o : Option ℕ) → fold (replacer_after i owner) o es ≡ o) where
-      -- after such events the replace owns the index as before
+      -- after events that leave the set, the replace has its right to the index as before
       owns_then : ReplaceOwns scene.terms.by p index owner (events ++ es)
       owns_then calm lives may =
           let h =
-          k.owns (calm_less scene.terms.by events es calm) (gone_less scene.terms.by owner events es lives)
+          knows.owns (calm_less scene.terms.by events es calm) (gone_less scene.terms.by owner events es lives)
           (earlier p index owner events es none may).may in
           record {
             settled = fold-append (settled_after i) None events es ∙ (settled _ ∙ h.settled);
             latest = fold-append (replacer_after i owner) None events es ∙ (replacer _ ∙ h.latest);
           }
 
-      -- after such events the replace knows of the index what it knew
-      knows_then : (stage next : ReplaceStage) → Here stage → (ask : Ask)
+      -- after events that leave the set, the replace still knows that it has found its owner
+      knows_then : (stage next : ReplaceStage) → IsAtStage stage → (ask : Ask)
           → ReplaceKnows c index owner value (then_sees scene (Some ask) false scene.states (then_at next (Some ask)) es)
       knows_then stage next here ask =
           record {
-            paid = let paid = k.paid in
+            paid = let paid = knows.paid in
                 omega arith;
             within = below;
             owns = owns_then;
             found = found_then replacing stage next here ask es own longer;
-            filled = held_later p (IsFilledWith owner index) events es none k.filled;
+            filled = held_later p (IsFilledWith owner index) events es none knows.filled;
           }
 
-    -- before its first word a replace has written none of its value, if the number of the element is even by then
-    first_word : (stage next : ReplaceStage) → Here stage → (ask : Ask) → words_after ws (Some ask) ≡ ws
+    -- where the number of the element is even, a replace that has stored no word knows that none
+    -- of its value is written
+    first_word : (stage next : ReplaceStage) → IsAtStage stage → (ask : Ask) → words_after ws (Some ask) ≡ ws
         → (WellFormed (before scene) → count_in code c (before scene) i % 2 ≡ 0)
         → Writes code c owner i value 0 (SeesCalmly next ask)
     first_word stage next here ask same even =
@@ -135,21 +148,23 @@ module _ {T : Type 0} (replacing : Replacing T) where
               λ holds lives. record {
                 even =
                     ap (λ w. count_at c w i % 2) same
-                    ∙ even (was_calm replacing stage here k.filled (then_at next (Some ask)) (omega arith) holds);
+                    ∙ even (was_calm replacing stage here knows.filled (then_at next (Some ask)) (omega arith) holds);
                 written = λ j js. absurd (omega arith);
               };
         }
 
     -- ---- the number is loaded
 
-    module _ (here : Here replaces.LoadsCount) (nothing : done scene ≡ []) (s : steps ≤ 1) where
+    -- the replace loads the number of the element
+    module _ (here : IsAtStage replaces.LoadsCount) (nothing : done scene ≡ []) (few_steps : steps ≤ 1) where
       abbrev load_it : Ask
       load_it = set_stages.loads (count_word c i)
 
       abbrev number : ℕ
       number = count_in code c (before scene) i
 
-      -- the step in which a replace loads the number of the element shows what it has to
+      -- the step in which a replace loads the number of the element: it goes on to hide the element if the
+      -- number is odd, and to store its first word if it is even
       count_step : StepOf scene start (at_stage replaces.LoadsCount)
       count_step =
           on_bool (λ b. Leads scene start (Some (set_stages.loads (count_word c i))) false scene.states []
@@ -157,7 +172,7 @@ module _ {T : Type 0} (replacing : Replacing T) where
           (is_even number)
           (λ t.
           let some = inv.elements.coded.some in
-          calm_step replacing replaces.LoadsCount (replaces.Stores 0) load_it (loads_same ws (count_word c i)) here k.filled refl (omega arith)
+          calm_step replacing replaces.LoadsCount (replaces.Stores 0) load_it (loads_same ws (count_word c i)) here knows.filled refl (omega arith)
           (below, none_done, inl nothing, omega arith) (
             knows_calm replaces.LoadsCount (replaces.Stores 0) here load_it,
             first_word replaces.LoadsCount (replaces.Stores 0) here load_it
@@ -165,7 +180,7 @@ module _ {T : Type 0} (replacing : Replacing T) where
           ))
           (λ t.
           calm_step replacing replaces.LoadsCount (replaces.Hides number) load_it
-          (loads_same ws (count_word c i)) here k.filled refl (omega arith)
+          (loads_same ws (count_word c i)) here knows.filled refl (omega arith)
           (below, none_done, nothing, odd_is number t) (
             knows_calm replaces.LoadsCount (replaces.Hides number) here load_it,
             (λ holds lives. inl (ap (λ w. count_at c w i) (loads_same ws (count_word c i)))),
@@ -173,21 +188,23 @@ module _ {T : Type 0} (replacing : Replacing T) where
 
     -- ---- what stands there is hidden
 
-    module _ (count : ℕ) (here : Here (replaces.Hides count)) (nothing : done scene ≡ [])
-        (odd : count % 2 ≡ 1) (covers : Covers code c owner i count (sees_now scene)) (s : steps ≤ 2) where
+    -- the replace has found the odd number `count`, and hides what stands there
+    module _ (count : ℕ) (here : IsAtStage (replaces.Hides count)) (nothing : done scene ≡ [])
+        (odd : count % 2 ≡ 1) (covers : Covers code c owner i count (sees_now scene)) (few_steps : steps ≤ 2) where
       abbrev hide_it : Ask
       hide_it = exchanges (count_word c i) count (one_more count)
 
       abbrev now_at : ℕ
       now_at = count_in code c (before scene) i
 
-      -- the step in which a replace hides what stands there shows what it has to, whether it
-      -- finds the number or another
+      -- the step in which a replace hides what stands at the index: it goes on to its first word, whether it
+      -- finds the loaded number or another one
       hide_step : StepOf scene start (at_stage (replaces.Hides count))
       hide_step =
           on_bool (λ b. Leads scene start (Some (exchanges (count_word c i) count (one_more count))) false scene.states
           ((if b then Hidden p i ∷ [] else []) ++ []) (GoOn (at_stage (replaces.Stores 0))))
           (now_at == count)
+          -- the number is the one that was loaded: the step hides what stands there
           (λ t.
           let same_count : now_at ≡ count = grind (arith, nat_tests) in
           let some = inv.elements.coded.some in
@@ -197,7 +214,7 @@ module _ {T : Type 0} (replacing : Replacing T) where
           let new = hides_count scene inv i count below same_count in
           let now_odd : now_at % 2 ≡ 1 = ap (λ n. n % 2) same_count ∙ odd in
           let well_formed =
-          was_going replacing (replaces.Hides count) here k.filled (words_after ws (Some hide_it)) party_after told_now
+          was_going replacing (replaces.Hides count) here knows.filled (words_after ws (Some hide_it)) party_after told_now
           (refl, tt) tt (λ start w. refl) (omega arith) in
           let after : count_at c (words_after ws (Some hide_it)) i ≡ one_more now_at =
           ap (λ w. count_at c w i) new ∙ count_set c code.size ws i (one_more now_at) (omega arith) in
@@ -218,12 +235,13 @@ module _ {T : Type 0} (replacing : Replacing T) where
               has = λ holds lives. record { even = ap (λ n. n % 2) after ∙ omega arith; written = λ j js. absurd (omega arith) };
             },
           ))
+          -- the number is another one: another call has hidden what stood there, and the step changes nothing
           (λ t.
           let other : now_at ≢ count = grind (arith, nat_tests) in
           let some = inv.elements.coded.some in
           let same = fails_same ws (count_word c i) count (one_more count) other in
           calm_step replacing (replaces.Hides count) (replaces.Stores 0) hide_it same here
-          k.filled refl (omega arith) (below, none_done, inl nothing, omega arith) (
+          knows.filled refl (omega arith) (below, none_done, inl nothing, omega arith) (
             knows_calm (replaces.Hides count) (replaces.Stores 0) here hide_it,
             first_word (replaces.Hides count) (replaces.Stores 0) here hide_it same
                 (λ holds. ⊎_elim (λ e. absurd (other e)) (λ even. even) (covers holds (acts.stays holds.kept))),
@@ -231,13 +249,14 @@ module _ {T : Type 0} (replacing : Replacing T) where
 
     -- ---- a word is stored
 
-    module _ (at : ℕ) (here : Here (replaces.Stores at))
+    -- the replace has stored the first `at` words of its value, and stores the next one
+    module _ (at : ℕ) (here : IsAtStage (replaces.Stores at))
         (hidden : MayHaveHidden c code.size (all scene) (done scene) i) (ats : at < code.size)
-        (w : Writes code c owner i value at (sees_now scene)) (s : steps ≤ 3 + at) where
+        (has_stored : Writes code c owner i value at (sees_now scene)) (few_steps : steps ≤ 3 + at) where
       abbrev store_it : Ask
       store_it = stores_to (element_word c code.size i at) (get_or (code.words_of value) at 0)
 
-      -- a store of a word leads to the stage behind it, where the replace knows there what that stage asks
+      -- a store of a word leads to stage `next`, where the replace knows what that stage asks
       store_to : (next : ReplaceStage) → replace_owes next ≡ true → steps + 1 ≤ replace_number code.size next
           → ReplaceAt c code.size (all scene) (done scene) index next
           → Knows code c (at_stage next) (SeesCalmly next store_it)
@@ -246,23 +265,24 @@ module _ {T : Type 0} (replacing : Replacing T) where
           goes_calmly scene start (at_stage next) (Some store_it) false scene.states here.span
           (stores_word scene inv start (at_stage (replaces.Stores at)) tt here
           (then_at next (Some store_it)) (words_after ws (Some store_it)) i below at ats value owner mine
-          (λ holds. w.has holds (acts.stays holds.kept)) refl (was_going replacing (replaces.Stores at) here k.filled (words_after ws (Some store_it))
+          (λ holds. has_stored.has holds (acts.stays holds.kept)) refl
+          (was_going replacing (replaces.Stores at) here knows.filled (words_after ws (Some store_it))
           (then_at next (Some store_it)) [] tt tt none_lengthens (omega arith))
           (λ was. owe))
           few (refl, given_is replacing, fits, stands) known
 
-      -- after a store of a word one word more of the value is written
+      -- after the store of a word, one word more of the value is written
       one_more_word : (next : ReplaceStage) → Writes code c owner i value (at + 1) (SeesCalmly next store_it)
       one_more_word next =
           record {
             few = omega arith;
             has = λ holds lives.
-                let before_it = was_calm replacing (replaces.Stores at) here k.filled (then_at next (Some store_it)) (omega arith) holds in
+                let before_it = was_calm replacing (replaces.Stores at) here knows.filled (then_at next (Some store_it)) (omega arith) holds in
                 store_writes code c ws events (inv.elements.whole before_it) inv.elements.wide i below value at ats
-                (w.has before_it (acts.stays before_it.kept));
+                (has_stored.has before_it (acts.stays before_it.kept));
           }
 
-      -- the step in which a replace stores a word leads on, to the next word or to the placing
+      -- the step in which a replace stores a word: it goes on to the next word, or to placing the value
       store_step : StepOf scene start (at_stage (replaces.Stores at))
       store_step =
           on_bool (λ b. Leads scene start (Some (stores_to (element_word c code.size i at) (get_or (code.words_of value) at 0)))
@@ -286,9 +306,10 @@ module _ {T : Type 0} (replacing : Replacing T) where
 
     -- ---- the value is placed
 
-    module _ (here : Here replaces.AddsCount)
+    -- the replace has stored all words of its value, and raises the number to place the value
+    module _ (here : IsAtStage replaces.AddsCount)
         (hidden : MayHaveHidden c code.size (all scene) (done scene) i)
-        (w : Writes code c owner i value code.size (sees_now scene)) (s : steps ≤ 3 + code.size) where
+        (has_stored : Writes code c owner i value code.size (sees_now scene)) (few_steps : steps ≤ 3 + code.size) where
       abbrev add_it : Ask
       add_it = adds_one (count_word c i)
 
@@ -301,36 +322,38 @@ module _ {T : Type 0} (replacing : Replacing T) where
       new : words_after ws (Some add_it) ≡ set ws (count_word c i) (one_more count_now)
       new = adds_to_count scene inv i below
 
-      -- the step in which a replace makes the number odd places the value
+      -- the step in which a replace raises the number to an odd one places its value
       place_step : StepOf scene start (at_stage replaces.AddsCount)
       place_step =
           on_bool (λ b. Leads scene start (Some (adds_one (count_word c i))) false scene.states
           ((if b then Placed p i value ∷ [] else []) ++ []) (GoOn (at_stage replaces.AddsChange)))
           (is_even count_now)
+          -- the number is even: the step places the value
           (λ t.
           let es = Placed p i value ∷ [] in
           let well_formed =
-          was_going replacing replaces.AddsCount here k.filled (words_after ws (Some add_it)) y es (refl, tt)
-          tt (λ start w. refl) (omega arith) in
-          goes_on scene start (at_stage replaces.AddsChange) (Some add_it) false scene.states es here.span (λ start w. refl)
+          was_going replacing replaces.AddsCount here knows.filled (words_after ws (Some add_it)) y es (refl, tt)
+          tt (λ start has_stored. refl) (omega arith) in
+          goes_on scene start (at_stage replaces.AddsChange) (Some add_it) false scene.states es here.span (λ start has_stored. refl)
           (places_it scene inv start (at_stage replaces.AddsCount) tt here y
           (words_after ws (Some add_it)) i below new refl value owner acts mine
-          (λ holds. w.has holds (acts.stays holds.kept)) well_formed)
+          (λ holds. has_stored.has holds (acts.stays holds.kept)) well_formed)
           ((refl, refl, hidden), tt) (omega arith) (refl, given_is replacing, fits, (below, ap (λ (d : List SetAct). d ++ []) none_done)) (
-            knows_then es (refl, tt) tt (λ start w. refl) (λ o. refl) (λ o. refl) replaces.AddsCount
+            knows_then es (refl, tt) tt (λ start has_stored. refl) (λ o. refl) (λ o. refl) replaces.AddsCount
                 replaces.AddsChange here add_it,
-            (λ holds. ap (λ a. places a) (acts_more scene start here.span es (refl, tt) (λ start w. refl)) ∙ placed_once (done scene) i value hidden),
+            (λ holds. ap (λ a. places a) (acts_more scene start here.span es (refl, tt) (λ start has_stored. refl)) ∙ placed_once (done scene) i value hidden),
             (λ holds lives. (
               fold-append (left_after i) true events es ∙ at_same i i false (left_of i events) refl,
               ap is_some (fold-append (contents_after i) None events es ∙ at_same i i (Some value) (contents_of i events) refl),
             )),
           ))
+          -- the number is odd: a well-formed run has no such step, so nothing is to be said of what stands
           (λ t.
           let well_formed =
-          was_going replacing replaces.AddsCount here k.filled (words_after ws (Some add_it)) y [] tt tt none_lengthens (omega arith) in
+          was_going replacing replaces.AddsCount here knows.filled (words_after ws (Some add_it)) y [] tt tt none_lengthens (omega arith) in
           let ill_formed =
           λ (holds : WellFormed (after scene (words_after ws (Some add_it)) y [])).
-          let even = (w.has (well_formed holds) (acts.stays holds.kept)).even in
+          let even = (has_stored.has (well_formed holds) (acts.stays holds.kept)).even in
           let odd = odd_is count_now t in
           absurd {A = ⊥} (omega arith) in
           goes_calmly scene start (at_stage replaces.AddsChange) (Some add_it) false scene.states here.span
@@ -346,12 +369,13 @@ module _ {T : Type 0} (replacing : Replacing T) where
 
     -- ---- the change is counted, and the call ends
 
-    module _ (here : Here replaces.AddsChange) (placed : HasPlaced code c i value (sees_now scene))
-        (stood : Stood code c owner i (sees_now scene)) (s : steps ≤ 4 + code.size) where
+    -- the replace has placed its value, and counts the change
+    module _ (here : IsAtStage replaces.AddsChange) (placed : HasPlaced code c i value (sees_now scene))
+        (stood : Stood code c owner i (sees_now scene)) (few_steps : steps ≤ 4 + code.size) where
       abbrev end_it : Ask
       end_it = adds_one (change_word c)
 
-      -- the step in which a replace counts the change ends it
+      -- the step in which a replace counts its change ends the replace
       end_step : StepOf scene start (at_stage replaces.AddsChange)
       end_step =
           let party_after = party_then scene start (Some end_it) false (Done answers.Done) in
@@ -366,9 +390,10 @@ module _ {T : Type 0} (replacing : Replacing T) where
           (leaves_behind (of_set scene) (inv_of_set scene inv) (words_after ws (Some end_it)) (change_word c) _ (omega arith) new)
           (quiet_end p (Container start) answers.Done (λ i o. refl) (λ i r. refl))
           (refl, tt) (tt, tt) (tt, tt))
-          (below, k.filled) well_formed (λ holds. placed (well_formed holds)) new says)
-          ((refl, none_done), tt) (omega arith) (let paid = k.paid in omega arith)
+          (below, knows.filled) well_formed (λ holds. placed (well_formed holds)) new says)
+          ((refl, none_done), tt) (omega arith) (let paid = knows.paid in omega arith)
         where
+          -- an index that is announced once the replace has ended has a value
           says : WellFormed (before scene) → (a : ℕ)
               → announced_after a (announced_of a events) (Finished p (Container (Replace index value owner)) answers.Done) ≡ true
               → is_some (contents_of a events) ≡ true
@@ -376,17 +401,20 @@ module _ {T : Type 0} (replacing : Replacing T) where
 
 -- ---- any step of a replace
 
+-- a replace of this value at `index` for `owner` is under way in the turn of the scene
 module _ {T : Type 0} (scene : Scene T) (inv : Inv scene) (index : ℕ) (value : T) (owner : ℕ) (fits : owner < empty) (acts : ActsFor scene owner) where
   open scene use {coding as code, capacity as c, party as p, steps as steps, backs as backs, events as events, latest as latest}
 
-  abbrev Moves : ReplaceStage → ℕ → Type 0
-  Moves stage at =
-      IsHere scene (Replace index value owner) (replace_at c at value owner stage)
+  -- a step of the replace at this stage, of the place `at`, keeps the invariant
+  abbrev StepShows : ReplaceStage → ℕ → Type 0
+  StepShows stage at =
+      IsUnderWay scene (Replace index value owner) (replace_at c at value owner stage)
       → ReplacesKnow code c at value owner stage (sees_now scene) → steps ≤ replace_number code.size stage
       → StepOf scene (Replace index value owner) (replace_at c at value owner stage)
 
-  -- an index that is none of the container
-  refuses : (at : ℕ) → c ≤ index → all scene ≡ [] → done scene ≡ [] → Moves replaces.Refuses at
+  -- a replace whose index is not below the capacity ends with the answer that its handle
+  -- is not the container's
+  refuses : (at : ℕ) → c ≤ index → all scene ≡ [] → done scene ≡ [] → StepShows replaces.Refuses at
   refuses at past none_done nothing here paid s =
       let start = Replace index value owner in
       let party_after = party_then scene start None false (Done (answers.NotRemoved ContainerHandleNotOwnedByContainer)) in
@@ -406,7 +434,7 @@ module _ {T : Type 0} (scene : Scene T) (inv : Inv scene) (index : ℕ) (value :
       (inl past) well_formed (λ holds. tt) refl (λ i b. refl) (owes_none scene start (replace_at c at value owner replaces.Refuses) party_after here refl))
       ((refl, (none_done, nothing)), tt) (omega arith) (omega arith)
 
-  -- the replace, where its index is one of the container and it has done nothing to the set
+  -- the record of a replace whose index is below the capacity, and which has done nothing to the set
   abbrev now : index < c → all scene ≡ [] → Replacing T
   now below none_done =
       record {
@@ -421,18 +449,20 @@ module _ {T : Type 0} (scene : Scene T) (inv : Inv scene) (index : ℕ) (value :
         none_done = none_done;
       }
 
-  -- any step of a replace that stands at a stage, and knows what the stage tells, shows what it has to
-  pub replace_step : (stage : ReplaceStage) → ReplaceAt c code.size (all scene) (done scene) index stage → Moves stage (place_of c index)
-  replace_step replaces.Refuses at = refuses (place_of c index) at.0 at.1 at.2
-  replace_step replaces.LoadsCell at =
-      subst (Moves replaces.LoadsCell) (sym (place_is c index at.0)) (λ here k s. cell_step (now at.0 at.1) here at.2 k.0 k.1 s)
-  replace_step replaces.LoadsCount at =
-      subst (Moves replaces.LoadsCount) (sym (place_is c index at.0)) (λ here k s. count_step (now at.0 at.1) k here at.2 s)
-  replace_step (replaces.Hides count) at =
-      subst (Moves (replaces.Hides count)) (sym (place_is c index at.0)) (λ here k s. hide_step (now at.0 at.1) k.0 count here at.2 at.3 k.1 s)
-  replace_step (replaces.Stores word) at =
-      subst (Moves (replaces.Stores word)) (sym (place_is c index at.0)) (λ here k s. store_step (now at.0 at.1) k.0 word here at.2 at.3 k.1 s)
-  replace_step replaces.AddsCount at =
-      subst (Moves replaces.AddsCount) (sym (place_is c index at.0)) (λ here k s. place_step (now at.0 at.1) k.0 here at.2 k.1 s)
-  replace_step replaces.AddsChange at =
-      subst (Moves replaces.AddsChange) (sym (place_is c index at.0)) (λ here k s. end_step (now at.0 at.1) k.0 here k.1 k.2 s)
+  -- any step of a replace, at whatever stage, keeps the invariant
+  pub replace_step : (stage : ReplaceStage) → ReplaceAt c code.size (all scene) (done scene) index stage → StepShows stage (place_of c index)
+  replace_step replaces.Refuses stands = refuses (place_of c index) stands.0 stands.1 stands.2
+  replace_step replaces.LoadsCell stands =
+      subst (StepShows replaces.LoadsCell) (sym (place_is c index stands.0)) (λ here k s. cell_step (now stands.0 stands.1) here stands.2 k.0 k.1 s)
+  replace_step replaces.LoadsCount stands =
+      subst (StepShows replaces.LoadsCount) (sym (place_is c index stands.0)) (λ here k s. count_step (now stands.0 stands.1) k here stands.2 s)
+  replace_step (replaces.Hides count) stands =
+      subst (StepShows (replaces.Hides count)) (sym (place_is c index stands.0))
+      (λ here k s. hide_step (now stands.0 stands.1) k.0 count here stands.2 stands.3 k.1 s)
+  replace_step (replaces.Stores word) stands =
+      subst (StepShows (replaces.Stores word)) (sym (place_is c index stands.0))
+      (λ here k s. store_step (now stands.0 stands.1) k.0 word here stands.2 stands.3 k.1 s)
+  replace_step replaces.AddsCount stands =
+      subst (StepShows replaces.AddsCount) (sym (place_is c index stands.0)) (λ here k s. place_step (now stands.0 stands.1) k.0 here stands.2 k.1 s)
+  replace_step replaces.AddsChange stands =
+      subst (StepShows replaces.AddsChange) (sym (place_is c index stands.0)) (λ here k s. end_step (now stands.0 stands.1) k.0 here k.1 k.2 s)

@@ -1,4 +1,6 @@
--- The steps of a replace. Once it has found its owner in the cell it may write at its index, in a well-formed run, until it ends.
+-- The steps of a replace up to the load of its cell, and what its other steps need. Once it has found its
+-- owner in the cell it may write at its index until it ends, in a well-formed run. What a step has to show is
+-- said by `StepOf` and `Leads` of `Stages`.
 use Rattle.laws_container.proofs.Names.{◌≡◌, ◌≢◌, inr, ℕ, ◌+◌, ◌<◌, ◌≤◌, ◌==◌, if◌then◌else◌, Bool, false, true}
 use Rattle.laws_container.proofs.Names.{Option, Some, List, [], ◌∷◌, ◌++◌, fold, refl, sym, ap, subst, ◌∙◌}
 use Rattle.laws_container.proofs.Names.{append-nil, arith, Err, nat_tests, Ask, After, GoOn}
@@ -21,7 +23,7 @@ use Rattle.laws_container.proofs.Invariant.{Scene, Inv, ActsFor, before, after, 
 use Rattle.laws_container.proofs.Knows.{View, HasFound, IsPaid, Knows}
 use Rattle.laws_container.proofs.WellFormed.{IsWellFormedSoFar, well_formed_before}
 use Rattle.laws_container.proofs.Replaces.{ReplaceOwns, earlier}
-use Rattle.laws_container.proofs.Stages.{IsHere, Lengthens, all, done, sees_now, then_sees, StepOf, Leads}
+use Rattle.laws_container.proofs.Stages.{IsUnderWay, Lengthens, all, done, sees_now, then_sees, StepOf, Leads}
 use Rattle.laws_container.proofs.Stages.{none_lengthens, party_then, since_then, changes_then, backs_then}
 use Rattle.laws_container.proofs.Stages.{goes_calmly, ends, owes_none}
 use Rattle.laws_container.proofs.CallProgress.{replace_at, replace_number, ReplaceAt, place_is}
@@ -29,18 +31,24 @@ use Rattle.laws_container.proofs.Steps.{loads, ends_calmly}
 use Rattle.laws_container.proofs.Turns.{WellFormed, replace_owes}
 use Rattle.laws_robust.proofs.Cases.{on_bool}
 
--- a replace by the party of the scene, for an owner that is not gone, which has done nothing yet
+-- a replace by the party of the scene, of a handle whose index is below the capacity, for an owner that is
+-- not gone; it has done nothing to the set
 pub record Replacing (T : Type 0) : Type 0 where
+  -- the turn, and what holds of the machine before it
   pub scene : Scene T
   pub inv : Inv scene
+  -- the arguments of the call
   pub index : ℕ
   pub value : T
   pub owner : ℕ
+  -- the owner can be in a cell and is not gone, the index is below the capacity, and
+  -- nothing is done to the set
   pub fits : owner < empty
   pub acts : ActsFor scene owner
   pub below : index < scene.capacity
   pub none_done : all scene ≡ []
 
+-- the steps of one replace
 module _ {T : Type 0} (replacing : Replacing T) where
   open replacing use {scene, inv, index, value, owner, fits, below, none_done}
   open replacing.scene use {coding as code, capacity as c, party as p, steps, events, latest}
@@ -54,10 +62,11 @@ module _ {T : Type 0} (replacing : Replacing T) where
   abbrev start : ContainerStart T
   start = Replace index value owner
 
+  -- the replace as a call at this stage
   abbrev at_stage : ReplaceStage → ContainerFlight T
   at_stage stage = replace_at c index value owner stage
 
-  -- how the call goes on, as a replace of the kind
+  -- how the replace goes on, as a call of the container
   abbrev as_replace : After (replace_calls.Replace T) Replaced → After (ContainerFlight T) (Answer T)
   as_replace a =
       as_call calls.Replace replaced
@@ -66,9 +75,11 @@ module _ {T : Type 0} (replacing : Replacing T) where
   abbrev first : replace_calls.Replace T
   first = record { capacity = c; stage = replaces.LoadsCell; of = record {} }
 
-  abbrev Here : ReplaceStage → Type 0
-  Here stage = IsHere scene (Replace index value owner) (replace_at c index value owner stage)
+  -- the party's call under way is this replace, at this stage
+  abbrev IsAtStage : ReplaceStage → Type 0
+  IsAtStage stage = IsUnderWay scene (Replace index value owner) (replace_at c index value owner stage)
 
+  -- the party after the step by which the replace comes to stage `next`
   abbrev then_at : ReplaceStage → Option Ask → Party T
   then_at next ask = party_then scene start ask false (GoOn (at_stage next))
 
@@ -78,12 +89,14 @@ module _ {T : Type 0} (replacing : Replacing T) where
 
   -- ---- a turn ago
 
-  -- what is so of a run that is well-formed, of this replace
-  pub stands_if : (stage : ReplaceStage) → Here stage → (1 ≤ steps → MayReplace p index owner events) → StandsWellFormed p (party_of p latest) events
+  -- the call of the party keeps what a well-formed run asks of it, if the replace, once it has taken a step,
+  -- was begun where it might replace
+  pub stands_if : (stage : ReplaceStage) → IsAtStage stage → (1 ≤ steps → MayReplace p index owner events) → StandsWellFormed p (party_of p latest) events
   stands_if stage here may = grind arith
 
-  -- a turn that goes on, in a well-formed run, was of a replace that had been begun rightly
-  may_before : (stage : ReplaceStage) → Here stage → HeldSometime p (IsFilledWith owner index) events
+  -- where the run is well-formed after a step of a replace that had its owner in the cell, the replace was
+  -- begun where it might replace
+  may_before : (stage : ReplaceStage) → IsAtStage stage → HeldSometime p (IsFilledWith owner index) events
       → (y : Party T) (es : List (Event T)) → AreOwn p es → BeginsNone p es → Lengthens es → 1 ≤ y.steps
       → IsWellFormedSoFar scene.terms (put p y latest) (events ++ es) → MayReplace p index owner events
   may_before stage here filled y es own none longer few well_formed_so_far =
@@ -94,20 +107,23 @@ module _ {T : Type 0} (replacing : Replacing T) where
       (earlier p index owner events es none
       (stands index owner value (wrote_of p events ++ es) span few (held_later p (IsFilledWith owner index) events es none filled))).may
 
-  pub was_going : (stage : ReplaceStage) → Here stage → HeldSometime p (IsFilledWith owner index) events
+  -- the run was well-formed before a step of a replace that has found its owner, if it is after it
+  pub was_going : (stage : ReplaceStage) → IsAtStage stage → HeldSometime p (IsFilledWith owner index) events
       → (words' : List ℕ) (y : Party T) (es : List (Event T)) → AreOwn p es → BeginsNone p es → Lengthens es
       → 1 ≤ y.steps → WellFormed (after scene words' y es) → WellFormed (before scene)
   was_going stage here filled words' y es own none longer few =
       well_formed_before scene.terms p y latest events es own (λ h. stands_if stage here (λ s. may_before stage here filled y es own none longer few h))
 
-  pub was_calm : (stage : ReplaceStage) → Here stage → HeldSometime p (IsFilledWith owner index) events → (y : Party T)
+  -- the run was well-formed before a step that writes nothing, of a replace that has found its owner, if it
+  -- is after it
+  pub was_calm : (stage : ReplaceStage) → IsAtStage stage → HeldSometime p (IsFilledWith owner index) events → (y : Party T)
       → 1 ≤ y.steps → IsWellFormedSoFar scene.terms (put p y latest) events → WellFormed (before scene)
   was_calm stage here filled y few well_formed_so_far =
       was_going stage here filled ws y [] tt tt none_lengthens few
       (subst (λ es. IsWellFormedSoFar scene.terms (put p y latest) es) (sym (append-nil events)) well_formed_so_far)
 
-  -- it is there still, one step further
-  pub found_then : (stage next : ReplaceStage) → Here stage → (ask : Ask) (es : List (Event T)) → AreOwn p es
+  -- after a step the party's call is still this replace, which has taken a step
+  pub found_then : (stage next : ReplaceStage) → IsAtStage stage → (ask : Ask) (es : List (Event T)) → AreOwn p es
       → Lengthens es
       → HasFound index owner value (then_sees scene (Some ask) false scene.states (then_at next (Some ask)) es)
   found_then stage next here ask es own longer =
@@ -120,7 +136,7 @@ module _ {T : Type 0} (replacing : Replacing T) where
       }
 
   -- after a step that writes nothing the party's call is still this replace, which has taken a step
-  pub found_calm : (stage next : ReplaceStage) → Here stage → (ask : Ask)
+  pub found_calm : (stage next : ReplaceStage) → IsAtStage stage → (ask : Ask)
       → HasFound index owner value
       (view scene.terms (words_after ws (Some ask)) scene.states (put p (then_at next (Some ask)) latest) events p
       (since_then scene (Some ask)) (changes_then scene (Some ask)) (backs_then scene false))
@@ -135,33 +151,36 @@ module _ {T : Type 0} (replacing : Replacing T) where
 
   -- ---- a step that changes nothing and writes nothing
 
+  -- what the replace sees after a step that writes nothing and leads to stage `next`
   abbrev SeesCalmly : ReplaceStage → Ask → View T
   SeesCalmly next ask =
       view scene.terms (words_after ws (Some ask)) scene.states (put p (then_at next (Some ask)) latest) events p
       (since_then scene (Some ask)) (changes_then scene (Some ask)) (backs_then scene false)
 
-  -- a step that leaves the words and writes nothing leads a replace to its next stage, where
-  -- the conditions of that stage hold
-  pub calm_step : (stage next : ReplaceStage) (ask : Ask) → words_after ws (Some ask) ≡ ws → Here stage
+  -- a step that leaves the words and writes nothing leads a replace to the stage `next`, where the conditions
+  -- of that stage hold
+  pub calm_step : (stage next : ReplaceStage) (ask : Ask) → words_after ws (Some ask) ≡ ws → IsAtStage stage
       → HeldSometime p (IsFilledWith owner index) events → replace_owes next ≡ true
       → steps + 1 ≤ replace_number code.size next → ReplaceAt c code.size (all scene) (done scene) index next
       → Knows code c (at_stage next) (SeesCalmly next ask)
       → Leads scene start (Some ask) false scene.states [] (GoOn (at_stage next))
-  calm_step stage next ask same here filled owe few at known =
+  calm_step stage next ask same here filled owe few stands known =
       goes_calmly scene start (at_stage next) (Some ask) false scene.states here.span
       (loads scene inv start (at_stage stage) tt here (then_at next (Some ask)) (words_after ws (Some ask)) same
       (was_going stage here filled (words_after ws (Some ask)) (then_at next (Some ask)) [] tt tt none_lengthens (omega arith))
       (λ was. owe))
-      few (refl, given_is, fits, at) known
+      few (refl, given_is, fits, stands) known
 
   -- ---- its owner is looked for
 
-  module _ (here : Here replaces.LoadsCell) (nothing : done scene ≡ []) (paid : IsPaid (sees_now scene))
-      (owns : ReplaceOwns scene.terms.by p index owner events) (s : steps ≤ 0) where
+  -- the replace loads the cell of its index
+  module _ (here : IsAtStage replaces.LoadsCell) (nothing : done scene ≡ []) (paid : IsPaid (sees_now scene))
+      (owns : ReplaceOwns scene.terms.by p index owner events) (few_steps : steps ≤ 0) where
     abbrev load_cell : Ask
     load_cell = set_stages.loads (cell_word index)
 
-    -- a replace that does not find its owner in the cell ends with its refusal
+    -- a replace that finds another owner in the cell ends with the answer that its handle is
+    -- not the container's
     fails : cell ws index ≢ owner → Leads scene start (Some load_cell) false scene.states [] (Done (answers.NotRemoved ContainerHandleNotOwnedByContainer))
     fails other =
         let party_after = party_then scene start (Some load_cell) false (Done (answers.NotRemoved ContainerHandleNotOwnedByContainer)) in
@@ -182,23 +201,25 @@ module _ {T : Type 0} (replacing : Replacing T) where
         (λ i b. refl) (owes_none scene start (at_stage replaces.LoadsCell) party_after here refl))
         ((refl, (none_done, nothing)), tt) (omega arith) (omega arith)
 
+    -- a cell that has the owner now had him at a moment of the call
     found_now : cell ws index ≡ owner → HeldSometime p (IsFilledWith owner index) events
     found_now = grind (arith, held_now, filled_by, inv_of_set)
 
     -- a replace that finds its owner in the cell goes on to the number of the element
     finds : cell ws index ≡ owner → Leads scene start (Some load_cell) false scene.states [] (GoOn (at_stage replaces.LoadsCount))
-    finds is =
+    finds has_owner =
         calm_step replaces.LoadsCell replaces.LoadsCount load_cell
-        (loads_same ws (cell_word index)) here (found_now is) refl (omega arith) (below, none_done, nothing)
+        (loads_same ws (cell_word index)) here (found_now has_owner) refl (omega arith) (below, none_done, nothing)
         (record {
           paid = omega arith;
           within = below;
           owns = owns;
           found = found_calm replaces.LoadsCell replaces.LoadsCount here load_cell;
-          filled = found_now is;
+          filled = found_now has_owner;
         })
 
-    -- the step in which a replace loads the cell shows what it has to, whether it finds its owner or not
+    -- the step in which a replace loads the cell: it goes on to the number of the element if it finds its
+    -- owner, and ends if it finds another
     pub cell_step : StepOf scene start (at_stage replaces.LoadsCell)
     cell_step =
         on_bool (λ b. Leads scene start (Some (set_stages.loads (cell_word index))) false scene.states []

@@ -1,5 +1,6 @@
--- What a replace knows of its right: in a well-formed run, if it may replace at all, its index is still settled for its owner,
--- and nobody has begun to replace it since.
+-- What a replace knows of its right to write (`ReplaceOwns`): in a calm run, while its owner is not
+-- gone, and if it might replace when it began, its index is settled for its owner, and no later
+-- replace of it has begun.
 use Rattle.laws_container.proofs.Names.{◌≡◌, ℕ, ◌==◌, ◌&&◌, if◌then◌else◌, false, Option, Some, None, List, [], ◌∷◌}
 use Rattle.laws_container.proofs.Names.{◌++◌, fold, refl, sym, ap, subst, ◌∙◌, append_assoc, eq-eqb, arith}
 use Rattle.laws_container.proofs.Names.{append_cancel_left, fold-append, Event, Begun, Container, TakesNot, NoneTakes}
@@ -10,6 +11,7 @@ use Rattle.laws_container.proofs.Replacers.{replacer_after, replacer_of}
 use Rattle.laws_container.proofs.Writers.{Adds, Replacing}
 
 module _ {T : Type 0} where
+  -- the replace of index `i` for owner `o` has its right, if it may replace
   abbrev pub ReplaceOwns : GoneBy → ℕ → ℕ → ℕ → List (Event T) → Type 0
   ReplaceOwns by p i o events =
       IsCalm by events → is_gone by o events ≡ false → MayReplace p i o events → Replacing p i o events
@@ -32,22 +34,26 @@ module _ {T : Type 0} where
 
   -- ---- another party takes a turn
 
-  -- where no event begins to give back or replace at the index for its owner, no later one of them does
+  -- where none of these events begins to give back or replace at the index for its owner, none
+  -- of the later ones does
   none_takes_last : (i o : ℕ) (since es : List (Event T)) → NoneTakes i o (since ++ es) → NoneTakes i o es
-  none_takes_last i o [] es h = h
-  none_takes_last i o (e ∷ rest) es h = none_takes_last i o rest es h.1
+  none_takes_last i o [] es none_takes = none_takes
+  none_takes_last i o (e ∷ rest) es none_takes = none_takes_last i o rest es none_takes.1
 
-  -- what a replace may do, it might do before
+  -- the replace might replace before the events `es`, and none of them begins to give back or replace at the
+  -- index for its owner
   pub record Earlier (p i o : ℕ) (events es : List (Event T)) : Type 0 where
     pub may : MayReplace p i o events
     pub none : NoneTakes i o es
 
+  -- where none of these events begins to give back or replace at the index for its owner, none of
+  -- the earlier ones does
   none_takes_first : (i o : ℕ) (since es : List (Event T)) → NoneTakes i o (since ++ es) → NoneTakes i o since
-  none_takes_first i o [] es h = tt
-  none_takes_first i o (e ∷ rest) es h = (h.0, none_takes_first i o rest es h.1)
+  none_takes_first i o [] es none_takes = tt
+  none_takes_first i o (e ∷ rest) es none_takes = (none_takes.0, none_takes_first i o rest es none_takes.1)
 
-  -- a replace that may replace after events that begin none of its party might do so before
-  -- them, and none of them begins to give back or replace there for its owner
+  -- a replace that may replace after events that begin no call of its party might do so before them, and none
+  -- of them begins to give back or replace at the index for its owner
   pub earlier : (p i o : ℕ) (events es : List (Event T)) → BeginsNone p es → MayReplace p i o (events ++ es) → Earlier p i o events es
   earlier p i o events es none may =
       let k =
@@ -71,20 +77,23 @@ module _ {T : Type 0} where
         none = none_takes_last i o k.since es all;
       }
 
+  -- an event that begins no replace at the index for its owner leaves whose replace is the latest
   replacer_stays : (i o : ℕ) (party : Option ℕ) (e : Event T) → TakesNot i o e → replacer_after i o party e ≡ party
   replacer_stays i o party e takes_not = grind arith
 
+  -- events that begin no replace at the index for its owner leave whose replace is the latest
   replacers_stay : (i o : ℕ) (party : Option ℕ) (es : List (Event T)) → NoneTakes i o es → fold (replacer_after i o) party es ≡ party
-  replacers_stay i o party [] h = refl
-  replacers_stay i o party (e ∷ es) h = ap (λ r. fold (replacer_after i o) r es) (replacer_stays i o party e h.0) ∙ replacers_stay i o party es h.1
+  replacers_stay i o party [] none_takes = refl
+  replacers_stay i o party (e ∷ es) none_takes =
+      ap (λ r. fold (replacer_after i o) r es) (replacer_stays i o party e none_takes.0) ∙ replacers_stay i o party es none_takes.1
 
   -- any turn of another party leaves a replace its right
   pub replace_later : (by : GoneBy) (events es : List (Event T)) (q i o : ℕ) → Spares by q events es
       → ReplaceOwns by q i o events → ReplaceOwns by q i o (events ++ es)
-  replace_later by events es q i o spares h calm alive may =
+  replace_later by events es q i o spares has_right calm alive may =
       let before = earlier q i o events es spares.none may in
       let lives = gone_less by o events es alive in
-      let own = h (calm_less by events es calm) lives before.may in
+      let own = has_right (calm_less by events es calm) lives before.may in
       record {
         settled = spares.settled calm i o lives own.settled before.none;
         latest = fold-append (replacer_after i o) None events es ∙ (replacers_stay i o (replacer_of i o events) es before.none ∙ own.latest);

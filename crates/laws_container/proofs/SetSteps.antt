@@ -1,5 +1,5 @@
--- The steps of the calls of a container on its set of indices: they leave the elements. Who frees an index leaves what stands
--- there to nobody who may write.
+-- The steps of the calls of a container on its set of indices leave the elements, and keep the invariant. A
+-- party that frees an index leaves no other party that may write there.
 use Rattle.laws_container.proofs.Names.{◌≡◌, ◌≢◌, ⊎_elim, ℕ, ◌+◌, ◌<◌, ◌≤◌, true, false, None, List, [], ◌∷◌, ◌++◌}
 use Rattle.laws_container.proofs.Names.{length, get_or, set, refl, ap, subst, ◌∙◌, arith, get_or-set_other, cases_eq}
 use Rattle.laws_container.proofs.Names.{length-set, fold-append, Event, Filled, Granted, FreedOf, Locked}
@@ -9,60 +9,65 @@ use Rattle.laws_container.proofs.Names.{at_other, some_none, IsBy}
 use Rattle.laws_container.specs.Gone.{RecoversBy}
 use Rattle.laws_robust.proofs.Invariant as set_invariant
 use Rattle.laws_container.proofs.Effects.{OwesStill, calmly, reads_same}
-use Rattle.laws_container.proofs.Invariant.{Scene, Inv, Does, before, after, of_set}
+use Rattle.laws_container.proofs.Invariant.{Scene, Inv, KeepsInvariant, before, after, of_set}
 use Rattle.laws_container.proofs.Left.{left_after, left_of}
-use Rattle.laws_container.proofs.Stages.{NoLook, IsHere, does_with}
+use Rattle.laws_container.proofs.Stages.{NoLook, IsUnderWay, does_with}
 use Rattle.laws_container.proofs.Turns.{WellFormed}
 use Rattle.laws_container.proofs.Writers.{IsWriter, Replacing}
 
+-- a call that is no look is under way in the turn of the scene; `y` is the party after the step
 module _ {T : Type 0} (scene : Scene T) (inv : Inv scene) (start : ContainerStart T) (flight : ContainerFlight T)
-    (none : NoLook flight) (here : IsHere scene start flight) (y : Party T) where
+    (none : NoLook flight) (here : IsUnderWay scene start flight) (y : Party T) where
   open scene use {capacity as c, party as p, events as events}
 
   abbrev ws : List ℕ
   ws = scene.words
 
+  -- the run was well-formed before the step if it is after it
   abbrev WellFormedBefore : List ℕ → List (Event T) → Type 0
   WellFormedBefore words' es = WellFormed (after scene words' y es) → WellFormed (before scene)
 
-  -- the words behind the cells stay
+  -- the step leaves all words behind the counter and the cells
   abbrev pub LeavesRest : List ℕ → Type 0
   LeavesRest words' = (n : ℕ) → 1 + c ≤ n → get_or words' n 0 ≡ get_or ws n 0
 
+  -- a store to the counter or to a cell leaves the words behind them
   pub rest_set : (words' : List ℕ) (m x : ℕ) → m < 1 + c → words' ≡ set ws m x → LeavesRest words'
   rest_set = grind (arith, get_or-set_other)
 
+  -- a store leaves how many words there are
   pub wide_set : (words' : List ℕ) (m x : ℕ) → words' ≡ set ws m x → length words' ≡ length ws
   wide_set words' m x new = ap length new ∙ length-set ws m x
 
-  -- an index is filled, or granted, or all is locked
+  -- the step fills or grants an index, locks the set, or frees an index, and leaves the
+  -- words behind the cells
   module _ (words' : List ℕ) (rest : LeavesRest words') (wide : length words' ≡ length ws) where
-    -- filling an index keeps what holds of the machine
+    -- filling an index keeps the invariant
     pub fills : (i owner : ℕ) → set_invariant.Does (of_set scene) words' (Filled p i owner ∷ [])
         → (well_formed : WellFormedBefore words' (Filled p i owner ∷ []))
         → OwesStill scene inv words' y (Filled p i owner ∷ []) well_formed
-        → Does scene words' scene.states y (Filled p i owner ∷ [])
+        → KeepsInvariant scene words' scene.states y (Filled p i owner ∷ [])
     fills i owner does well_formed still =
         does_with scene inv start flight none here words' y (Filled p i owner ∷ [])
         (calmly scene inv words' y (Filled p i owner ∷ []) well_formed rest wide
         (reads_same scene inv words' y (Filled p i owner ∷ []) well_formed (λ j o. refl) (λ j b. refl) (λ j b. refl)) still) does
         (record { asks = (tt, tt); recovers = (tt, tt); answers = (tt, tt); contains = λ holds. (tt, tt); places = λ holds. (tt, tt) })
 
-    -- granting an index keeps what holds of the machine
+    -- granting an index keeps the invariant
     pub grants : (i owner : ℕ) → set_invariant.Does (of_set scene) words' (Granted p i owner ∷ [])
         → (well_formed : WellFormedBefore words' (Granted p i owner ∷ []))
         → OwesStill scene inv words' y (Granted p i owner ∷ []) well_formed
-        → Does scene words' scene.states y (Granted p i owner ∷ [])
+        → KeepsInvariant scene words' scene.states y (Granted p i owner ∷ [])
     grants i owner does well_formed still =
         does_with scene inv start flight none here words' y (Granted p i owner ∷ [])
         (calmly scene inv words' y (Granted p i owner ∷ []) well_formed rest wide
         (reads_same scene inv words' y (Granted p i owner ∷ []) well_formed (λ j o. refl) (λ j b. refl) (λ j b. refl)) still) does
         (record { asks = (tt, tt); recovers = (tt, tt); answers = (tt, tt); contains = λ holds. (tt, tt); places = λ holds. (tt, tt) })
 
-    -- locking the set keeps what holds of the machine
+    -- locking the set keeps the invariant
     pub locks : set_invariant.Does (of_set scene) words' (Locked p ∷ [])
         → (well_formed : WellFormedBefore words' (Locked p ∷ []))
-        → OwesStill scene inv words' y (Locked p ∷ []) well_formed → Does scene words' scene.states y (Locked p ∷ [])
+        → OwesStill scene inv words' y (Locked p ∷ []) well_formed → KeepsInvariant scene words' scene.states y (Locked p ∷ [])
     locks does well_formed still =
         does_with scene inv start flight none here words' y (Locked p ∷ [])
         (calmly scene inv words' y (Locked p ∷ []) well_formed rest wide
@@ -71,12 +76,13 @@ module _ {T : Type 0} (scene : Scene T) (inv : Inv scene) (start : ContainerStar
 
     -- ---- an index is freed
 
+    -- the step frees index `i` for `owner`
     module _ (i owner : ℕ) (does : set_invariant.Does (of_set scene) words' (FreedOf p i owner ∷ []))
         (well_formed : WellFormedBefore words' (FreedOf p i owner ∷ [])) where
       abbrev free : List (Event T)
       free = FreedOf p i owner ∷ []
 
-      -- nobody else may write there
+      -- no other party, whose owner is not gone, may write at the index that is freed
       not_here : {A : Type 0} → WellFormed (after scene words' y free) → (q : ℕ) → q ≢ p → (o : ℕ)
           → is_gone scene.terms.by o events ≡ false → IsWriter q i o events → A
       not_here holds q ne o lives theirs =
@@ -89,10 +95,11 @@ module _ {T : Type 0} (scene : Scene T) (inv : Inv scene) (start : ContainerStar
           some_none (settled_of i (events ++ free)) o (fold-append (settled_after i) None events free ∙ at_same i i None (settled_of i events) refl) k)
           theirs
 
+      -- what was left at an index is left there after the freeing
       left_on : (j : ℕ) → left_of j events ≡ true → left_of j (events ++ free) ≡ true
       left_on j was = let left = fold-append (left_after j) true events free in grind arith
 
-      -- where another party may write, and nothing is left, nothing is left after the index is freed
+      -- where another party may write and has placed its value, nothing is left after the freeing
       spared : WellFormed (after scene words' y free) → (q : ℕ) → q ≢ p → (j o : ℕ)
           → is_gone scene.terms.by o events ≡ false → IsWriter q j o events → left_of j events ≡ false
           → left_of j (events ++ free) ≡ false
@@ -101,10 +108,10 @@ module _ {T : Type 0} (scene : Scene T) (inv : Inv scene) (start : ContainerStar
           (λ other. fold-append (left_after j) true events free ∙ (at_other i j true (left_of j events) other ∙ was))
           (cases_eq j i)
 
-      -- freeing an index, as a party may, keeps what holds of the machine
+      -- freeing an index, as a party may, keeps the invariant
       pub frees : OwesStill scene inv words' y free well_formed
           → RecoversBy scene.terms.by events (FreedOf p i owner)
-          → Does scene words' scene.states y (FreedOf p i owner ∷ [])
+          → KeepsInvariant scene words' scene.states y (FreedOf p i owner ∷ [])
       frees still right =
           does_with scene inv start flight none here words' y free
           (calmly scene inv words' y free well_formed rest wide

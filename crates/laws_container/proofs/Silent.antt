@@ -9,18 +9,19 @@ use Rattle.laws_container.proofs.Names.{IsWorn, Quiet, stays_same, quietly, Righ
 use Rattle.model.specs.declared.families.container.ContainerStart.TheVariants.{Add, Replace}
 use Rattle.laws_robust.proofs.Invariant as set_invariant
 use Rattle.laws_container.proofs.Effects.{OwesStill, calmly, reads_same}
-use Rattle.laws_container.proofs.Invariant.{Scene, Inv, Changes, AreAllRight, Does, before, after, of_set, inv_of_set}
+use Rattle.laws_container.proofs.Invariant.{Scene, Inv, KeepsElements, AreAllRight, KeepsInvariant, before, after, of_set, inv_of_set}
 use Rattle.laws_container.proofs.Left.{left_after}
-use Rattle.laws_container.proofs.Stages.{NoLook, IsHere, does_with}
+use Rattle.laws_container.proofs.Stages.{NoLook, IsUnderWay, does_with}
 use Rattle.laws_container.proofs.Turns.{WellFormed}
 
 module _ {T : Type 0} where
+  -- the end of any call but an add and a replace
   abbrev pub EndsSilently : ContainerStart T → Type 0
   EndsSilently (Add value owner) = ⊥
   EndsSilently (Replace index value owner) = ⊥
   EndsSilently start = Unit {0}
 
-  -- the events that change nothing of the set nor of what stands
+  -- the event changes nothing of the set, of what stands or of what is announced
   abbrev pub Silent : Event T → Type 0
   Silent (Asked p index owner) = Unit {0}
   Silent (Told p index owner) = Unit {0}
@@ -29,12 +30,14 @@ module _ {T : Type 0} where
   Silent (Finished p (Container start) answer) = EndsSilently start
   Silent e = ⊥
 
-  -- what goes over such events stays as it was
+  -- `f` reads something from one event after another, and no silent event changes it
   module _ {A : Type 0} (f : A → Event T → A) (stays : (e : Event T) → Silent e → (a : A) → f a e ≡ a) where
+    -- silent events change nothing of what `f` reads
     fold_stays : (es : List (Event T)) → AllByRecursion Silent es → (a : A) → fold f a es ≡ a
-    fold_stays [] h a = refl
-    fold_stays (e ∷ es) h a = ap (λ b. fold f b es) (stays e h.0 a) ∙ fold_stays es h.1 a
+    fold_stays [] all_are a = refl
+    fold_stays (e ∷ es) all_are a = ap (λ b. fold f b es) (stays e all_are.0 a) ∙ fold_stays es all_are.1 a
 
+  -- for whom an index is filled, who holds it, the lock and the dead are not changed by a silent event
   filled_stays : (i : ℕ) (e : Event T) → Silent e → (o : Option ℕ) → filled_after i o e ≡ o
   filled_stays i e silent o = grind arith
 
@@ -47,6 +50,8 @@ module _ {T : Type 0} where
   dead_stays : (owner : ℕ) (e : Event T) → Silent e → (b : Bool) → dead_after owner b e ≡ b
   dead_stays o e silent b = grind arith
 
+  -- what stands, what is left, for whom an index is settled, rights and announcements are not
+  -- changed by a silent event
   contents_stay : (i : ℕ) (e : Event T) → Silent e → (o : Option T) → contents_after i o e ≡ o
   contents_stay i e silent o = grind arith
 
@@ -62,29 +67,34 @@ module _ {T : Type 0} where
   announced_stays : (i : ℕ) (e : Event T) → Silent e → (b : Bool) → announced_after i b e ≡ b
   announced_stays i e silent b = grind arith
 
+  -- a silent event is right as an event of the set
   does_right : (c : ℕ) (earlier : List (Event T)) (e : Event T) → Silent e → SetDoes c earlier e
   does_right c earlier e silent = grind arith
 
   holds_right : (earlier : List (Event T)) (e : Event T) → Silent e → HoldsRight earlier e
   holds_right earlier e silent = grind arith
 
+  -- a silent event, if it is the end of a call, says nothing that may be wrong
   answers_right : (by : GoneBy) (worn : Type 0) (c : ℕ) (earlier : List (Event T)) (e : Event T) → Silent e → AnswersBy by worn c earlier e
   answers_right by worn c earlier e silent = grind arith
 
+  -- silent events are right if each is
   all_right : (P : List (Event T) → Event T → Type 0)
       → ((earlier : List (Event T)) (e : Event T) → Silent e → P earlier e) → (earlier es : List (Event T))
       → AllByRecursion Silent es → AreRight P earlier es
-  all_right P right earlier [] h = tt
-  all_right P right earlier (e ∷ es) h = (right earlier e h.0, all_right P right (earlier ++ e ∷ []) es h.1)
+  all_right P right earlier [] all_are = tt
+  all_right P right earlier (e ∷ es) all_are = (right earlier e all_are.0, all_right P right (earlier ++ e ∷ []) es all_are.1)
 
+  -- silent events change nothing of what is read of the set
   pub silent_quiet : (es : List (Event T)) → AllByRecursion Silent es → Quiet es
   silent_quiet = grind (arith, fold_stays, filled_stays, holder_stays, settled_stays, right_stays, locked_stays, dead_stays, all_right, holds_right)
 
+-- the step leaves the words, and writes the silent events `es`
 module _ {T : Type 0} (scene : Scene T) (inv : Inv scene) (words' : List ℕ) (same : words' ≡ scene.words)
     (y : Party T) (es : List (Event T)) (silent : AllByRecursion Silent es) (own : AreOwn scene.party es) where
   open scene use {capacity as c, events as events}
 
-  -- over such events the set stays as it was
+  -- a step that leaves the words and writes silent events does nothing to the set
   pub silent_set : set_invariant.Does (of_set scene) words' es
   silent_set =
       quietly (of_set scene) (inv_of_set scene inv) words' es
@@ -93,19 +103,19 @@ module _ {T : Type 0} (scene : Scene T) (inv : Inv scene) (words' : List ℕ) (s
       (all_right (AnswersBy scene.terms.by (IsWorn scene.terms.by words') c)
       (answers_right scene.terms.by (IsWorn scene.terms.by words') c) events es silent)
 
-  -- over such events the elements stay as they were
+  -- a step that leaves the words and writes silent events does nothing to the elements
   pub silent_changes : (well_formed : WellFormed (after scene words' y es) → WellFormed (before scene))
-      → OwesStill scene inv words' y es well_formed → Changes scene words' y es
+      → OwesStill scene inv words' y es well_formed → KeepsElements scene words' y es
   silent_changes well_formed still =
       calmly scene inv words' y es well_formed (λ n behind. ap (λ w. get_or w n 0) same) (ap length same)
       (reads_same scene inv words' y es well_formed (λ i. fold_stays (contents_after i) (contents_stay i) es silent)
       (λ i. fold_stays (announced_after i) (announced_stays i) es silent) (λ i. fold_stays (left_after i) (left_stays i) es silent))
       still
 
-  -- a step of a call that is no look, which writes such events, shows what it has to
-  pub silently : (start : ContainerStart T) (flight : ContainerFlight T) (none : NoLook flight) (here : IsHere scene start flight)
+  -- a step that leaves the words and writes silent events, of a call that is no look, keeps the invariant
+  pub silently : (start : ContainerStart T) (flight : ContainerFlight T) (none : NoLook flight) (here : IsUnderWay scene start flight)
       → (well_formed : WellFormed (after scene words' y es) → WellFormed (before scene))
       → OwesStill scene inv words' y es well_formed → AreAllRight scene words' y es
-      → Does scene words' scene.states y es
+      → KeepsInvariant scene words' scene.states y es
   silently start flight none here well_formed still right =
       does_with scene inv start flight none here words' y es (silent_changes well_formed still) silent_set right

@@ -1,5 +1,5 @@
--- Every turn keeps what holds of the machine of a container: the laws of the family, from what is shown of each call, of a
--- begin, of a death and of the opening.
+-- Every turn keeps the invariant of a container. From what is shown of each call, of a begin, of a death and
+-- of the opening (`Shown`) follow the laws of the family, and that each machine that a run reaches is sound.
 use Rattle.laws_container.proofs.Names.{◌≡◌, ℕ, ◌+◌, ◌-◌, ◌^◌, ◌<◌, ◌≤◌, inl, if◌then◌else◌, Bool, true, false}
 use Rattle.laws_container.proofs.Names.{Option, Some, None, option_map, List, [], ◌∷◌, ◌++◌, refl, sym, ap, subst}
 use Rattle.laws_container.proofs.Names.{◌∙◌, arith, ContainerState, Event, Begun, Died, Start, Container, Flight}
@@ -23,13 +23,13 @@ use Rattle.model.proofs.FamilyLaws.{Turns, AllTurns}
 use Rattle.model.proofs.Frame as frame
 use Rattle.model.proofs.Scenes.{DecidesFrom}
 use Rattle.laws_robust.proofs.Invariant as set
-use Rattle.laws_container.proofs.Invariant.{outline, ContainerNow, Scene, Inv, Elements, Does, Shows, Knowing}
+use Rattle.laws_container.proofs.Invariant.{outline, ContainerNow, Scene, Inv, Elements, KeepsInvariant, Shows, Knowing}
 use Rattle.laws_container.proofs.Invariant.{moment, before, view, family, family_by, wrote_of, at_written, owes}
 use Rattle.laws_container.proofs.Invariant.{holds_more, then_is}
 use Rattle.laws_container.specs.Gone.{acts_for_gone}
 use Rattle.laws_container.proofs.Knows.{Knows}
 use Rattle.laws_container.proofs.Moves.{CallSteps, step_moves, decision_moves}
-use Rattle.laws_container.proofs.Stages.{IsHere, all, done, sees_now}
+use Rattle.laws_container.proofs.Stages.{IsUnderWay, all, done, sees_now}
 use Rattle.laws_container.proofs.CallProgress.{At}
 use Rattle.laws_container.proofs.CallProgress as standing
 use Rattle.laws_container.proofs.Terms.{Terms, dying, Keeps}
@@ -37,7 +37,7 @@ use Rattle.laws_container.proofs.Terms.{Terms, dying, Keeps}
 -- ---- what is shown of a begin, of a death and of the opening
 
 module _ {T : Type 0} where
-  -- where owners die a recovery is of a dead one
+  -- where owners die, only a dead owner may be recovered
   abbrev pub MayRecover : GoneBy → List (Event T) → ContainerStart T → Type 0
   MayRecover Death events (starts.Recover owner mode) = is_dead owner events ≡ true
   MayRecover by events start = Unit {0}
@@ -46,9 +46,10 @@ module _ {T : Type 0} where
   abbrev pub first_party : ℕ → ℕ → ContainerStart T → Party T
   first_party c changes start = party_at_begin (Container start) (flights.Container (first c start)) changes
 
-  -- a call that begins: what it does, where it stands, and what it knows
+  -- what has to be shown of a call that begins: it keeps the invariant, and its first stage is where the call
+  -- stands and knows what it tells
   pub record Begins (scene : Scene T) (start : ContainerStart T) : Type 0 where
-    pub does : Does scene scene.words (states_at_begin scene.coding scene.capacity start scene.party scene.states)
+    pub does : KeepsInvariant scene scene.words (states_at_begin scene.coding scene.capacity start scene.party scene.states)
         (first_party scene.capacity scene.changes start) (Begun scene.party (Container start) ∷ [])
     pub at : At scene.capacity scene.coding.size [] [] start (first scene.capacity start)
     pub knows : Knows scene.coding scene.capacity (first scene.capacity start)
@@ -56,7 +57,8 @@ module _ {T : Type 0} where
         (put scene.party (first_party scene.capacity scene.changes start) scene.latest)
         (scene.events ++ Begun scene.party (Container start) ∷ []) scene.party scene.changes scene.changes 0)
 
-  -- the death of an owner: what holds after it, and what every call knows still
+  -- what has to be shown of the death of an owner: the invariant holds after it, and each
+  -- call knows what it knew
   pub record Dies (terms : Terms) (code : Coding T) (c : ℕ) (words dead : List ℕ)
       (states : List (ℕ × ContainerState T)) (latest : List (ℕ × Party T)) (events : List (Event T))
       (turns o : ℕ) : Type 0 where
@@ -66,12 +68,12 @@ module _ {T : Type 0} where
         → Knows code c flight (view terms words states latest events q since changes backs)
         → Knows code c flight (view terms words states latest (events ++ Died o ∷ []) q since changes backs)
 
-  -- the opening: what holds of it
+  -- what has to be shown of the opening: the invariant holds of it
   pub record Opens (terms : Terms) (code : Coding T) (c : ℕ) : Type 0 where
     pub good : set.Good {T = T} terms.by c (opening_words code.size c) [] [] 0
     pub elements : Elements code c (moment terms (opening_words code.size c) [] []) [] 0
 
--- all that is shown of the family's turns
+-- all that is to be shown of the container's turns: the steps of each call, a begin, a death and the opening
 pub record Shown (T : Type 0) : Type 0 where
   pub calls : (scene : Scene T) → Inv scene → CallSteps scene
   pub begins : (scene : Scene T)
@@ -88,7 +90,7 @@ pub record Shown (T : Type 0) : Type 0 where
   pub opens : (terms : Terms) (code : Coding T) (c : ℕ) → IsCoding code → 1 ≤ c → c < 2 ^ 32 → Opens terms code c
 
 module _ {T : Type 0} where
-  -- a call that begins on the container is one of its own, for an owner that is none of an empty cell
+  -- the call that begins is the container's own for this name, and its owner is a number that a cell can hold
   abbrev pub IsOwn : ℕ → Start T → Flight T → Type 0
   IsOwn c (Container start) (flights.Container flight) = (first c start ≡ flight) × (names_owner start ≡ true)
   IsOwn c start flight = ⊥
@@ -96,8 +98,9 @@ module _ {T : Type 0} where
   named_own : (c : ℕ) (start : ContainerStart T) (flight : Flight T) (b : Bool) → names_owner start ≡ b
       → option_map flights.Container (if b then Some (first c start) else None) ≡ Some flight
       → IsOwn c (Container start) flight
-  named_own c start flight b t e = grind arith
+  named_own c start flight b owner_test begins_so = grind arith
 
+  -- what begins on a container is one of its calls at its first stage, of an owner that a cell can hold
   pub begins_own : (c : ℕ) (kept : Registry T) (start : Start T) (flight : Flight T)
       → first_of kinds.Container c start kept ≡ Some flight → IsOwn c start flight
   begins_own = grind (arith, named_own)
@@ -105,7 +108,7 @@ module _ {T : Type 0} where
 -- ---- the laws of the family
 
 module _ {T : Type 0} where
-  -- whom the rows refuse as dead is dead by the events
+  -- an owner whom the rows of the machine refuse as dead is dead by the events
   lives_by_rows : (dead : List ℕ) (events : List (Event T))
       → ((owner : ℕ) → has_died owner dead ≡ is_dead owner events) → (flight : ContainerFlight T)
       → acts_for_dead dead flight ≡ false → acts_for_gone Death events flight ≡ false
@@ -117,29 +120,31 @@ pub record MayGoOn {T : Type 0} (terms : Terms) (t : Trace T) : Type 0 where
   pub few : Keeps terms → t.world.turns < 2 ^ 64 - 2
 
 module _ {T : Type 0} where
+  -- where few turns are taken the counter has room
   few_room : (by : GoneBy) (c : ℕ) (words dead : List ℕ) (events : List (Event T)) (turns : ℕ)
       → set.Good by c words dead events turns → turns < 2 ^ 64 - 2 → set.HasRoom by words
   few_room by c words dead events turns good small = grind arith
 
+  -- a sound machine of few turns may go on
   pub may_go_on : (terms : Terms) (code : Coding T) (c : ℕ) (t : Trace T) → frame.Sound (family_by terms code c) t
       → t.world.turns < 2 ^ 64 - 2 → MayGoOn terms t
   may_go_on terms code c t sound small = let by_few_room = few_room in grind arith
 
--- `c` is the capacity, `t` the run so far, and `s` what is sound of it
-module _ {T : Type 0} (shown : Shown T) (terms : Terms) (code : Coding T) (c : ℕ) (t : Trace T) (s : frame.Sound (family_by terms code c) t) where
+-- `c` is the capacity, `t` the run up to this turn, and `s` that it is sound
+module _ {T : Type 0} (shown : Shown T) (terms : Terms) (code : Coding T) (c : ℕ) (t : Trace T) (sound : frame.Sound (family_by terms code c) t) where
   abbrev pub kept_now : Registry T
-  kept_now = registries.Container s.state.dead s.state.states
+  kept_now = registries.Container sound.state.dead sound.state.states
 
-  -- the turn of a call of this party
+  -- the scene of a turn of party `p`, whose call is `x` and began after `since` changes
   abbrev pub scene_of : ℕ → Party T → ℕ → Scene T
   scene_of p x since =
       record {
         terms = terms;
         coding = code;
         capacity = c;
-        words = s.state.words;
-        dead = s.state.dead;
-        states = s.state.states;
+        words = sound.state.words;
+        dead = sound.state.dead;
+        states = sound.state.states;
         party = p;
         steps = x.steps;
         backs = x.backs;
@@ -150,68 +155,77 @@ module _ {T : Type 0} (shown : Shown T) (terms : Terms) (code : Coding T) (c : �
         events = t.events;
       }
 
-  pub state_is : s.state ≡ record { words = s.state.words; dead = s.state.dead; states = s.state.states; latest = t.world.latest; events = t.events }
+  pub state_is : sound.state ≡ record {
+    words = sound.state.words;
+    dead = sound.state.dead;
+    states = sound.state.states;
+    latest = t.world.latest;
+    events = t.events;
+  }
   state_is = grind arith
 
-  -- `x` is the call of party `p`
+  -- `x` is the latest call of party `p`
   module _ (p : ℕ) (x : Party T) (since : ℕ) (found : party_of p t.world.latest ≡ Some x) where
     pub inv_with : MayGoOn terms t → Inv (scene_of p x since)
     inv_with may = grind arith
 
     pub inv_of : t.world.turns < 2 ^ 64 - 2 → Inv (scene_of p x since)
-    inv_of small = inv_with (may_go_on terms code c t s small)
+    inv_of small = inv_with (may_go_on terms code c t sound small)
 
-    -- its call stands there by the events
+    -- the call stands at its stage, has taken no more steps than that allows, and knows what the stage tells
     pub record IsThere (start : ContainerStart T) (flight : ContainerFlight T) : Type 0 where
-      pub here : IsHere (scene_of p x since) start flight
+      pub here : IsUnderWay (scene_of p x since) start flight
       pub at : At c code.size (all (scene_of p x since)) (done (scene_of p x since)) start flight
       pub steps : x.steps ≤ standing.number_of c code.size flight x.backs
       pub knows : Knows code c flight (sees_now (scene_of p x since))
 
+    -- a call that stands in the frame's sense stands in the container's
     pub is_there : (start : ContainerStart T) (flight : ContainerFlight T)
-        → StandsThere (family_by terms code c) t s p x since (Container start) (flights.Container flight)
+        → StandsThere (family_by terms code c) t sound p x since (Container start) (flights.Container flight)
         → IsThere start flight
     is_there start flight stands_there = grind arith
 
-    -- the rows that it has passed
+    -- a call whose turn the rows do not refuse acts for no dead owner
     pub passes : (flight : ContainerFlight T) (said : Option Bool)
         → first_row (going_rows code kept_now (Some (flights.Container flight)) said) ≡ None
-        → acts_for_dead s.state.dead flight ≡ false
+        → acts_for_dead sound.state.dead flight ≡ false
     passes = grind (arith, first_row, row_passed)
 
     -- ---- a step
 
-    -- where its run keeps to that, the call acts for nobody who is gone
+    -- where the run keeps to its terms, the call acts for nobody who is gone
     abbrev pub IsRightly : Flight T → Type 0
     IsRightly (flights.Container flight) = Keeps terms → acts_for_gone terms.by t.events flight ≡ false
     IsRightly flight = Unit {0}
 
-    -- a step of a call that stands there, passes the rows and acts for nobody who is gone,
-    -- comes from there to a sound machine
+    -- a step of a call at its stage, which the rows do not refuse and which acts for nobody who is gone,
+    -- leads to a sound machine
     pub comes : MayGoOn terms t → (start : Start T) (flight : Flight T) → IsRightly flight
         → first_row (going_rows code kept_now (Some flight) None) ≡ None
-        → StandsThere (family_by terms code c) t s p x since start flight
-        → ComesFrom (family_by terms code c) t s p x since code s.state.words kept_now start flight
-    comes may (Container start) (flights.Container flight) rightly r stands_there =
+        → StandsThere (family_by terms code c) t sound p x since start flight
+        → ComesFrom (family_by terms code c) t sound p x since code sound.state.words kept_now start flight
+    comes may (Container start) (flights.Container flight) rightly rows_pass stands_there =
         let there = is_there start flight stands_there in
         let inv = inv_with may in
         let moves =
         step_moves (scene_of p x since) inv (shown.calls (scene_of p x since) inv) start flight there.at there.here
-        (passes flight None r) rightly there.steps there.knows in
+        (passes flight None rows_pass) rightly there.steps there.knows in
         record {
           state = _;
           fit = record { kept = refl; words = refl };
-          holds = holds_more (scene_of p x since) _ _ (Open (Container start) (wrote_of p t.events)) _ _ _ moves s.state state_is s.holds s.inv;
-          owes = owes (scene_of p x since) _ _ (Open (Container start) (wrote_of p t.events)) _ _ _ moves s.state state_is s.holds s.inv there.here.span;
+          holds = holds_more (scene_of p x since) _ _ (Open (Container start) (wrote_of p t.events)) _ _ _ moves sound.state state_is sound.holds sound.inv;
+          owes =
+              owes (scene_of p x since) _ _ (Open (Container start) (wrote_of p t.events)) _ _ _ moves sound.state
+              state_is sound.holds sound.inv there.here.span;
         }
-    comes may start flight rightly r stands_there = absurd stands_there.at
+    comes may start flight rightly rows_pass stands_there = absurd stands_there.at
 
     -- ---- a decision
 
-    -- a decision that a call that stands there is told comes from there to a sound machine
+    -- a decision that a call at its stage waits for leads to a sound machine
     pub decides : MayGoOn terms t → (said : Bool) (start : Start T) (flight : Flight T)
-        → is_question (want_of code flight) ≡ true → StandsThere (family_by terms code c) t s p x since start flight
-        → DecidesFrom (family_by terms code c) t s p x since code (number_of said) s.state.words kept_now start flight
+        → is_question (want_of code flight) ≡ true → StandsThere (family_by terms code c) t sound p x since start flight
+        → DecidesFrom (family_by terms code c) t sound p x since code (number_of said) sound.state.words kept_now start flight
     decides may said (Container start) (flights.Container flight) asks stands_there =
         let there = is_there start flight stands_there in
         let inv = inv_with may in
@@ -221,30 +235,35 @@ module _ {T : Type 0} (shown : Shown T) (terms : Terms) (code : Coding T) (c : �
         record {
           state = _;
           fit = record { kept = refl; words = refl };
-          holds = holds_more (scene_of p x since) _ _ (Open (Container start) (wrote_of p t.events)) _ _ _ moves s.state state_is s.holds s.inv;
-          owes = owes (scene_of p x since) _ _ (Open (Container start) (wrote_of p t.events)) _ _ _ moves s.state state_is s.holds s.inv there.here.span;
+          holds = holds_more (scene_of p x since) _ _ (Open (Container start) (wrote_of p t.events)) _ _ _ moves sound.state state_is sound.holds sound.inv;
+          owes =
+              owes (scene_of p x since) _ _ (Open (Container start) (wrote_of p t.events)) _ _ _ moves sound.state
+              state_is sound.holds sound.inv there.here.span;
         }
     decides may said start flight asks stands_there = absurd stands_there.at
 
   -- ---- a call begins
 
+  -- party `p` begins a call
   module _ (p : ℕ) where
     span_begun : (start : ContainerStart T) → span_of p (t.events ++ Begun p (Container start) ∷ []) ≡ Open (Container start) []
     span_begun start = span_of-own p t.events (Begun p (Container start) ∷ []) (refl, tt)
 
-    -- a call that begins on the container comes to a sound machine, with its begin as the one event
+    -- a call that begins on the container leads to a sound machine, and its begin is the one event
     begins_now : (start : ContainerStart T) → names_owner start ≡ true → MayRecover terms.by t.events start
         → flight_of (doing_of (party_of p t.world.latest)) ≡ None
-        → frame.Comes (family_by terms code c) t p (kept_after_begin code c (Container start) p kept_now) s.state.words
+        → frame.Comes (family_by terms code c) t p (kept_after_begin code c (Container start) p kept_now) sound.state.words
         (first_party c t.world.changes start) (Begun p (Container start) ∷ []) t.world.changes
     begins_now start named may free =
         let party_after : Party T = first_party c t.world.changes start in
         let scene : Scene T = scene_of p party_after t.world.changes in
         let shut : IsShut (span_of p t.events) =
-        frame.shut (family_by terms code c) s.state p (party_of p t.world.latest) (span_of p t.events) free (s.inv.calls p) in
-        let b = shown.begins scene s.holds.good s.holds.elements free shut start named may in
-        let states' : List (ℕ × ContainerState T) = states_at_begin code c start p s.state.states in
-        let shows : Shows scene s.state.words states' (span_of p t.events) party_after (Begun p (Container start) ∷ []) t.world.changes =
+        frame.shut (family_by terms code c) sound.state p (party_of p t.world.latest) (span_of p t.events) free (sound.inv.calls p) in
+        let b = shown.begins scene sound.holds.good sound.holds.elements free shut start named may in
+        let states' : List (ℕ × ContainerState T) = states_at_begin code c start p sound.state.states in
+        -- what the begin shows: it keeps the invariant, and the call stands at its first stage and
+        -- knows what that tells
+        let shows : Shows scene sound.state.words states' (span_of p t.events) party_after (Begun p (Container start) ∷ []) t.world.changes =
         record {
           does = b.does;
           stands = (shut, tt);
@@ -261,30 +280,31 @@ module _ {T : Type 0} (shown : Shown T) (terms : Terms) (code : Coding T) (c : �
           seen = inl (refl, refl);
         }
         in
+        -- the machine after the begin is sound
         record {
-          state = then_is scene s.state.words states' party_after (Begun p (Container start) ∷ []);
+          state = then_is scene sound.state.words states' party_after (Begun p (Container start) ∷ []);
           fit = record { kept = refl; words = refl };
           holds =
-              holds_more scene s.state.words states' (span_of p t.events) party_after (Begun p (Container start) ∷ [])
-              t.world.changes shows s.state state_is s.holds s.inv;
+              holds_more scene sound.state.words states' (span_of p t.events) party_after (Begun p (Container start) ∷ [])
+              t.world.changes shows sound.state state_is sound.holds sound.inv;
           owes =
-              owes scene s.state.words states' (span_of p t.events) party_after (Begun p (Container start) ∷ []) t.world.changes
-              shows s.state state_is s.holds s.inv refl;
+              owes scene sound.state.words states' (span_of p t.events) party_after (Begun p (Container start) ∷ []) t.world.changes
+              shows sound.state state_is sound.holds sound.inv refl;
         }
 
     abbrev pub MayRecoverIn : Start T → Type 0
     MayRecoverIn (Container start) = MayRecover terms.by t.events start
     MayRecoverIn start = Unit {0}
 
-    -- one that passes the machine's rows may
+    -- a call of which the machine's rows do not refuse the begin may recover its owner, if it is a recovery
     pub recovers_by : (start : Start T) → MayBegin t.world p start → MayRecoverIn start
     recovers_by start may = grind arith
 
-    -- any call that the container begins, of a name that it may begin, comes to a sound machine
+    -- any call that the container may begin leads to a sound machine
     pub begin_comes : (start : Start T) (flight : Flight T) → MayRecoverIn start
         → flight_of (doing_of (party_of p t.world.latest)) ≡ None
         → first_of kinds.Container c start kept_now ≡ Some flight
-        → frame.Comes (family_by terms code c) t p (kept_after_begin code c start p kept_now) s.state.words
+        → frame.Comes (family_by terms code c) t p (kept_after_begin code c start p kept_now) sound.state.words
         (party_at_begin start flight t.world.changes) (Begun p start ∷ []) t.world.changes
     begin_comes = grind (arith, first_of, begins_own, begins_now)
 
@@ -294,28 +314,30 @@ module _ {T : Type 0} (shown : Shown T) (terms : Terms) (code : Coding T) (c : �
   abbrev died_now : ℕ → ContainerNow T
   died_now o =
       record {
-        words = s.state.words;
-        dead = dead_with o s.state.dead;
-        states = s.state.states;
+        words = sound.state.words;
+        dead = dead_with o sound.state.dead;
+        states = sound.state.states;
         latest = t.world.latest;
         events = t.events ++ Died o ∷ [];
       }
 
-  -- the death of an owner who may die comes to a sound machine
-  death_comes : (o : ℕ) → MayDie t.world o → frame.ComesByDeath (family_by terms code c) t s o
+  -- the death of an owner who may die leads to a sound machine
+  death_comes : (o : ℕ) → MayDie t.world o → frame.ComesByDeath (family_by terms code c) t sound o
   death_comes o may =
-      let set_good = s.holds.good in
-      let alive : is_dead o t.events ≡ false = sym (set_good.died o) ∙ subst (λ kept. families.is_dead kept o ≡ false) s.fit.kept may.lives in
-      let d = shown.dies terms code c s.state.words s.state.dead s.state.states t.world.latest t.events t.world.turns o set_good s.holds.elements alive in
+      let set_good = sound.holds.good in
+      let alive : is_dead o t.events ≡ false = sym (set_good.died o) ∙ subst (λ kept. families.is_dead kept o ≡ false) sound.fit.kept may.lives in
+      let d =
+      shown.dies terms code c sound.state.words sound.state.dead sound.state.states t.world.latest t.events
+      t.world.turns o set_good sound.holds.elements alive in
       record {
         state = died_now o;
-        fit = record { kept = ap (λ kept. kept_after_death kept o) s.fit.kept; words = s.fit.words };
+        fit = record { kept = ap (λ kept. kept_after_death kept o) sound.fit.kept; words = sound.fit.words };
         holds = record { same = refl; same_latest = refl; begun = λ p x found. omega arith; good = d.good; elements = d.elements };
         calls = λ q start flight at.
-            let wrote : wrote_of q (t.events ++ Died o ∷ []) ≡ wrote_of q s.state.events =
-            ap wrote_in (span_of-death q t.events o) ∙ sym (ap (wrote_of q) s.holds.same) in (
+            let wrote : wrote_of q (t.events ++ Died o ∷ []) ≡ wrote_of q sound.state.events =
+            ap wrote_in (span_of-death q t.events o) ∙ sym (ap (wrote_of q) sound.holds.same) in (
               at_written (scene_of q (record { start = start; steps = 0; backs = 0; doing = Going flight 0 }) 0) c
-                  code.size (wrote_of q s.state.events) (wrote_of q (t.events ++ Died o ∷ [])) start flight wrote at,
+                  code.size (wrote_of q sound.state.events) (wrote_of q (t.events ++ Died o ∷ [])) start flight wrote at,
               wrote,
             );
         calls_know = λ q since backs flight h. knows_then o d q since backs flight
@@ -323,24 +345,25 @@ module _ {T : Type 0} (shown : Shown T) (terms : Terms) (code : Coding T) (c : �
       }
     where
       -- what each party knows of its call it knows after the death
-      knows_then : (o : ℕ) → Dies terms code c s.state.words s.state.dead s.state.states t.world.latest t.events t.world.turns o
+      knows_then : (o : ℕ) → Dies terms code c sound.state.words sound.state.dead sound.state.states t.world.latest t.events t.world.turns o
           → (q since backs : ℕ) (flight : Flight T)
-          → Knowing code c flight (view terms s.state.words s.state.states t.world.latest t.events q since t.world.changes backs)
-          → Knowing code c flight (view terms s.state.words s.state.states t.world.latest (t.events ++ Died o ∷ []) q since t.world.changes backs)
-      knows_then o d q since backs (flights.Container flight) knowing = d.knows q since t.world.changes backs flight knowing
-      knows_then o d q since backs flight knowing = absurd knowing
+          → Knowing code c flight (view terms sound.state.words sound.state.states t.world.latest t.events q since t.world.changes backs)
+          → Knowing code c flight (view terms sound.state.words sound.state.states t.world.latest (t.events ++ Died o ∷ []) q since t.world.changes backs)
+      knows_then o death q since backs (flights.Container flight) knowing = death.knows q since t.world.changes backs flight knowing
+      knows_then o death q since backs flight knowing = absurd knowing
 
 module _ {T : Type 0} (shown : Shown T) where
-  -- where owners die a call that passes its rows acts for none who is dead
+  -- where owners die, a call that the rows do not refuse acts for nobody who is gone
   dying_rightly : (code : Coding T) (c : ℕ) (t : Trace T) (s : frame.Sound (family code c) t) (p : ℕ) (x : Party T)
       (since : ℕ) (found : party_of p t.world.latest ≡ Some x) (flight : Flight T)
       → first_row (going_rows code (kept_now shown dying code c t s) (Some flight) None) ≡ None → IsRightly shown dying code c t s p x since found flight
   dying_rightly = grind (arith, lives_by_rows, passes)
 
+  -- a turn may be taken where the counter has room and turns are few
   abbrev pub May : Trace T → Turn T → Type 0
   May t turn = MayGoOn dying t
 
-  -- where owners die each turn of a container may be taken, as the frame asks it of a family
+  -- where owners die, each turn of a container may be taken, in the form that the frame asks of a family
   turns : (code : Coding T) (c : ℕ) → Turns (outline dying) code c May
   turns code c =
       record {
@@ -363,6 +386,7 @@ module _ {T : Type 0} (shown : Shown T) where
         holds = record { same = refl; same_latest = refl; begun = λ p x found. absurd (cc); good = o.good; elements = o.elements };
       }
 
+  -- the machine of a container as it opens is sound, for any number of parties
   pub opening_sound : (terms : Terms) (code : Coding T) (c parties : ℕ) → IsCoding code → 1 ≤ c → c < 2 ^ 32
       → frame.Sound (family_by terms code c) (opening code kinds.Container c parties)
   opening_sound terms code c parties coded some few = laws.opening_sound (outline terms) code c (opens terms code c coded some few) parties
@@ -376,5 +400,6 @@ module _ {T : Type 0} (shown : Shown T) where
         few = λ code c t turn s small. may_go_on dying code c t s small;
       }
 
+  -- each machine of a container that a run reaches is sound
   pub reached_sound : (t : Trace T) → t.world.kind ≡ kinds.Container → IsReached t → frame.Sound (family t.world.coding t.world.capacity) t
   reached_sound = laws.reached_sound (outline dying) May all_turns

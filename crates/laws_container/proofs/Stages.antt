@@ -1,4 +1,5 @@
--- What a step of a call of the container has to show, and how a call goes on or ends.
+-- What a step of a call of the container has to show (`StepOf`), and two ways to show it: that the call goes
+-- on to a next stage (`goes_on`), or that it ends (`ends`).
 use Rattle.laws_container.proofs.Names.{◌≡◌, ℕ, ◌+◌, ◌-◌, ◌≤◌, Bool, true, false, Option, Some, None, List, [], ◌∷◌}
 use Rattle.laws_container.proofs.Names.{◌++◌, fold, refl, sym, ap, subst, ◌∙◌, append-nil, arith, flat_map-append}
 use Rattle.laws_container.proofs.Names.{fold-append, Ask, After, GoOn, ContainerState, Answer, Event, Finished}
@@ -15,7 +16,7 @@ use Rattle.model.specs.declared.families.Registry.TheVariants as registries
 use Rattle.model.specs.declared.families.container.ContainerStart.TheVariants as starts
 use Rattle.model.specs.declared.families.container.calls.ContainerFlight.TheVariants as calls
 use Rattle.laws_robust.proofs.Invariant as set_invariant
-use Rattle.laws_container.proofs.Invariant.{Scene, Inv, Does, Shows, AreAllRight, before, wrote_of, view}
+use Rattle.laws_container.proofs.Invariant.{Scene, Inv, KeepsInvariant, Shows, AreAllRight, before, wrote_of, view}
 use Rattle.laws_container.proofs.Invariant as invariant
 use Rattle.laws_container.proofs.Knows.{View, Knows}
 use Rattle.laws_container.proofs.WellFormed.{IsWellFormedSoFar, well_formed_before}
@@ -25,11 +26,11 @@ use Rattle.laws_container.proofs.CallProgress as standing
 use Rattle.laws_container.proofs.Turns.{WellFormed, owes, flight_owes}
 
 module _ {T : Type 0} where
-  -- a call of the kind as one of any
+  -- what becomes of a call of the container, as what becomes of any call
   abbrev pub any_call : After (ContainerFlight T) (Answer T) → After (Flight T) (Answer T)
   any_call after = as_call flights.Container (λ answer. answer) after
 
-  -- events that make a span longer
+  -- these events make the span of an open call longer, and do not end it
   abbrev pub Lengthens : List (Event T) → Type 0
   Lengthens es =
       (start : ContainerStart T) (w : List (Event T)) → fold own_after (Open (Container start) w) es ≡ Open (Container start) (w ++ es)
@@ -42,10 +43,12 @@ module _ {T : Type 0} where
   NoReplace (starts.Replace index value owner) = ⊥
   NoReplace start = Unit {0}
 
+  -- the call is no look
   abbrev pub NoLook : ContainerFlight T → Type 0
   NoLook (calls.Look which call) = ⊥
   NoLook flight = Unit {0}
 
+-- `scene` is a turn of party `p` with the machine before it
 module _ {T : Type 0} (scene : Scene T) where
   open scene use {
     coding as code,
@@ -62,7 +65,7 @@ module _ {T : Type 0} (scene : Scene T) where
   abbrev pub ws : List ℕ
   ws = scene.words
 
-  -- what the call under way has written, and done to the set and to elements
+  -- what the call under way has written, has done to the set, and has done to elements
   abbrev pub wrote : List (Event T)
   wrote = wrote_of p events
 
@@ -72,8 +75,8 @@ module _ {T : Type 0} (scene : Scene T) where
   abbrev pub done : List (Act T)
   done = acts_of p events
 
-  -- the party has this call of this name under way
-  pub record IsHere (start : ContainerStart T) (flight : ContainerFlight T) : Type 0 where
+  -- the party's call under way has this name, is this call, and has taken the steps of the scene
+  pub record IsUnderWay (start : ContainerStart T) (flight : ContainerFlight T) : Type 0 where
     pub span : span_of p events ≡ Open (Container start) (wrote_of p events)
     pub party : Party T
     pub found : party_of p latest ≡ Some party
@@ -85,6 +88,7 @@ module _ {T : Type 0} (scene : Scene T) where
   abbrev party : ContainerStart T → Party T
   party start = record { start = Container start; steps = steps; backs = backs; doing = Over 0 }
 
+  -- the party after a step with the operation `ask`, by what becomes of its call
   abbrev pub party_then : ContainerStart T → Option Ask → Bool → After (ContainerFlight T) (Answer T) → Party T
   party_then start ask back after =
       party_after (party start) since changes (step_count ask) (change_of ws ask)
@@ -99,7 +103,8 @@ module _ {T : Type 0} (scene : Scene T) where
   abbrev pub backs_then : Bool → ℕ
   backs_then back = backs + one_if back
 
-  -- what the call sees now, and after a step that leaves these states and writes these events
+  -- what the party sees before the step, and what it sees after a step that leaves these states
+  -- and writes these events
   abbrev pub sees_now : View T
   sees_now = view scene.terms ws scene.states latest events p since changes backs
 
@@ -107,32 +112,36 @@ module _ {T : Type 0} (scene : Scene T) where
   then_sees ask back states' y es =
       view scene.terms (words_after ws ask) states' (put p y latest) (events ++ es) p (since_then ask) (changes_then ask) (backs_then back)
 
-  -- a step with this operation after which the call goes on or is done, that leaves these states and writes these events
+  -- what has to be shown of a step with the operation `ask` that leaves these states and writes the events
+  -- `es`, by what becomes of the call
   abbrev pub ShowsThen : ContainerStart T → Option Ask → Bool → List (ℕ × ContainerState T) → List (Event T) → After (ContainerFlight T) (Answer T) → Type 0
   ShowsThen start ask back states' es after =
       Shows scene (words_after ws ask) states' (Open (Container start) (wrote_of p events)) (party_then start ask back after) es (changes + change_of ws ask)
 
-  -- the same by what it did
+  -- what has to be shown of a step that does `did`, after which the end of the call is written if it ends
   abbrev pub Leads : ContainerStart T → Option Ask → Bool → List (ℕ × ContainerState T) → List (Event T) → After (ContainerFlight T) (Answer T) → Type 0
   Leads start ask back states' did after =
       ShowsThen start ask back states' (did ++ ending_of p (Container start) (answer_in (any_call after))) after
 
-  -- the step of a call that is handed this answer
+  -- what has to be shown of a call that is handed `answer`
   abbrev pub AnswerOf : ContainerStart T → ContainerFlight T → Option Ask → ℕ → Type 0
   AnswerOf start flight ask answer =
       Leads start ask (goes_back flight answer) (states_after code p flight answer scene.states)
       (effects code p (state_of p scene.states) flight answer ++ questions p flight answer)
       (after code (state_of p scene.states) flight answer)
 
+  -- what has to be shown of a step of this call: it is handed the old value of its word
   abbrev pub StepOf : ContainerStart T → ContainerFlight T → Type 0
   StepOf start flight =
       AnswerOf start flight (ask_of (want code flight)) (old_of ws (ask_of (want code flight)))
 
+  -- what has to be shown of a decision that this call is told
   abbrev pub DecisionOf : ContainerStart T → ContainerFlight T → Bool → Type 0
   DecisionOf start flight said = AnswerOf start flight None (number_of said)
 
   -- ---- what the party has written
 
+  -- the party writes the events `es` in its call, and does not end it
   module _ (start : ContainerStart T) (span : span_of p events ≡ Open (Container start) (wrote_of p events))
       (es : List (Event T)) (own : AreOwn p es) (longer : Lengthens es) where
     wrote_more : wrote_of p (events ++ es) ≡ wrote_of p events ++ es
@@ -146,13 +155,13 @@ module _ {T : Type 0} (scene : Scene T) where
 
   -- ---- the call goes on, or is done
 
-  -- a call goes on to its next stage, where it stands and knows what the stage tells, with the
-  -- steps that are left to it
+  -- a call goes on to the next stage, if the step keeps the invariant, and the call stands there within its
+  -- steps and knows what the stage tells
   pub goes_on :
       (start : ContainerStart T) (flight : ContainerFlight T) (ask : Option Ask) (back : Bool)
       (states' : List (ℕ × ContainerState T)) (did : List (Event T))
       → span_of p events ≡ Open (Container start) (wrote_of p events) → Lengthens did
-      → Does scene (words_after ws ask) states' (party_then start ask back (GoOn flight)) did
+      → KeepsInvariant scene (words_after ws ask) states' (party_then start ask back (GoOn flight)) did
       → AllFollow (Stands promise c) (Open (Container start) (wrote_of p events)) did
       → steps + step_count ask ≤ standing.number_of c code.size flight (backs_then back)
       → At c code.size (set_acts_of p events ++ set_acts did) (acts_of p events ++ acts did) start flight
@@ -173,12 +182,13 @@ module _ {T : Type 0} (scene : Scene T) where
         seen = is_seen ws ask changes;
       }
 
-  -- a call ends, within its steps, and writes its end last
+  -- a call ends, and writes its end last, if the step keeps the invariant, and the call is within the steps
+  -- of its name and has paid for its turns back
   pub ends :
       (start : ContainerStart T) (answer : Answer T) (ask : Option Ask) (back : Bool)
       (states' : List (ℕ × ContainerState T)) (did : List (Event T))
       → span_of p events ≡ Open (Container start) (wrote_of p events) → Lengthens did
-      → Does scene (words_after ws ask) states' (party_then start ask back (Done answer)) (did ++ Finished p (Container start) answer ∷ [])
+      → KeepsInvariant scene (words_after ws ask) states' (party_then start ask back (Done answer)) (did ++ Finished p (Container start) answer ∷ [])
       → AllFollow (Stands promise c) (Open (Container start) (wrote_of p events)) (did ++ Finished p (Container start) answer ∷ [])
       → steps + step_count ask ≤ most_steps c code.size start (backs_then back)
       → backs_then back ≤ changes_then ask - since_then ask
@@ -200,11 +210,12 @@ module _ {T : Type 0} (scene : Scene T) where
         seen = is_seen ws ask changes;
       }
 
-  -- the same of a step that writes nothing
+  -- a step that writes nothing leads a call to its next stage, if it keeps the invariant, and the call stands
+  -- there and knows what the stage tells
   pub goes_calmly :
       (start : ContainerStart T) (flight : ContainerFlight T) (ask : Option Ask) (back : Bool) (states' : List (ℕ × ContainerState T))
       → span_of p events ≡ Open (Container start) (wrote_of p events)
-      → Does scene (words_after ws ask) states' (party_then start ask back (GoOn flight)) []
+      → KeepsInvariant scene (words_after ws ask) states' (party_then start ask back (GoOn flight)) []
       → steps + step_count ask ≤ standing.number_of c code.size flight (backs_then back)
       → At c code.size (set_acts_of p events) (acts_of p events) start flight
       → Knows code c flight
@@ -215,25 +226,26 @@ module _ {T : Type 0} (scene : Scene T) where
 
   -- ---- what it owes the changes
 
-  pub owes_is : (start : ContainerStart T) (flight : ContainerFlight T) → IsHere start flight
+  -- whether the party owes the changes a raise is read from its call under way
+  pub owes_is : (start : ContainerStart T) (flight : ContainerFlight T) → IsUnderWay start flight
       → owes (flight_of (doing_of (party_of p latest))) ≡ flight_owes flight
   owes_is = grind (arith, owes)
 
-  -- a call that owes nothing leaves nothing owing
-  pub owes_none : (start : ContainerStart T) (flight : ContainerFlight T) (y : Party T) → IsHere start flight
+  -- where the call under way owes no raise, there is none that its party could fail to owe after the step
+  pub owes_none : (start : ContainerStart T) (flight : ContainerFlight T) (y : Party T) → IsUnderWay start flight
       → flight_owes flight ≡ false → owes (flight_of (doing_of (party_of p latest))) ≡ true
       → owes (flight_of (Some y.doing)) ≡ true
   owes_none start flight y here not was = both_ways (flight_owes flight) not (sym (owes_is start flight here) ∙ was)
 
   -- ---- a turn ago
 
-  -- a call that is no replace says nothing of a well-formed run
+  -- a party whose call is no replace keeps what a well-formed run asks of its call
   no_replace : (start : ContainerStart T) → NoReplace start
       → span_of p events ≡ Open (Container start) (wrote_of p events) → (o : Option (Party T))
       → StandsWellFormed p o events
   no_replace start none span o = grind arith
 
-  -- in a call that is no replace the run was well-formed a turn ago if it is now
+  -- the run was well-formed before the turn of a call that is no replace, if it is after it
   pub was_well_formed : (start : ContainerStart T) → NoReplace start
       → span_of p events ≡ Open (Container start) (wrote_of p events)
       → (words' : List ℕ) (y : Party T) (es : List (Event T)) → AreOwn p es
@@ -241,7 +253,8 @@ module _ {T : Type 0} (scene : Scene T) where
   was_well_formed start none span words' y es own =
       well_formed_before scene.terms p y latest events es own (λ h. no_replace start none span (party_of p latest))
 
-  -- the same of a turn that writes nothing
+  -- the run was well-formed before a turn that writes nothing, of a call that is no
+  -- replace, if it is after it
   pub was_well_formed_calmly : (start : ContainerStart T) → NoReplace start
       → span_of p events ≡ Open (Container start) (wrote_of p events) → (y : Party T)
       → IsWellFormedSoFar scene.terms (put p y latest) events → WellFormed (before scene)
@@ -253,14 +266,16 @@ module _ {T : Type 0} (scene : Scene T) where
   no_look : (flight : ContainerFlight T) → NoLook flight → is_looking (Some (flights.Container flight)) ≡ false
   no_look flight is_no_look = grind arith
 
-  module _ (inv : Inv scene) (start : ContainerStart T) (flight : ContainerFlight T) (none : NoLook flight) (here : IsHere start flight) where
+  -- the call under way is no look
+  module _ (inv : Inv scene) (start : ContainerStart T) (flight : ContainerFlight T) (none : NoLook flight) (here : IsUnderWay start flight) where
     pub is_idle_now : is_looking (flight_of (doing_of (party_of p latest))) ≡ false
     is_idle_now = grind (arith, no_look)
 
-    -- what a turn does that leaves the states
-    pub does_with : (words' : List ℕ) (y : Party T) (es : List (Event T)) → invariant.Changes scene words' y es
+    -- a turn that leaves the parties' states keeps the invariant, if it keeps what holds of the set, of the
+    -- elements and of the events
+    pub does_with : (words' : List ℕ) (y : Party T) (es : List (Event T)) → invariant.KeepsElements scene words' y es
         → set_invariant.Does (invariant.of_set scene) words' es → AreAllRight scene words' y es
-        → Does scene words' scene.states y es
+        → KeepsInvariant scene words' scene.states y es
     does_with words' y es changes set right =
         record {
           set = set;

@@ -1,4 +1,5 @@
--- What is so of a party's state: between its looks, and while a look goes over the indices. It stays so over any turn.
+-- What holds of a party's state: between its looks (`Rests`), and while a look goes over the indices
+-- (`Course`). Both are kept by every turn.
 use Rattle.laws_container.proofs.Names.{◌≡◌, ◌≢◌, ◌⊎◌, inl, inr, ℕ, ◌<◌, ◌≤◌, true, Option, Some, None}
 use Rattle.laws_container.proofs.Names.{is_some, List, ◌++◌, length, slice_get, slice_index_or, sym, subst, ◌∙◌}
 use Rattle.laws_container.proofs.Names.{append_assoc, arith, ContainerState, Element, Event, Coding, shows, WasCopied}
@@ -10,14 +11,16 @@ use Rattle.laws_container.proofs.Terms.{Keeps}
 use Rattle.laws_container.proofs.Turns.{Owing, Now, WellFormed, count_in, change_in, Passes}
 
 module _ {T : Type 0} where
-  -- the number that a state has found at an index
+  -- the number that a state has found of an element
   abbrev pub number_in : Option (Element T) → ℕ
   number_in None = 0
   number_in (Some e) = e.count
 
+  -- the number that a state has found at an index
   abbrev pub number_at : ContainerState T → ℕ → ℕ
   number_at s i = number_in (slice_get s.shown.elements i)
 
+  -- what a party has copied it has copied still after more events
   pub copied_later : (p i : ℕ) (value : T) (events es : List (Event T)) → WasCopied p i value events → WasCopied p i value (events ++ es)
   copied_later = grind (arith, append_assoc)
 
@@ -26,21 +29,24 @@ module _ {T : Type 0} where
   StoodThere p i events = HeldThroughout p (λ part. is_some (contents_of i part) ≡ true) events
 
 module _ {T : Type 0} (code : Coding T) (c : ℕ) where
-  -- The state of the party q shows this of the indices, but that one of them is being copied. A look has come
-  -- to the indices below k.
+  -- What the state of the party `q` shows, except at the index `copying`, which is being copied. A look has
+  -- come to the indices below `k`.
   pub record Sight (m : Now T) (q : ℕ) (s : ContainerState T) (k copying : ℕ) : Type 0 where
+    -- it shows all indices, and no number or change that is ahead of the machine's
     pub wide : length s.shown.elements ≡ c
     pub below : Keeps m.terms → (i : ℕ) → i < c → number_at s i ≤ count_in code c m i
     pub change : Keeps m.terms → s.shown.change ≤ change_in code c m
+    -- each value that it shows was copied by its party
     pub copied : (i : ℕ) (value : T) → i ≢ copying → shows s i ≡ Some value → WasCopied q i value m.events
-    -- a number that still is there shows what stands
+    -- a number that is the element's still shows what stands there
     pub same : WellFormed m → (i : ℕ) → i < c → i ≢ copying → number_at s i ≡ count_in code c m i → shows s i ≡ contents_of i m.events
-    -- where nothing has changed since, what was announced is shown
+    -- where the changes are still those that it shows: what was announced is shown, and a number that has
+    -- moved on means that a raise of the changes is owed
     pub caught : WellFormed m → s.shown.change ≡ change_in code c m → (i : ℕ) → i < k → i < c
         → announced_of i m.events ≡ true → number_at s i ≡ count_in code c m i
     pub owed : Keeps m.terms → s.shown.change ≡ change_in code c m → (i : ℕ) → i < k → i < c → (number_at s i ≡ count_in code c m i) ⊎ Owing m.latest
 
-  -- a state between its party's looks has seen what it shows
+  -- a state between its party's looks: its numbers are those of the elements that it shows
   pub record Rests (m : Now T) (q : ℕ) (s : ContainerState T) : Type 0 where
     pub sight : Sight m q s c c
     pub known : length s.seen.counts ≡ c
@@ -48,43 +54,53 @@ module _ {T : Type 0} (code : Coding T) (c : ℕ) where
     pub counts : (i : ℕ) → i < c → slice_index_or s.seen.counts i 0 ≡ number_at s i
     pub room : length s.shown.copy ≡ 128
 
-  -- a look that goes on from its state
+  -- the state of a look under way, which has gone over the indices below `k` and copies the
+  -- element at `copying`
   pub record Course (m : Now T) (p : ℕ) (s : ContainerState T) (k copying : ℕ) : Type 0 where
     pub sight : Sight m p s k copying
     pub known : length s.seen.counts ≡ c
     pub room : length s.shown.copy ≡ 128
-    -- it has not come to these
+    -- at the indices that the look has not come to, the numbers are those that the state had seen before
     pub unseen : (i : ℕ) → k ≤ i → i < c → i ≢ copying → slice_index_or s.seen.counts i 0 ≡ number_at s i
+    -- at the indices that the look has gone over: where a value stood through the look its number is shown,
+    -- each shows what stood there at a moment, and if the look was alone each number is the element's
     pub fresh : WellFormed m → (i : ℕ) → i < k → i < c → StoodThere p i m.events → number_at s i ≡ count_in code c m i
     pub once : WellFormed m → (i : ℕ) → i < k → i < c → HeldSometime p (λ part. shows s i ≡ contents_of i part) m.events
     pub alone : WasAlone p m.events → (i : ℕ) → i < k → i < c → number_at s i ≡ count_in code c m i
+    -- each value that the state of a `get_state` shows was copied by that call
     pub own : ShowsOwn p s copying m.events
 
   -- ---- any turn
 
   -- a turn leads from the machine `m` to `m'`; `s` is the state of party `q`
   module _ (m m' : Now T) (es : List (Event T)) (more : m'.events ≡ m.events ++ es) (passes : Passes code c m m') (q : ℕ) (s : ContainerState T) where
-    -- a number that a state has found is there still, if it is there then
+    -- a number that a state has found and that is the element's after the turn was the element's before it,
+    -- and has not moved
     still : Keeps m'.terms → (i : ℕ) → i < c → number_at s i ≤ count_in code c m i
         → number_at s i ≡ count_in code c m' i
         → (number_at s i ≡ count_in code c m i) × (count_in code c m' i ≡ count_in code c m i)
     still = grind arith
 
+    -- a number of changes that a state shows and that is the machine's after the turn was the machine's
+    -- before it, and has not moved
     change_still : Keeps m'.terms → s.shown.change ≤ change_in code c m → s.shown.change ≡ change_in code c m'
         → (s.shown.change ≡ change_in code c m) × (change_in code c m' ≡ change_in code c m)
-    change_still kept low e = let grows = passes.change kept in (omega arith, omega arith)
+    change_still kept low change_shown = let grows = passes.change kept in (omega arith, omega arith)
 
+    -- what a state shows it shows still after any turn
     pub sight_later : (k x : ℕ) → Sight m q s k x → Sight m' q s k x
     sight_later = grind (arith, copied_later, still, change_still, inl, inr)
 
+    -- a state at rest is at rest after any turn
     pub rests_later : Rests m q s → Rests m' q s
     rests_later rests = record { sight = sight_later c c rests.sight; known = rests.known; seen = rests.seen; counts = rests.counts; room = rests.room }
 
-    -- of a look of a party that begins no call, nor is alone with another's step
+    -- the state of a look is as it was after a turn in which its party begins no call, if no number changes
+    -- while it is alone
     pub course_later : {what : Option (ℕ × T)} → CallsOn q what m.events m'.events → BeginsNone q es
         → (WasAlone q m'.events → (i : ℕ) → i < c → count_in code c m' i ≡ count_in code c m i) → (k x : ℕ)
         → Course m q s k x → Course m' q s k x
-    course_later {what} on none steady k x course =
+    course_later {what} calls_on none steady k x course =
         record {
           sight = sight_later k x course.sight;
           known = course.known;
@@ -102,5 +118,5 @@ module _ {T : Type 0} (code : Coding T) (c : ℕ) where
               (held_later q (λ part. shows s i ≡ contents_of i part) m.events es none (course.once (passes.well_formed well_formed) i ks low));
           alone = λ was i ks low.
               course.alone (alone_less q m.events es none (subst (WasAlone q) more was)) i ks low ∙ sym (steady was i low);
-          own = own_later q what m.events m'.events on s x course.own;
+          own = own_later q what m.events m'.events calls_on s x course.own;
         }

@@ -1,4 +1,5 @@
--- What a turn leaves of the elements: to any party, and to one that may write at an index.
+-- What every turn leaves of the elements: to any party (`Passes`), and to a party that may write at an index
+-- (`LeavesParty`). What calls know at their stages is kept by these two.
 use Rattle.laws_container.proofs.Names.{◌≡◌, ◌⊎◌, ℕ, ◌%◌, ◌<◌, ◌≤◌, Bool, true, false, Option, Some, is_some, List}
 use Rattle.laws_container.proofs.Names.{Event, Flight, ContainerFlight, Party, AddStage, RemoveStage, ReplaceStage}
 use Rattle.laws_container.proofs.Names.{Coding, WasAlone, contents_of, announced_of, filled_of, party_of, doing_of}
@@ -14,7 +15,7 @@ use Rattle.laws_container.proofs.WellFormed.{IsWellFormedSoFar}
 use Rattle.laws_container.proofs.Terms.{Terms, Keeps}
 use Rattle.laws_container.proofs.Writers.{IsWriter}
 
--- ---- a call that has changed an element, and ends no more before it has counted the change
+-- ---- a call that has changed an element does not end before it has raised the number of changes
 
 abbrev pub add_owes : AddStage → Bool
 add_owes (adds.Acquires stage) = false
@@ -31,7 +32,8 @@ replace_owes replaces.LoadsCell = false
 replace_owes stage = true
 
 module _ {T : Type 0} where
-  -- a call owes the changes a raise, from the stage on at which it may have changed an element
+  -- whether a call owes the changes a raise: it does from the stage on at which it may
+  -- have changed an element
   abbrev pub flight_owes : ContainerFlight T → Bool
   flight_owes (calls.Add run) = add_owes run.call.stage
   flight_owes (calls.Remove run) = remove_owes run.call.stage
@@ -51,7 +53,8 @@ module _ {T : Type 0} where
 
 -- ---- the machine between two turns
 
--- its words, the parties' latest calls, and the events so far
+-- the machine between two turns, as the elements depend on it: the terms, the words, the
+-- latest calls and the events
 pub record Now (T : Type 0) : Type 0 where
   pub terms : Terms
   pub words : List ℕ
@@ -59,55 +62,62 @@ pub record Now (T : Type 0) : Type 0 where
   pub events : List (Event T)
 
 module _ {T : Type 0} where
+  -- the run up to now is well-formed
   abbrev pub WellFormed : Now T → Type 0
   WellFormed m = IsWellFormedSoFar m.terms m.latest m.events
 
 module _ {T : Type 0} (code : Coding T) (c : ℕ) where
+  -- the number of the element at an index
   abbrev pub count_in : Now T → ℕ → ℕ
   count_in m i = count_at c m.words i
 
+  -- a data word of the element at an index
   abbrev pub datum_in : Now T → ℕ → ℕ → ℕ
   datum_in m i j = datum_at c code.size m.words i j
 
+  -- the number of changes
   abbrev pub change_in : Now T → ℕ
   change_in m = change_at c m.words
 
-  -- what a turn does to any party
+  -- what a turn from the machine `m` to `m'` leaves to any party
   pub record Passes (m m' : Now T) : Type 0 where
+    -- a run that is well-formed and keeps to its terms after the turn was so before it
     pub well_formed : WellFormed m' → WellFormed m
     pub kept : Keeps m'.terms → Keeps m.terms
-    -- where few turns are taken numbers go up
+    -- where few turns are taken no number goes down
     pub counts : Keeps m'.terms → (i : ℕ) → i < c → count_in m i ≤ count_in m' i
     pub change : Keeps m'.terms → change_in m ≤ change_in m'
-    -- where a number stays, so does what stands, and under an odd one its words
+    -- where the number of an element stays, the same value stands there, and under an odd
+    -- number the same words
     pub stands : WellFormed m' → (i : ℕ) → i < c → count_in m' i ≡ count_in m i → contents_of i m'.events ≡ contents_of i m.events
     pub words : WellFormed m' → (i : ℕ) → i < c → count_in m' i ≡ count_in m i → count_in m i % 2 ≡ 1 → (j : ℕ)
         → j < code.size → datum_in m' i j ≡ datum_in m i j
-    -- where something stands before and after, it has stood
+    -- where a value stands both before and after, the number has stayed
     pub stood : WellFormed m' → (i : ℕ) → i < c → is_some (contents_of i m.events) ≡ true
         → is_some (contents_of i m'.events) ≡ true → count_in m' i ≡ count_in m i
-    -- and nothing was placed, so that what was left is left still
+    -- where the number stays nothing was placed, so what was left at the index is left still
     pub left : WellFormed m' → (i : ℕ) → i < c → count_in m' i ≡ count_in m i → left_of i m.events ≡ true → left_of i m'.events ≡ true
-    -- what is announced only now has raised the changes
+    -- what is announced only now has raised the number of changes
     pub announces : WellFormed m' → change_in m' ≡ change_in m → (i : ℕ) → i < c → announced_of i m'.events ≡ true
         → (announced_of i m.events ≡ true) × (count_in m' i ≡ count_in m i)
-    -- who changes an element owes the changes a raise, until he has made it
+    -- a party that changes an element owes the changes a raise until it has made it
     pub owing : change_in m' ≡ change_in m → Owing m.latest → Owing m'.latest
     pub owed : change_in m' ≡ change_in m → (i : ℕ) → i < c → (count_in m' i ≡ count_in m i) ⊎ Owing m'.latest
-    -- where an owner who is gone fills an index nothing is placed
+    -- where an index is filled for an owner who is gone nothing is placed, but what stands may be hidden
     pub lost : WellFormed m' → (i o : ℕ) → i < c → is_gone m.terms.by o m.events ≡ true → filled_of i m.events ≡ Some o
         → (count_in m' i ≡ count_in m i) ⊎ ((count_in m i % 2 ≡ 1) × (count_in m' i % 2 ≡ 0))
 
-  -- what the turn leaves another party
-  pub record Leaves (q : ℕ) (m m' : Now T) : Type 0 where
-    -- under an even number, which it writes under, number and words stay
+  -- what a turn leaves to party `q` that did not take it
+  pub record LeavesParty (q : ℕ) (m m' : Now T) : Type 0 where
+    -- under an even number, where `q` writes, the number and the words stay
     pub under : WellFormed m' → (i o : ℕ) → i < c → is_gone m.terms.by o m.events ≡ false → IsWriter q i o m.events → count_in m i % 2 ≡ 0
         → (count_in m' i ≡ count_in m i) × ((j : ℕ) → j < code.size → datum_in m' i j ≡ datum_in m i j)
-    -- its number stays, or is made even, where it is about to write
+    -- where `q` may write, the number stays or is made even
     pub over : WellFormed m' → (i o : ℕ) → i < c → is_gone m.terms.by o m.events ≡ false → IsWriter q i o m.events
         → (count_in m' i ≡ count_in m i) ⊎ (count_in m' i % 2 ≡ 0)
-    -- a value that it has placed stands
+    -- a value that `q` has placed still stands
     pub placed : WellFormed m' → (i o : ℕ) → i < c → is_gone m.terms.by o m.events ≡ false → IsWriter q i o m.events
         → left_of i m.events ≡ false → is_some (contents_of i m.events) ≡ true
         → (left_of i m'.events ≡ false) × (is_some (contents_of i m'.events) ≡ true)
+    -- where no other call is under way during that of `q`, no number changes
     pub alone : WasAlone q m'.events → (i : ℕ) → i < c → count_in m' i ≡ count_in m i

@@ -1,4 +1,5 @@
--- A well-formed run, of its events and the parties' latest calls; and that a run was well-formed a turn ago.
+-- What a well-formed run is, up to now: of its events and of the parties' latest calls. And that a run which
+-- is well-formed after a turn was so before it.
 use Rattle.std.proofs.Common.{arith}
 use Rattle.laws_container.proofs.Names.{◌≡◌, ◌≢◌, ⊎_elim, ℕ, Option, Some, None, List, ◌++◌, refl, sym}
 use Rattle.laws_container.proofs.Names.{subst, ◌∙◌, cases_eq, Event, Party, ReplacesRight}
@@ -9,23 +10,24 @@ use Rattle.laws_container.proofs.Replaces.{earlier}
 use Rattle.laws_container.proofs.Terms.{Terms, dying, Keeps}
 
 module _ {T : Type 0} where
-  -- the run keeps to its terms and is calm, each replace that has replaced was begun where that
-  -- might be, and so was each under way that has found its owner
+  -- the run keeps to its terms and is calm; each replace that has replaced was begun where it might replace,
+  -- and so was each replace under way that has taken a step and found its owner
   pub record IsWellFormedSoFar (terms : Terms) (latest : List (ℕ × Party T)) (events : List (Event T)) : Type 0 where
     pub kept : Keeps terms
     pub calm : IsCalm terms.by events
     pub replaced : Each ReplacesRight events
     pub replaces : (p : ℕ) → StandsWellFormed p (party_of p latest) events
 
+  -- a run that is well-formed by its events, honest and on terms that are kept is well-formed up to now
   pub well_formed_on : (terms : Terms) (t : Trace T) → Keeps terms → IsHonestBy terms.by t.events
       → IsWellFormedRun t → IsWellFormedSoFar terms t.world.latest t.events
   well_formed_on = grind arith
 
-  -- where owners die a well-formed run is well-formed so far
+  -- where owners die, a run that is well-formed by its events is well-formed up to now
   pub well_formed_so_far : (t : Trace T) → IsWellFormedRun t → IsWellFormedSoFar dying t.world.latest t.events
   well_formed_so_far t well_formed_run = well_formed_on dying t refl tt well_formed_run
 
-  -- a replace of a party whose span stays was begun rightly before as well
+  -- a replace whose span stays was begun where it might replace, also by the earlier events
   pub stands_less : (q : ℕ) (o : Option (Party T)) (events es : List (Event T)) → BeginsNone q es
       → span_of q (events ++ es) ≡ span_of q events → StandsWellFormed q o (events ++ es) → StandsWellFormed q o events
   stands_less q None events es none same stands_well_formed = tt
@@ -36,13 +38,16 @@ module _ {T : Type 0} where
 
   -- the call `y` of party `p` writes the events `es`
   module _ (terms : Terms) (p : ℕ) (y : Party T) (latest : List (ℕ × Party T)) (events es : List (Event T)) (own : AreOwn p es) where
+    -- the run is well-formed after the turn
     abbrev pub IsWellFormedThen : Type 0
     IsWellFormedThen = IsWellFormedSoFar terms (put p y latest) (events ++ es)
 
+    -- the calls of other parties keep what a well-formed run asks of them also before the turn
     others_less : IsWellFormedThen → (q : ℕ) → q ≢ p → StandsWellFormed q (party_of q latest) events
     others_less = grind (arith, stands_less, others_begin_none, span_of-other, party_put_other)
 
-    -- a turn of a party of which this is so
+    -- the run was well-formed before the turn, if the party's own call kept then what a
+    -- well-formed run asks of it
     pub well_formed_before : (IsWellFormedThen → StandsWellFormed p (party_of p latest) events) → IsWellFormedThen → IsWellFormedSoFar terms latest events
     well_formed_before mine well_formed_then =
         record {

@@ -1,5 +1,6 @@
--- What a turn of a container tells, and what of it where something more holds of the run:
--- that it is well-formed, or well-formed and faithful.
+-- What a turn of a container tells of finds, looks, questions and states. Some of it holds only
+-- in a well-formed run, which is the parameter `well_formed` (in an open run: well-formed,
+-- faithful and of few turns).
 use Rattle.std.specs.Prelude.{◌≡◌, ◌≢◌, ℕ, ◌+◌, false, Some, List, ◌∷◌, [], ◌++◌}
 use Rattle.steps.specs.declared.container.state.ContainerState.{ContainerState}
 use Rattle.model.specs.declared.event.Answer.{Answer}
@@ -20,7 +21,8 @@ use Rattle.model.specs.Families.Indices.Robust.Promises.{IsFilledWith, IsCount, 
 use Rattle.model.specs.World.{Trace}
 
 module _ {T : Type 0} (well_formed : Type 0) where
-  -- the indices below the bound that a find has counted, and, in a well-formed run, the values there that it has copied
+  -- what a find has counted below the bound; and in a well-formed run, that it has copied what
+  -- stood at each counted index
   abbrev pub CountsIf : (p owner bound number : ℕ) → List (Event T) → Type 0
   CountsIf p owner bound number events =
       IsCount p (IsFilledWith owner) bound number events
@@ -65,17 +67,18 @@ module _ {T : Type 0} (well_formed : Type 0) where
   -- What a turn of a container tells: of finds and looks that end, of questions, of the parties' states, and of the
   -- indices that a recovery visits. Some parts hold only where the run is well-formed.
   pub record TellsIf (old : Trace T) (turn : Turn T) (new : Trace T) : Type 0 where
-    -- a find that ends in a turn other than the decision no has counted all
+    -- a find that ends in a turn other than the decision no has counted the whole container
     pub finds : FindsAllIf old turn new
-    -- a find that the decision no ends has counted up to its question
+    -- a find that the decision no ends has counted the indices up to the one that it asked about
     pub finds_up_to : FindsUpToIf old turn new
-    -- which questions are put, and what a decision does
+    -- each question comes once, with the copy of its value, and is answered by the next decision
     pub questions : QuestionsRight old turn new
-    -- a look that ends has left the right state
+    -- a look that ends leaves the state that its answer says; in a well-formed run that
+    -- state shows what stands
     pub looks : LooksRightIf old turn new
-    -- a look that ends leaves a state
+    -- a look that ends leaves its party a state
     pub leaves : LeavesState old turn new
-    -- no other turn changes a party's state
+    -- only a look of a party changes its state
     pub states : KeepsStates old turn new
-    -- a recovery that began after the lock comes to no index
+    -- a recovery that began after the lock copies no value, is shown none and frees no index
     pub visits : VisitsUnlocked old new

@@ -32,21 +32,23 @@ module _ {T : Type 0} where
   AsksBy by before (Told p index owner) = is_gone by owner before ≡ true
   AsksBy by before e = Unit {0}
 
-  -- a recovery frees for its own owner, who is gone, what it was told to free or shown
+  -- if the span is that of a recovery: the owner is its own and is gone, and it was told to free the index,
+  -- or was shown it
   abbrev pub FreedBy : GoneBy → (p index owner : ℕ) → List (Event T) → Span T → Type 0
   FreedBy by p index owner before (Open (Container (Recover o mode)) wrote) =
       (owner ≡ o) × (is_gone by owner before ≡ true)
       × (IsOneOf (Yes index owner) (set_acts_of p before) ⊎ WasShown p index before)
   FreedBy by p index owner before span = Unit {0}
 
-  -- An index that a recovery frees, it frees for an owner who is gone,
-  -- and was told so or shown that nothing stood there.
+  -- A recovery frees an index for its own owner, who is gone, once it was told to free it, or was shown that
+  -- nothing stood there.
   abbrev pub RecoversBy : GoneBy → List (Event T) → Event T → Type 0
   RecoversBy by before (FreedOf p index owner) = FreedBy by p index owner before (span_of p before)
   RecoversBy by before e = Unit {0}
 
-  -- The recovery asked about each index that was filled with its owner through the whole call, until the call itself
-  -- freed it, or was shown it. In an honest run no index that it was told to free, or was shown, has that owner.
+  -- What a recovery of an owner has done by its end. It has asked about each index that was his through the
+  -- whole call, until the call itself freed it, or was shown that nothing stood there. In an honest run no
+  -- index that it was told to free, or was shown, is his any more.
   pub record HasRecoveredBy (by : GoneBy) (p owner : ℕ) (events : List (Event T)) : Type 0 where
     pub gone : IsHonestBy by events → (index : ℕ)
         → IsOneOf (Yes index owner) (set_acts_of p events) ⊎ WasShown p index events
@@ -56,15 +58,16 @@ module _ {T : Type 0} where
 
   -- ---- answers
 
-  -- in the mode that locks, some index was filled after each that the recovery freed, unless the counter may be worn
+  -- in mode LockIfLastIndex: after each index that the recovery freed another was filled, or the counter may
+  -- be at its end (`worn`)
   abbrev pub FilledSinceEachBy : Type 0 → ReleaseMode → (p owner : ℕ) → List (Event T) → Type 0
   FilledSinceEachBy worn LockIfLastIndex p owner events =
       (index : ℕ) → IsOneOf (Frees index owner) (set_acts_of p events)
       → worn ⊎ FilledSinceFreed p owner index events
   FilledSinceEachBy worn Default p owner events = Unit {0}
 
-  -- What an answer says; where the counter may be worn, at its end by now, an add that found no place and a lock that
-  -- was not made say no more than that it is.
+  -- What an answer says of the events before it, as `AnswersRight` has it; but where an answer needs that an
+  -- index was filled, the counter may be at its end (`worn`) instead.
   abbrev pub AnswersBy : GoneBy → Type 0 → ℕ → List (Event T) → Event T → Type 0
   AnswersBy by worn capacity before (Finished p (Container (Add value owner)) (NoPlace failures.OutOfSpace)) =
       IsUnlocked before

@@ -48,17 +48,18 @@ module _ {T : Type 0} where
 
   -- ---- what holds of the machine
 
-  -- What its cells hold and whether it is locked, by its events; what each event says; that nobody has died; what is
-  -- asked and what a state at rest shows was copied. Who holds an index, in a run that is well-formed and honest, as a
-  -- faithful one is; and what its elements hold, in one that is well-formed, faithful and of few turns.
+  -- What holds of an open container in any run: what its cells and its counter hold by the events,
+  -- what each event says, that nobody has died, and what questions and states show. In a well-formed
+  -- and honest run also who holds an index; and in one that is well-formed, faithful and of few turns
+  -- what its elements hold.
   pub record IsOpenContainer (t : Trace T) (r : IsReachedOpen t) : Type 0 where
-    -- indices are filled, granted, freed and locked right
+    -- each event fills, grants or frees an index, or locks the set, only as `SetDoes` allows
     pub does : Each (SetDoes t.world.capacity) t.events
-    -- recoveries ask right
+    -- each question of a recovery is one that `AsksBy` allows
     pub asks : Each (AsksBy Word) t.events
-    -- recoveries free right
+    -- each index that a recovery frees is one that `RecoversBy` allows
     pub recovers : Each (RecoversBy Word) t.events
-    -- each answer is right
+    -- each answer says what `AnswersBy` asks of it
     pub answers : Each (AnswersBy Word (slice_index t.world.words 0 ≡ greatest) t.world.capacity) t.events
     -- each cell says for whom its index is filled
     pub cells : (index : ℕ) → index < t.world.capacity
@@ -76,5 +77,5 @@ module _ {T : Type 0} where
     pub holds : IsWellFormed t.events → IsHonest t.events → Each HoldsRight t.events
     -- a faithful run is honest
     pub honest : IsFaithful t r → IsHonest t.events
-    -- what holds in a well-formed and faithful run beside that
+    -- what is promised of a run that is well-formed, faithful and of few turns
     pub contained : IsWellFormedRun t → IsFaithfulRun t r → IsContained t

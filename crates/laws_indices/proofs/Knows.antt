@@ -1,4 +1,5 @@
--- What a call of the unique index set knows where it stands: of the words and of who holds what, and of the counts.
+-- What a call of the unique index set knows at its stage: of the words, of the holders, and of the counts
+-- of steps and of changes.
 use Rattle.std.proofs.Common.{◌≡◌, ◌≢◌, ℕ, ◌+◌, ◌*◌, ◌<◌, ◌≤◌, ◌⊎◌, true, Option, Some, List, [], ◌∷◌, arith}
 use Rattle.std.specs.Prelude.{max}
 use Rattle.laws_indices.proofs.Names.{LockIfLastIndex, Default, AcquireStage, ReleaseStage, borrowed, locked, Event}
@@ -11,6 +12,7 @@ use Rattle.laws_indices.proofs.Core.{head_of, holder, is_claimed}
 
 -- ---- the calls by their stages
 
+-- an acquire at a stage
 abbrev pub acquire_at : ℕ → AcquireStage → IndexFlight
 acquire_at c stage =
     Acquire (record { call = record { capacity = c; stage = stage }; given = tt; room = tt })
@@ -53,7 +55,7 @@ release_counts (releases.StoresNext head) = 1
 release_counts (releases.ExchangesHead head) = 1
 release_counts releases.Subtracts = 1
 
--- any call
+-- the weight of any call in the head
 abbrev pub counts : IndexFlight → ℕ
 counts (Acquire run) = acquire_counts run.call.stage
 counts (ReleaseDefault run) = release_counts run.call.stage
@@ -88,7 +90,7 @@ module _ {T : Type 0} where
   release_wrote p index (releases.ExchangesHead head) = Freed p index ∷ []
   release_wrote p index releases.Subtracts = Freed p index ∷ []
 
-  -- any call
+  -- the events that any call has written since its begin
   abbrev pub flight_wrote : ℕ → IndexFlight → List (Event T)
   flight_wrote p (Acquire run) = []
   flight_wrote p (ReleaseDefault run) = release_wrote p run.given run.call.stage
@@ -96,7 +98,7 @@ module _ {T : Type 0} where
   flight_wrote p (BorrowedIndices run) = []
   flight_wrote p (IsLocked run) = []
 
--- an acquire, after so many turns back
+-- how many steps an acquire has taken at most at its stage, where it has turned back `backs` times
 abbrev pub acquire_number : ℕ → AcquireStage → ℕ → ℕ
 acquire_number c acquires.LoadsHead backs = 0
 acquire_number c (acquires.LoadsNext head) backs = 1 + backs * max 2 c
@@ -104,7 +106,7 @@ acquire_number c (acquires.ExchangesHead head next) backs = 2 + backs * max 2 c
 acquire_number c (acquires.Claims index) backs = 3 + backs * max 2 c
 acquire_number c (acquires.Scans index) backs = 4 + index + backs * max 2 c
 
--- a release, after so many turns back
+-- how many steps a release has taken at most at its stage, where it has turned back `backs` times
 abbrev pub release_number : ReleaseStage → ℕ → ℕ
 release_number releases.ClearsFlag backs = 0
 release_number releases.LoadsHead backs = 1
@@ -112,7 +114,7 @@ release_number (releases.StoresNext head) backs = 2 + backs * 2
 release_number (releases.ExchangesHead head) backs = 3 + backs * 2
 release_number releases.Subtracts backs = 4
 
--- any call at its stage, after so many turns back
+-- how many steps a call has taken at most at its stage, where it has turned back `backs` times
 abbrev pub number_of : ℕ → IndexFlight → ℕ → ℕ
 number_of c (Acquire run) backs = acquire_number c run.call.stage backs
 number_of c (ReleaseDefault run) backs = release_number run.call.stage 0
@@ -142,7 +144,7 @@ ReleaseAt holders p index (releases.StoresNext head) = Unit {0}
 ReleaseAt holders p index (releases.ExchangesHead head) = Unit {0}
 ReleaseAt holders p index releases.Subtracts = Unit {0}
 
--- where a call under way stands
+-- where a call under way stands: its capacity and index are right, and the stage's condition holds
 abbrev pub At : ℕ → List (Option ℕ) → ℕ → IndexStart → IndexFlight → Type 0
 At c holders p starts.Acquire (Acquire run) =
     (run.call.capacity ≡ c) × AcquireAt c run.call.stage
@@ -162,11 +164,11 @@ At c holders p start flight = ⊥
 abbrev pub IsPaid : ℕ → ℕ → ℕ → Type 0
 IsPaid since changes backs = backs + since ≤ changes
 
--- a turn back more is paid too, unless this is so
+-- the turns back are paid, and unless `P` holds one more is paid too
 abbrev pub PaidUnless : Type 0 → ℕ → ℕ → ℕ → Type 0
 PaidUnless P since changes backs = (P × IsPaid since changes backs) ⊎ (backs + since + 1 ≤ changes)
 
--- the flags of these indices stand
+-- the flags of all indices below this one stand
 abbrev pub AllClaimed : ℕ → List ℕ → ℕ → Type 0
 AllClaimed c words index = (i : ℕ) → i < index → is_claimed c words i ≡ true
 
@@ -193,7 +195,7 @@ LockKnows words since changes backs (releases.ExchangesHead head) =
     PaidUnless (head_of words ≡ head) since changes backs
 LockKnows words since changes backs releases.Subtracts = ⊥
 
--- a call without a loop has not turned back
+-- what a call under way knows of the counts; a call without a loop has not turned back
 abbrev pub FlightKnows : ℕ → List ℕ → ℕ → ℕ → ℕ → IndexFlight → Type 0
 FlightKnows c words since changes backs (Acquire run) =
     AcquireKnows c words since changes backs run.call.stage
@@ -210,6 +212,8 @@ abbrev pub IsSeen : List ℕ → List ℕ → ℕ → ℕ → Type 0
 IsSeen words words' changes changes' =
     ((words' ≡ words) × (changes' ≡ changes)) ⊎ (changes' ≡ changes + 1)
 
+-- what a call knows stays known after a turn of another party
 module _ (words words' : List ℕ) (changes changes' since backs : ℕ) (seen : IsSeen words words' changes changes') where
+  -- what a call knows it knows after another party's turn
   pub flight_keeps : (c : ℕ) (flight : IndexFlight) → FlightKnows c words since changes backs flight → FlightKnows c words' since changes' backs flight
   flight_keeps = grind arith

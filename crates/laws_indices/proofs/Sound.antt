@@ -1,5 +1,5 @@
--- What the set promises is kept by every turn, and so by every run; and what a turn writes down: what the step did to the
--- set, then the end. No call of the set acts.
+-- What the set promises is kept by every turn, and so by every run. What a turn writes down is in order:
+-- first what the step did to the set, then the end. No call of the set acts.
 use Rattle.std.proofs.Common.{◌≡◌, ℕ, ◌<◌, ◌≤◌, false, Option, None, List, replicate, refl, sym, arith}
 use Rattle.std.specs.List.{AllByRecursion}
 use Rattle.laws_indices.proofs.Names.{locked, Answer, Start, Indices, Flight, Coding, Trace}
@@ -28,16 +28,18 @@ use Rattle.laws_indices.proofs.Stages.{same_tally}
 use Rattle.laws_indices.proofs.Steps.{step_shows, begin_shows}
 
 module _ {T : Type 0} where
-  -- what the invariant says in the promises' words
-  set_kept : (code : Coding T) (c : ℕ) (t : Trace T) → frame.Sound (family code c) t → IsIndexSet t
-  set_kept code c t sound =
+  -- the invariant gives what a unique index set promises
+  set_kept : (code : Coding T) (c : ℕ) {t : Trace T} → frame.Sound (family code c) t → IsIndexSet t
+  set_kept code c sound =
       let kept = sound.fit.kept in
       let words = sound.fit.words in
       grind arith
 
+  -- what a step writes before the end is what it did to the set
   all_effects : (p : ℕ) (freed : Option ℕ) (outcome : Option (Answer T)) → AllByRecursion (IsEffectOf {T = T} (Next p)) (effects p freed outcome)
   all_effects = grind arith
 
+  -- what a step writes is in order
   writes : (c : ℕ) (t : Trace T) (p : ℕ) (words : List ℕ) (holders : List (Option ℕ)) (start : Start T) (flight : Flight T)
       → FlightAt c holders p start flight
       → laws.Writes outline t (Next p) (step_from t p t.world.coding words (registries.Indices holders) start flight)
@@ -68,38 +70,40 @@ module _ {T : Type 0} where
   abbrev May : Trace T → Turn T → Type 0
   May t turn = Unit {0}
 
+  -- no call of the set asks a question
   no_question : (code : Coding T) (c : ℕ) (s : IndexSet) (p : ℕ) (start : Start T) (flight : Flight T) → (family code c).At s p start flight
       → is_question (want_of code flight) ≡ false
   no_question = grind arith
 
-  -- each turn of a set may be taken, as the frame asks it of a family
+  -- each begin, step, decision and death keeps what holds of the set
   turns : (code : Coding T) (c : ℕ) → Turns outline code c May
   turns code c =
       laws.turns_alone outline code c May
       (record {
-        holds_on = λ scene s' was y es changes' under preserves h. holds_more scene s' was y es changes' under preserves h;
+        holds_on = λ scene s' was y es changes' under preserves h. holds_more under preserves h;
         stays = λ scene s' was y es changes' preserves h own q ne start flight at. let keeps = preserves.keeps q ne in grind arith;
         knows = λ scene s' was y es changes' preserves own q ne since backs flight h. let seen = preserves.seen in grind arith;
-        begin = λ t s p start flight may e rows. begin_shows code c t s p start flight e rows;
-        step = λ t s p x since may found. step_shows code c t s p x since found;
+        begin = λ t s p start flight may e rows. begin_shows code c s p e rows;
+        step = λ t s p x since may found. step_shows code c s p found;
         no_question = no_question code c;
         no_owners = λ s. refl;
       })
 
-  -- all that the frame asks of a family is so of the set's
-  owed : (code : Coding T) (c : ℕ) → Owed outline code c
-  owed code c =
+  -- the family has what is owed beside the turns: its promise, its bounds, and that what a step writes is
+  -- in order, among others
+  owed : {code : Coding T} {c : ℕ} → Owed outline code c
+  owed {code} {c} =
       record {
         promise = refl;
         bounds = grind arith;
-        promised = λ t s few. set_kept code c t s;
+        promised = λ t s few. set_kept code c s;
         writes = λ t s p x since small start flight here. writes c t p s.state.words s.state.holders start flight here.at;
         decides = λ t s p x since said start flight asks here. laws.asks_none _ (no_question code c s.state p start flight here.at) asks;
         goes = λ s p start flight at z words beside answer. grind arith;
         tells = λ t turn e s. tt;
       }
 
-  -- all turns of a set are sound
+  -- the set opens soundly and each turn keeps what holds, at every capacity that is admitted
   all_turns : AllTurns {T = T} outline May
   all_turns =
       record {
@@ -110,18 +114,19 @@ module _ {T : Type 0} where
 
   -- what is proved of every run of the unique index set
   pub index_keeps : Keeps T kinds.Indices
-  index_keeps = laws.keeps outline May all_turns (λ code c coded admitted. owed code c)
+  index_keeps = laws.keeps outline May all_turns (λ code c coded admitted. owed)
 
   -- a step writes down in order, and its call goes on as its table says
   pub orders_of : (code : Coding T) (c : ℕ) → Orders (family code c)
-  orders_of code c = laws.orders outline code c (owed code c)
+  orders_of code c = laws.orders outline code c (owed)
 
   -- what holds of every run where neither turns nor parties have a bound
   pub reached_on_sound : (t : Trace T) → t.world.kind ≡ kinds.Indices → IsReachedOn t → frame.Sound (family t.world.coding t.world.capacity) t
   reached_on_sound = laws.reached_on_sound outline all_turns
 
+  -- a run without a bound on turns or parties keeps what the set promises
   pub kept_on : (t : Trace T) → t.world.kind ≡ kinds.Indices → IsReachedOn t → IsKept t
-  kept_on t is reached_on =
-      let sound_there = reached_on_sound t is reached_on in
-      laws.kept_by outline May all_turns (λ code c coded admitted. owed code c) t is reached_on.coded
-      reached_on.admitted sound_there (set_kept t.world.coding t.world.capacity t sound_there)
+  kept_on t kind_is reached_on =
+      let sound_there = reached_on_sound t kind_is reached_on in
+      laws.kept_by outline May all_turns (λ code c coded admitted. owed) t kind_is reached_on.coded
+      reached_on.admitted sound_there (set_kept t.world.coding t.world.capacity sound_there)

@@ -1,5 +1,5 @@
--- What a step of a call of the unique index set has to show, and the shapes that a step has: a call goes on, frees its
--- index, claims one, locks the set, or ends without any of these.
+-- What a step of a call of the unique index set has to show, and a lemma for each form of a step: the call
+-- goes on, frees its index, claims one, locks the set, or ends without any of these.
 use Rattle.std.proofs.Common.{◌≡◌, ◌≢◌, ℕ, ◌+◌, ◌-◌, ◌<◌, ◌≤◌, ◌==◌, ⊎_elim, inl, inr, if◌then◌else◌, Bool, true}
 use Rattle.std.proofs.Common.{false, Option, Some, None, List, [], ◌∷◌, ◌++◌, length, get_or, set, fold, refl, sym, ap}
 use Rattle.std.proofs.Common.{◌∙◌, arith, eq-eqb, ne_eqb, get_or-set_same, get_or-set_other}
@@ -31,9 +31,9 @@ use Rattle.laws_indices.proofs.Knows.{counts, takes, gives, flight_wrote, number
 use Rattle.laws_indices.proofs.Sums.{sum_one, sum_over}
 use Rattle.laws_indices.proofs.Totals.{weight_of, weight_at}
 
--- ---- what a step of any call is to the others
+-- ---- facts about words and holders
 
--- the words stay, or their changes go up
+-- a step leaves the words as they are, or the number of changes goes up
 pub is_seen : (words : List ℕ) (ask : Option Ask) (changes : ℕ) → IsSeen words (words_after words ask) changes (changes + change_of words ask)
 is_seen words None changes = inl (refl, omega arith)
 is_seen words (Some ask) changes = go (get_or (words_after words (Some ask)) ask.word 0 == get_or words ask.word 0) refl
@@ -48,37 +48,44 @@ is_seen words (Some ask) changes = go (get_or (words_after words (Some ask)) ask
 
 -- an index has one holder
 clash : (o : Option ℕ) (p q : ℕ) → q ≢ p → o ≡ Some p → o ≡ Some q → ⊥
-clash o p q ne a b = let same : Some p ≡ Some q = sym a ∙ b in ne (cc)
+clash o p q ne first_some second_some = let same : Some p ≡ Some q = sym first_some ∙ second_some in ne (cc)
 
+-- nobody holds an index of which this is the holder
 nobody : (o : Option ℕ) (q : ℕ) → o ≡ None → o ≡ Some q → ⊥
-nobody o q a b = let same : None ≡ Some q = sym a ∙ b in cc
+nobody o q is_none second_some = let same : None ≡ Some q = sym is_none ∙ second_some in cc
 
+-- a head that counts `locked` is locked
 pub shut_says : (head : ℕ) → borrowed head ≡ locked → says_locked head ≡ true
 shut_says head e = eq-eqb (borrowed head) locked e
 
+-- a head that counts less is not locked
 pub open_says : (head : ℕ) → borrowed head ≢ locked → says_locked head ≡ false
 open_says head ne = ne_eqb (borrowed head) locked ne
 
--- who holds an index once one is held by another, or by nobody
+-- the holders once the index `index` has another holder, or none
 holder_set : (holders : List (Option ℕ)) (index : ℕ) (o : Option ℕ) (i : ℕ) → index < length holders
     → (if index == i then o else holder holders i) ≡ holder (set holders index o) i
 holder_set holders index o i below = ⊎_elim here there (cases_eq index i)
   where
+    -- the index whose holder is set has the new holder
     here : index ≡ i → (if index == i then o else holder holders i) ≡ holder (set holders index o) i
-    here e =
-        ap (λ b. if b then o else holder holders i) (eq-eqb index i e)
-        ∙ (sym (get_or-set_same holders index o None below) ∙ ap (holder (set holders index o)) e)
+    here same_index =
+        ap (λ b. if b then o else holder holders i) (eq-eqb index i same_index)
+        ∙ (sym (get_or-set_same holders index o None below) ∙ ap (holder (set holders index o)) same_index)
 
+    -- any other index has the holder that it had
     there : index ≢ i → (if index == i then o else holder holders i) ≡ holder (set holders index o) i
     there ne =
         ap (λ b. if b then o else holder holders i) (ne_eqb index i ne)
         ∙ sym (get_or-set_other holders index i o None (λ e. ne (sym e)))
 
+-- two tallies with equal parts are equal
 pub same_tally : (h h' t t' g g' : ℕ) → h ≡ h' → t ≡ t' → g ≡ g'
     → ◌≡◌ {A = Tally} (record { held = h; taking = t; giving = g }) (record { held = h'; taking = t'; giving = g' })
 same_tally = grind arith
 
 module _ {T : Type 0} where
+  -- a call that counts as at work takes an index or gives one back
   any_less : (o : Option (Flight T)) → weight_of (of_any counts) o ≤ weight_of (of_any takes) o + weight_of (of_any gives) o
   any_less = grind arith
 
@@ -86,12 +93,15 @@ module _ {T : Type 0} where
   abbrev pub any_call : After IndexFlight (Answer T) → After (Flight T) (Answer T)
   any_call after = as_call flights.Indices (λ answer. answer) after
 
+-- `c` is the capacity, `p` the party that takes the step, `latest` the parties' latest calls
 module _ {T : Type 0} (scene : Scene T IndexSet) where
   open scene use {capacity as c, party as p, latest as latest, events as events}
 
+  -- the words of the set before the step
   abbrev pub words : List ℕ
   words = scene.state.words
 
+  -- the holders of the indices before the step
   abbrev pub holders : List (Option ℕ)
   holders = scene.state.holders
 
@@ -106,17 +116,21 @@ module _ {T : Type 0} (scene : Scene T IndexSet) where
     pub seat : p < scene.state.seats
     pub under : flight_of (doing_of (party_of p latest)) ≡ Some (flights.Indices flight)
 
-  module _ (flight : IndexFlight) (here : IsHere flight) where
+  -- what the party's call under way counts for
+  module _ {flight : IndexFlight} (here : IsHere flight) where
+    -- the party's call counts for its own weight
     weighs : (weight : IndexFlight → ℕ) → weight_at (of_any weight) latest p ≡ weight flight
     weighs weight = ap (weight_of (of_any weight)) here.under
 
+    -- the party's call is one of the busy calls, if it counts
     pub busy_here : counts flight ≤ busy
     busy_here =
         let one = sum_one (weight_at (of_any counts) latest) scene.state.seats p here.seat in
         let mine = weighs counts in
         omega arith
 
-    -- the calls under way that count in the head are no more than those that take an index and those that give one back
+    -- the calls under way that count in the head are no more than those that take an index and those that
+    -- give one back
     pub all_in_use : busy + (takes flight + gives flight) ≤ all_taking latest scene.state.seats + all_giving latest scene.state.seats + counts flight
     all_in_use =
         let over =
@@ -133,37 +147,44 @@ module _ {T : Type 0} (scene : Scene T IndexSet) where
       families.party_then outline scene (Indices start) ask
       (record { after = any_call after; back = back; wrote = []; kept = registries.Indices holders })
 
-  -- how often words have changed then
+  -- how often words have changed after a step with this operation
   abbrev pub changes_then : Option Ask → ℕ
   changes_then ask = scene.changes + change_of words ask
 
+  -- how often words had changed when the call began, not counting this step
   abbrev pub since_then : Option Ask → ℕ
   since_then ask = scene.since + change_of words ask
 
+  -- how often the call has turned back after this step
   abbrev pub backs_then : Bool → ℕ
   backs_then back = scene.backs + one_if back
 
-  -- what is paid goes on to be so after a step of its own, which counts no change for it
+  -- a call whose turns back are paid, one more unless `P` holds, has them paid
   pub paid_of : (P : Type 0) → PaidUnless P scene.since scene.changes scene.backs → IsPaid scene.since scene.changes scene.backs
   paid_of P paid_unless = ⊎_elim (λ k. k.1) (λ k. omega arith) paid_unless
 
+  -- what is paid unless `P` holds is paid unless `Q` holds after a step of the call itself,
+  -- where `P` implies `Q`
   pub unless_then : (ask : Option Ask) (P Q : Type 0) → (P → Q) → PaidUnless P scene.since scene.changes scene.backs
       → PaidUnless Q (since_then ask) (changes_then ask) (backs_then false)
   unless_then = grind (arith, inl, inr)
 
-  -- a step after which the call is this, which leaves these holders and writes these events
+  -- a step with the operation `ask`, after which the call is `after`, leaves the holders `holders'`, writes
+  -- the events `es`, and preserves what holds of the set
   abbrev pub Leaves : List (Option ℕ) → List (Event T) → IndexStart → IndexFlight → Option Ask → Bool → After IndexFlight (Answer T) → Type 0
   Leaves holders' es start flight ask back after =
       families.ShowsFrom outline scene (Some (flights.Indices flight)) (set_then scene (words_after words ask) holders')
       (Open (Indices start) (flight_wrote p flight)) (party_then start ask back after) es (changes_then ask)
 
-  -- what the step does, before the end of its call
+  -- what the step writes before the end of its call
   abbrev pub effects_then : IndexFlight → After IndexFlight (Answer T) → List (Event T)
   effects_then flight after = effects p (frees flight) (answer_in after)
 
+  -- all that a step writes: its effects, and the end of its call, if it ends
   abbrev pub told_after : IndexStart → IndexFlight → After IndexFlight (Answer T) → List (Event T)
   told_after start flight after = effects_then flight after ++ ending_of p (Indices start) (answer_in (any_call after))
 
+  -- a step of the call `flight` leaves the holders and writes the events that its table says
   abbrev pub Comes : IndexStart → IndexFlight → Option Ask → Bool → After IndexFlight (Answer T) → Type 0
   Comes start flight ask back after =
       Leaves (fold holders_after holders (effects_then flight after)) (told_after start flight after) start flight ask back after
@@ -172,11 +193,12 @@ module _ {T : Type 0} (scene : Scene T IndexSet) where
   abbrev pub old_for : IndexFlight → ℕ
   old_for flight = old_of words (ask_of (want flight))
 
+  -- the next step of this call preserves what holds of the set
   abbrev pub StepOf : IndexStart → IndexFlight → Type 0
   StepOf start flight = Comes start flight (ask_of (want flight)) (goes_back flight (old_for flight)) (after flight (old_for flight))
 
   module _ (inv : Inv outline scene) where
-    -- the call goes on, and says nothing
+    -- a step with which the call goes on and writes nothing preserves what holds of the set
     pub goes_on :
         (start : IndexStart) (flight flight' : IndexFlight) (ask : Option Ask) (back : Bool)
         → ((busy' : ℕ) → busy' + counts flight ≡ busy + counts flight' → Good c (words_after words ask) holders busy')
@@ -189,7 +211,7 @@ module _ {T : Type 0} (scene : Scene T IndexSet) where
         → Leaves holders [] start flight ask back (GoOn flight')
     goes_on x0 x1 x2 x3 x4 x5 x6 x7 x8 x9 x10 x11 x12 = let seen = is_seen words x3 scene.changes in grind arith
 
-    -- the call is done, and has done nothing by this step
+    -- a step that ends the call, and frees, claims and locks nothing, preserves what holds of the set
     pub ends :
         (start : IndexStart) (flight : IndexFlight) (answer : Answer T) (ask : Option Ask) (back : Bool)
         → ((busy' : ℕ) → busy' + counts flight ≡ busy + 0 → Good c (words_after words ask) holders busy')
@@ -223,9 +245,9 @@ module _ {T : Type 0} (scene : Scene T IndexSet) where
           knows = paid;
         }
 
-    -- a release frees its index
+    -- a step in which a release frees its index preserves what holds of the set
     pub frees_index :
-        (index : ℕ) (mode : ReleaseMode) (flight flight' : IndexFlight) (ask : Option Ask) → index < c → holder holders index ≡ Some p
+        {index : ℕ} (mode : ReleaseMode) {flight : IndexFlight} (flight' : IndexFlight) (ask : Option Ask) → index < c → holder holders index ≡ Some p
         → ((busy' : ℕ) → busy' + counts flight ≡ busy + counts flight' → Good c (words_after words ask) (set holders index None) busy')
         → takes flight' ≡ takes flight → gives flight ≡ 0 → gives flight' ≡ 1 → flight_wrote {T = T} p flight ≡ []
         → flight_wrote {T = T} p flight' ≡ Freed p index ∷ []
@@ -235,7 +257,7 @@ module _ {T : Type 0} (scene : Scene T IndexSet) where
         → At c (set holders index None) p (Release index mode) flight'
         → FlightKnows c (words_after words ask) (since_then ask) (changes_then ask) (backs_then false) flight'
         → Leaves (set holders index None) (Freed p index ∷ []) (Release index mode) flight ask false (GoOn flight')
-    frees_index index mode flight flight' ask below holds good takes_same none one before after head straight steps at knows =
+    frees_index {index} mode flight' ask below holds good takes_same none one before after head straight steps at knows =
         let long = inv.holds.good.long in
         let less = held_below_set holders c index None below long in
         let mine : one_held (holder holders index) ≡ 1 = ap one_held holds in
@@ -262,16 +284,16 @@ module _ {T : Type 0} (scene : Scene T IndexSet) where
           knows = knows;
         }
 
-    -- an acquire claims an index, and is done
+    -- a step in which an acquire claims an index and ends preserves what holds of the set
     pub claims_index :
-        (index : ℕ) (flight : IndexFlight) (ask : Option Ask) → index < c → holder holders index ≡ None → counted_in words ≢ locked
+        (index : ℕ) {flight : IndexFlight} (ask : Option Ask) → index < c → holder holders index ≡ None → counted_in words ≢ locked
         → ((busy' : ℕ) → busy' + counts flight ≡ busy + 0 → Good c (words_after words ask) (set holders index (Some p)) busy')
         → takes flight ≡ 1 → gives flight ≡ 0 → flight_wrote {T = T} p flight ≡ []
         → head_of (words_after words ask) ≡ head_of words
         → scene.steps + step_count ask ≤ most_steps c Acquire (backs_then false)
         → IsPaid scene.since scene.changes scene.backs
         → Leaves (set holders index (Some p)) (Claimed p index ∷ Finished p (Indices Acquire) (Index index) ∷ []) Acquire flight ask false (Done (Index index))
-    claims_index index flight ask below none unlocked good one zero wrote head steps paid =
+    claims_index index ask below none unlocked good one zero wrote head steps paid =
         let long = inv.holds.good.long in
         let more = held_below_set holders c index (Some p) below long in
         let free : one_held (holder holders index) ≡ 0 = ap one_held none in
@@ -298,9 +320,9 @@ module _ {T : Type 0} (scene : Scene T IndexSet) where
           knows = omega arith;
         }
 
-    -- a release locks the set, and is done
+    -- a step in which a release locks the set and ends preserves what holds of the set
     pub locks_set :
-        (index : ℕ) (flight : IndexFlight) (ask : Option Ask) → ((i : ℕ) → holder holders i ≡ None) → counted_in words ≢ locked
+        {index : ℕ} {flight : IndexFlight} (ask : Option Ask) → ((i : ℕ) → holder holders i ≡ None) → counted_in words ≢ locked
         → ((busy' : ℕ) → busy' + counts flight ≡ busy + 0 → Good c (words_after words ask) holders busy')
         → takes flight ≡ 0 → gives flight ≡ 1 → flight_wrote {T = T} p flight ≡ Freed p index ∷ []
         → counted_in (words_after words ask) ≡ locked
@@ -308,7 +330,7 @@ module _ {T : Type 0} (scene : Scene T IndexSet) where
         → IsPaid scene.since scene.changes scene.backs
         → Leaves holders (Locked p ∷ Finished p (Indices (Release index LockIfLastIndex)) (State states.Locked) ∷ [])
         (Release index LockIfLastIndex) flight ask false (Done (State states.Locked))
-    locks_set index flight ask none unlocked good zero one wrote shut steps paid =
+    locks_set {index} ask none unlocked good zero one wrote shut steps paid =
         record {
           preserves =
               record {

@@ -1,4 +1,4 @@
--- What each step of a call of the set shows, and each begin of one.
+-- Each step of a call of the set, and each begin of one, preserves what holds of the set.
 use Rattle.std.proofs.Common.{◌≡◌, ℕ, ◌≤◌, Option, Some, None, List, refl, sym, subst, arith}
 use Rattle.laws_indices.proofs.Names.{LockIfLastIndex, Default, AcquireStage, ReleaseStage, Start, Indices, Flight}
 use Rattle.laws_indices.proofs.Names.{IndexStart, IndexFlight, Party, Coding, party_of, Trace, Scene, Inv}
@@ -22,69 +22,74 @@ use Rattle.laws_indices.proofs.Stages.{IsHere, StepOf}
 
 -- ---- one step of a call
 
-module _ {T : Type 0} (scene : Scene T IndexSet) (inv : Inv outline scene) where
+module _ {T : Type 0} {scene : Scene T IndexSet} (inv : Inv outline scene) where
   open scene use {capacity as c, party as p}
 
   abbrev hs : List (Option ℕ)
   hs = scene.state.holders
 
-  -- the call has this capacity and this index
+  -- an acquire whose capacity is `c` takes its step as the acquire named by `c`
   acquire_moves : (n : ℕ) (stage : AcquireStage) → n ≡ c
       → (IsHere scene (acquire_at c stage) → StepOf scene starts.Acquire (acquire_at c stage))
       → IsHere scene (acquire_at n stage) → StepOf scene starts.Acquire (acquire_at n stage)
   acquire_moves n stage e moves =
-      subst (λ m. IsHere scene (acquire_at m stage) → StepOf scene starts.Acquire (acquire_at m stage)) (sym e) moves
+      rw e moves
 
+  -- a release in mode Default whose capacity is `c` and whose index is `index` takes its step as the one
+  -- named by them
   default_moves : (n i index : ℕ) (stage : ReleaseStage) → n ≡ c → i ≡ index
       → (IsHere scene (default_at c index stage) → StepOf scene (starts.Release index Default) (default_at c index stage))
       → IsHere scene (default_at n i stage)
       → StepOf scene (starts.Release index Default) (default_at n i stage)
   default_moves = grind arith
 
-  -- a release that may lock, of this capacity and index, leads on as the one named by them
+  -- a release that may lock, whose capacity is `c` and whose index is `index`, takes its step as the one
+  -- named by them
   lock_moves : (n i index : ℕ) (stage : ReleaseStage) → n ≡ c → i ≡ index
       → (IsHere scene (lock_at c index stage) → StepOf scene (starts.Release index LockIfLastIndex) (lock_at c index stage))
       → IsHere scene (lock_at n i stage)
       → StepOf scene (starts.Release index LockIfLastIndex) (lock_at n i stage)
-  lock_moves n i index stage e f moves =
-      subst (λ m. IsHere scene (lock_at m i stage) → StepOf scene (starts.Release index LockIfLastIndex) (lock_at m i stage)) (sym e)
-      (subst (λ j. IsHere scene (lock_at c j stage) → StepOf scene (starts.Release index LockIfLastIndex) (lock_at c j stage)) (sym f) moves)
+  lock_moves n i index stage e same_index moves =
+      rw (e, same_index) moves
 
-  -- any step of a call that stands at its stage, and knows what the stage tells, shows what it has to
+  -- any step of a call preserves what holds of the set, where the call stands at its stage and knows what
+  -- the stage says
   pub step_moves : (start : IndexStart) (flight : IndexFlight) → IsHere scene flight → At c hs p start flight
       → scene.steps ≤ number_of c flight scene.backs
       → FlightKnows c scene.state.words scene.since scene.changes scene.backs flight → StepOf scene start flight
-  step_moves starts.Acquire (calls.Acquire run) here at s flight_knows =
-      acquire_moves run.call.capacity run.call.stage at.0 (λ h. acquire_step scene inv run.call.stage h at.1 flight_knows s) here
-  step_moves (starts.Release index Default) (calls.ReleaseDefault run) here at s flight_knows =
+  step_moves starts.Acquire (calls.Acquire run) here at few_steps flight_knows =
+      acquire_moves run.call.capacity run.call.stage at.0 (λ h. acquire_step scene inv run.call.stage h at.1 flight_knows few_steps) here
+  step_moves (starts.Release index Default) (calls.ReleaseDefault run) here at few_steps flight_knows =
       default_moves run.call.capacity run.given index run.call.stage at.0 at.1
-      (λ h. default_step scene inv index at.2 flight_knows run.call.stage h at.3 s) here
-  step_moves (starts.Release index LockIfLastIndex) (calls.ReleaseLock run) here at s flight_knows =
-      lock_moves run.call.capacity run.given index run.call.stage at.0 at.1 (λ h. lock_step scene inv index at.2 run.call.stage h at.3 flight_knows s) here
-  step_moves starts.BorrowedIndices (calls.BorrowedIndices run) here at s flight_knows = counts_step scene inv flight_knows s here
-  step_moves starts.IsLocked (calls.IsLocked run) here at s flight_knows = looks_step scene inv flight_knows s
-  step_moves start flight here at s flight_knows = absurd at
+      (λ h. default_step scene inv index at.2 flight_knows run.call.stage h at.3 few_steps) here
+  step_moves (starts.Release index LockIfLastIndex) (calls.ReleaseLock run) here at few_steps flight_knows =
+      lock_moves run.call.capacity run.given index run.call.stage at.0 at.1
+      (λ h. lock_step scene inv index at.2 run.call.stage h at.3 flight_knows few_steps) here
+  step_moves starts.BorrowedIndices (calls.BorrowedIndices run) here at few_steps flight_knows = counts_step inv flight_knows few_steps here
+  step_moves starts.IsLocked (calls.IsLocked run) here at few_steps flight_knows = looks_step inv flight_knows few_steps
+  step_moves start flight here at few_steps flight_knows = absurd at
 
--- ---- what a step and a begin show
+-- ---- a step and a begin, as the frame asks for them
 
--- `c` is the capacity, `t` the run so far, `s` what is sound of it; party `p` takes a turn
-module _ {T : Type 0} (code : Coding T) (c : ℕ) (t : Trace T) (s : frame.Sound (family code c) t) (p : ℕ) where
-  -- a step of a call that stands there shows what the family's step has to
-  pub step_shows : (x : Party T) (since : ℕ) → party_of p t.world.latest ≡ Some x → (start : Start T) (flight : Flight T)
+-- `c` is the capacity, `t` the run so far, and `s` says that the invariant holds after it; the party `p`
+-- takes a turn
+module _ {T : Type 0} (code : Coding T) (c : ℕ) {t : Trace T} (s : frame.Sound (family code c) t) (p : ℕ) where
+  -- a step of a call that stands in the machine is as the frame asks
+  pub step_shows : {x : Party T} {since : ℕ} → party_of p t.world.latest ≡ Some x → (start : Start T) (flight : Flight T)
       → StandsThere (family code c) t s p x since start flight → families.StepOf outline (scene_of outline code c t s p x.steps x.backs since) start flight
-  step_shows x since found (Indices start) (flights.Indices flight) here =
+  step_shows {x} {since} found (Indices start) (flights.Indices flight) here =
       let moves =
-      step_moves (scene_of outline code c t s p x.steps x.backs since) (inv_of outline code c t s p x.steps x.backs since) start flight
+      step_moves (inv_of outline code c t s p x.steps x.backs since) start flight
       (record { seat = s.holds.bounded p x found; under = here.found }) here.at here.steps here.knows in
       record { state = set_then (scene_of outline code c t s p x.steps x.backs since) _ _; kept = refl; words = refl; shows = moves }
-  step_shows x since found start flight here = absurd here.at
+  step_shows found start flight here = absurd here.at
 
-  -- a call that begins shows what the family's begin has to
-  pub begin_shows : (start : Start T) (flight : Flight T)
+  -- a begin of a call is as the frame asks
+  pub begin_shows : {start : Start T} {flight : Flight T}
       → first_of kinds.Indices c start (registries.Indices s.state.holders) ≡ Some flight
       → first_row ((begin_of kinds.Indices c start).rows (registries.Indices s.state.holders) p) ≡ None
       → families.Begins outline (scene_of outline code c t s p 0 0 t.world.changes) start flight
-  begin_shows start flight e rows =
+  begin_shows {flight = flight} first_is rows =
       let light : of_any counts flight ≡ 0 = grind arith in
       record {
         state = set_then (scene_of outline code c t s p 0 0 t.world.changes) s.state.words s.state.holders;

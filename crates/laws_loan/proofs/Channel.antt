@@ -26,13 +26,15 @@ pub record Channel (T : Type 0) : Type 0 where
   pub book : Book  -- what is kept beside the words
   pub events : List (Event T)
 
--- nobody takes a role of its queues
+-- nobody takes a role of the channel's two queues
 abbrev pub no_roles : Roles
 no_roles = record { producer = None; consumer = None }
 
+-- the words of the channel: those of the indices, of the submission queue and of the completion queue
 abbrev pub words_in : {T : Type 0} → Channel T → List ℕ
 words_in s = s.set ++ (layout no_roles s.submission ++ layout no_roles s.completion)
 
+-- the registry has the book of the channel, and the words are its words
 abbrev pub Represents : {T : Type 0} → Registry T → List ℕ → Channel T → Type 0
 Represents (registries.Loan book) words s = (book ≡ s.book) × (words ≡ words_in s)
 Represents kept words s = ⊥
@@ -46,14 +48,18 @@ kept_is kept words s fit = absurd fit
 
 -- ---- what holds between two turns
 
--- of so many slots and a submission queue of this capacity, where so many calls of the set take an index or give one back
+-- What holds of a channel of `slots` slots whose submission queue has the capacity `queue`, while `busy`
+-- calls take an index or give one back: of the words of its three parts, and of where each index is.
 pub record Holds {T : Type 0} (slots queue : ℕ) (s : Channel T) (busy : ℕ) : Type 0 where
+  -- the capacity of the submission queue, which is below 2 ^ 32
   pub capacity : s.book.queue ≡ queue
   pub some : 1 ≤ queue
   pub few : queue < 2 ^ 32
+  -- the words of the indices and of the two queues are right
   pub set : indices.Good slots s.set s.claims busy
   pub submission : queues.Good 1 words_of_index (queue + 1) s.submission
   pub completion : queues.Good 1 words_of_index slots s.completion
+  -- the indices are never locked, and each is where the claims, the queues and the book say
   pub unlocked : indices.counted_in s.set ≢ locked
   pub placed : Placed slots s.claims s.submission.waiting s.completion.waiting s.book s.events
 
@@ -75,24 +81,29 @@ opened slots queue =
       events = [];
     }
 
+-- a channel opens with these words and this book
 pub opening_fits : (T : Type 0) (slots queue : ℕ) → Represents {T = T} (opening_kept slots queue) (opening_words slots queue) (opened slots queue)
 opening_fits T slots queue = (refl, refl)
 
+-- the empty queue is right
 empty_good : (cells : ℕ) → queues.Good 1 words_of_index cells (empty cells)
 empty_good = grind (arith, length-replicate)
 
+-- at the opening each index is free
 pub all_free : (n i : ℕ) → place_at (replicate n places.Free) i ≡ places.Free
 all_free zero i = refl
 all_free (suc n) zero = refl
 all_free (suc n) (suc i) = all_free n i
 
+-- no party has a free index
 nobody_by : (p : ℕ) → IsBy p Free → ⊥
 nobody_by = grind arith
 
+-- the book of an opening is the one of no events
 opening_keeps : {T : Type 0} (slots queue : ℕ) → KeepsBook {T = T} (opening_book slots queue) []
 opening_keeps = grind (arith, all_free, nobody_holds)
 
--- at the opening no index is claimed, none waits in either queue, and the book and the events say so too
+-- at the opening no index is claimed and none waits in a queue, and the book and the events say so
 opening_placed : {T : Type 0} (slots queue : ℕ) → Placed {T = T} slots (replicate slots None) [] [] (opening_book slots queue) []
 opening_placed slots queue =
     record {
@@ -107,8 +118,7 @@ opening_placed slots queue =
       keeps = opening_keeps slots queue;
     }
 
--- what holds of the channel's parts holds at the opening, for numbers of slots and of the queue's
--- capacity that are admitted
+-- what holds of the parts holds at the opening, for a number of slots and a capacity that are admitted
 pub opening_holds : {T : Type 0} (slots queue : ℕ) → 1 ≤ slots → slots < locked → 1 ≤ queue → queue < 2 ^ 32 → Holds {T = T} slots queue (opened slots queue) 0
 opening_holds slots queue some few room fits =
     record {

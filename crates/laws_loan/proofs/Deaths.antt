@@ -1,4 +1,5 @@
--- The death of a party: its calls go no further, and nothing else changes.
+-- The death of a party keeps the invariant of a loan channel: its calls take no further step, and
+-- nothing else changes.
 use Rattle.laws_loan.proofs.Names.{◌≡◌, ◌≢◌, ℕ, ◌+◌, ◌⊎◌, ◌==◌, ◌||◌, ⊎_elim, if◌then◌else◌, Bool, true, false, List}
 use Rattle.laws_loan.proofs.Names.{[], ◌∷◌, ◌++◌, refl, sym, ap, subst, ◌∙◌, append-nil, eq-eqb, ne_eqb, cases_eq}
 use Rattle.laws_loan.proofs.Names.{fold-append, Event, Died, Start, Flight, Registry, LoanStart, LoanFlight, Party}
@@ -19,57 +20,67 @@ use Rattle.laws_loan.proofs.QueueEvents.{items, Told, told_more}
 
 -- ---- who has died
 
--- once this owner is among the dead, a party has died just if it is the owner or had died before
+-- who has died after the death of `o`: `o`, and who had died before
 died_with : (q o : ℕ) (dead : List ℕ) → has_died q (dead_with o dead) ≡ ((o == q) || has_died q dead)
 died_with q o dead = ⊎_elim now before (cases_eq q o)
   where
+    -- the owner who dies is dead by both tests
     now : q ≡ o → has_died q (dead_with o dead) ≡ ((o == q) || has_died q dead)
     now e = ap (λ n. has_died q (dead_with n dead)) (sym e) ∙ (died_now q dead ∙ sym (ap (λ b. b || has_died q dead) (eq-eqb o q (sym e))))
 
+    -- another owner is dead by both tests if he was before
     before : q ≢ o → has_died q (dead_with o dead) ≡ ((o == q) || has_died q dead)
     before ne = died_before q o dead ne ∙ sym (ap (λ b. b || has_died q dead) (ne_eqb o q (λ e. ne (sym e))))
 
+-- a disjunction is a choice by its first part
 either_way : (b d : Bool) → (b || d) ≡ (if b then true else d)
 either_way = grind arith
 
+-- who was dead is dead after a death
 still_dead : (b d : Bool) → d ≡ true → (b || d) ≡ true
 still_dead = grind arith
 
+-- who is alive after a death was alive before
 was_alive : (b d : Bool) → (b || d) ≡ false → d ≡ false
 was_alive = grind arith
 
 module _ {T : Type 0} (slots queue : ℕ) (s : Channel T) (o : ℕ) where
+  -- the channel after the death of `o`
   abbrev pub after : Channel T
   after = record s { book = record s.book { dead = dead_with o s.book.dead }; events = s.events ++ Died o ∷ [] }
 
+  -- each index is where it was
   same_spot : (i : ℕ) → spot_of i (s.events ++ Died o ∷ []) ≡ spot_of i s.events
   same_spot i = spot_stays s.events (Died o) i refl
 
+  -- the death of an owner leaves the receiver
   same_receiver : receiver_of (s.events ++ Died o ∷ []) ≡ receiver_of s.events
   same_receiver = fold-append receiver_after 1 s.events (Died o ∷ [])
 
   -- ---- what holds
 
-  -- where each index is by the events still agrees with the claims, the queues and the book after the death
+  -- where each index is still agrees with the claims, the queues and the book
   placed_then : Placed slots s.claims s.submission.waiting s.completion.waiting s.book s.events
       → Placed slots after.claims after.submission.waiting after.completion.waiting after.book after.events
-  placed_then h =
-      placed_on slots s.events (Died o) refl s.claims s.submission.waiting s.completion.waiting s.book after.book h
+  placed_then placed =
+      placed_on slots s.events (Died o) refl s.claims s.submission.waiting s.completion.waiting s.book after.book placed
       (record {
         places = refl;
         holders = refl;
-        receiver = h.keeps.receiver ∙ sym same_receiver;
+        receiver = placed.keeps.receiver ∙ sym same_receiver;
         dead = λ p. died_with p o s.book.dead
-            ∙ (ap (λ d. (o == p) || d) (h.keeps.dead p)
+            ∙ (ap (λ d. (o == p) || d) (placed.keeps.dead p)
             ∙ (either_way (o == p) (has_died_by p s.events) ∙ sym (fold-append (died_after p) false s.events (Died o ∷ []))));
-        parties = λ i p by. subst (λ r. (p ≡ 0) ⊎ (p ≡ r)) (sym same_receiver) (h.parties i p by);
+        parties = λ i p by. rw same_receiver (placed.parties i p by);
       })
-      (lists_stay is_waiting s.submission.waiting s.events (Died o) h.waits refl)
-      (lists_stay is_returning s.completion.waiting s.events (Died o) h.returns refl)
+      (lists_stay is_waiting s.submission.waiting s.events (Died o) placed.waits refl)
+      (lists_stay is_returning s.completion.waiting s.events (Died o) placed.returns refl)
 
+  -- the parts of the channel hold after the death
   parts_then : (busy : ℕ) → Holds slots queue s busy → Holds slots queue after busy
   parts_then = grind (arith, placed_then)
 
+  -- the events tell of the two queues as before the death
   told_then : Told queue s.submission.waiting s.completion.waiting s.events → Told queue s.submission.waiting s.completion.waiting (s.events ++ Died o ∷ [])
   told_then told =
       told_more queue s.submission.waiting s.submission.waiting s.completion.waiting s.completion.waiting s.events (Died o ∷ []) told
@@ -93,8 +104,9 @@ module _ {T : Type 0} (slots queue : ℕ) (s : Channel T) (o : ℕ) where
       let answers = Each-append (AnswersRight slots) s.events (Died o ∷ []) holds_now.answers (tt, tt) in
       grind (arith, span_of-death, same_spot)
 
-  -- ---- what the calls know
+  -- ---- the calls of all parties stand and know what they did
 
+  -- a call stands where it stood
   at_on : (p : ℕ) (wrote : List (Event T)) (start : LoanStart) (flight : LoanFlight)
       → At slots queue s p wrote start flight → At slots queue after p wrote start flight
   at_on = grind (arith, at_stays, same_spot, was_alive, died_with, still_dead)
@@ -105,13 +117,16 @@ module _ {T : Type 0} (code : Coding T) (slots queue : ℕ) where
   abbrev channel : frame.Family T
   channel = family code slots queue
 
+  -- after the death the machine has the words and the book of the channel
   fit_then : (kept : Registry T) (words : List ℕ) (s : Channel T) (o : ℕ) → Represents kept words s
       → Represents (kept_after_death kept o) words (after slots queue s o)
   fit_then = grind arith
 
+  -- a call of any party stands where it stood
   call_on : (s : Channel T) (o q : ℕ) (start : Start T) (flight : Flight T) → channel.At s q start flight → channel.At (after slots queue s o) q start flight
   call_on = grind (arith, span_of-death, at_on)
 
+  -- what a call of the party that dies knows stays true after the death
   known_on : (s : Channel T) (o since changes backs : ℕ) (flight : Flight T)
       → channel.Knows s o s.events since changes backs flight
       → channel.Knows (after slots queue s o) o (s.events ++ Died o ∷ []) since changes backs flight

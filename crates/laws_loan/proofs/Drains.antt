@@ -1,4 +1,5 @@
--- The steps of a reclaim that pops the submission queue, until that is empty.
+-- The steps of a reclaim that pops the submission queue until the queue is empty. Each keeps the invariant:
+-- it has the fields of `Steps` (Sender).
 use Rattle.laws_loan.proofs.Names.{◌≡◌, ◌≢◌, ℕ, suc, ◌+◌, ◌%◌, ◌^◌, ◌*◌, ◌-◌, ◌<◌, ◌≤◌, ◌==◌, inl, Bool, true, false}
 use Rattle.laws_loan.proofs.Names.{not, Option, List, [], ◌∷◌, ◌++◌, length, get_or, refl, sym, ap, subst, ◌∙◌}
 use Rattle.laws_loan.proofs.Names.{append-nil, length-append, nat_tests, nil_from_length, set-get_or, flat_map-append}
@@ -22,7 +23,7 @@ use Rattle.laws_loan.proofs.Knows.{reclaim_counts, reclaim_number, StageAt}
 use Rattle.laws_loan.proofs.Lists.{first_there}
 use Rattle.laws_loan.proofs.Parts.{submission_old, submission_words, submission_change}
 use Rattle.laws_loan.proofs.ReclaimGoes as steps
-use Rattle.laws_loan.proofs.ReclaimGoes.{asked, old, Does}
+use Rattle.laws_loan.proofs.ReclaimGoes.{asked, old, StageKeeps}
 use Rattle.laws_loan.proofs.Reclaiming.{reclaim_at, none_more, passing_before, passing_sent, Reclaims}
 use Rattle.laws_loan.proofs.Rooms.{sent_below}
 use Rattle.laws_loan.proofs.Scene.{Scene}
@@ -31,142 +32,169 @@ use Rattle.laws_loan.proofs.Submission as submission
 use Rattle.laws_loan.proofs.Table.{waiting_away, hands_it_out}
 use Rattle.laws_loan.proofs.QueueEvents.{items, Tells}
 
+-- a reclaim that pops the submission queue, at this stage of the pop
 abbrev drains : PopStage → ReclaimStage
 drains stage = reclaims.Drains stage
 
+-- the sender has a reclaim under way (`r`), which has written `wrote` and is not counted in
+-- the head of the indices
 module _ {T : Type 0} (scene : Scene T) (wrote : List (Event T)) (small : scene.turns < 2 ^ 64 - 2) (under : ReclaimStage)
     (r : Reclaims scene wrote under) (idle : reclaim_counts under ≡ 0) where
   open scene use {slots, queue, state as s, latest, caller as x}
-  open r use {holds as h, known}
+  open r use {holds, known}
 
-  abbrev Does_at : PopStage → Type 0
-  Does_at stage = Does scene wrote (drains stage)
+  -- the step of the reclaim at this stage keeps the invariant
+  abbrev StageKeepsAt : PopStage → Type 0
+  StageKeepsAt stage = StageKeeps scene wrote (drains stage)
 
+  -- the operation that the reclaim asks for at this stage
   abbrev asks : PopStage → Option Ask
   asks stage = asked scene wrote (drains stage)
 
+  -- the old value of the word that it asks for
   abbrev value : PopStage → ℕ
   value stage = old scene wrote (drains stage)
 
+  -- how the reclaim goes on from this stage, or ends, where the word has the value `v`
   abbrev then_of : PopStage → ℕ → After LoanFlight (Answer T)
   then_of stage v = steps.goes scene wrote (drains stage) v
 
+  -- what the step at this stage does to the channel
   abbrev effect_of : PopStage → ℕ → Effect
   effect_of stage v = steps.effect_at scene wrote (drains stage) v
 
-  abbrev To : Channel T → PopStage → After LoanFlight (Answer T) → Effect → Type 0
-  To s' stage after effect = steps.StepTo scene wrote s' (drains stage) after effect
+  -- a step at this stage, to the channel `s'`, keeps the invariant
+  abbrev KeepsTo : Channel T → PopStage → After LoanFlight (Answer T) → Effect → Type 0
+  KeepsTo s' stage after effect = steps.StepTo scene wrote s' (drains stage) after effect
 
-  -- ---- what is so of the queue
+  -- ---- the words of the submission queue
 
+  -- the words of the submission queue
   abbrev queued : List ℕ
   queued = layout no_roles s.submission
 
+  -- the write position is below its last value
   low_write : s.submission.write < 2 ^ 64 - 2
-  low_write = let sent = h.sent in omega arith
+  low_write = let sent = holds.sent in omega arith
 
+  -- the submission queue has five words and one for each index that may wait
   wide : length queued ≡ 5 + queue
   wide = grind (arith, low_write)
 
+  -- what an operation of the pop finds in the whole it finds in the queue
   old_is : (stage : PopStage) → IsOn queued (pop_asks queue stage) → value stage ≡ old_of queued (ask_of (pop_asks queue stage))
-  old_is stage on = submission_old slots queue s (counted_for (sends_at latest)) h.parts (pop_asks queue stage) on
+  old_is stage on = submission_old slots queue s (counted_for (sends_at latest)) holds.parts (pop_asks queue stage) on
 
-  -- an operation on the submission queue changes that part of the words alone, to those of the queue as it is then
+  -- an operation on the submission queue changes that part of the words alone, to those of
+  -- the queue as it is then
   words_are : (stage : PopStage) (k : Core ℕ) → IsOn queued (pop_asks queue stage)
       → words_after queued (ask_of (pop_asks queue stage)) ≡ layout no_roles k
       → words_after (words_in s) (asks stage) ≡ s.set ++ (layout no_roles k ++ layout no_roles s.completion)
-  words_are stage k on is =
-      submission_words slots queue s (counted_for (sends_at latest)) h.parts (pop_asks queue stage) on
-      ∙ ap (λ ws. s.set ++ (ws ++ layout no_roles s.completion)) is
+  words_are stage k on layout_is =
+      submission_words slots queue s (counted_for (sends_at latest)) holds.parts (pop_asks queue stage) on
+      ∙ ap (λ ws. s.set ++ (ws ++ layout no_roles s.completion)) layout_is
 
   -- ---- the loads
 
-  -- a step of this pop that changes no word, and goes on without a turn back to a stage where the
-  -- reclaim is right, does what a step should
+  -- a step of the pop that changes no word, and leads to a stage where the reclaim stands,
+  -- keeps the invariant
   loads : (now : PopStage) (after_it : ReclaimStage) → IsOn queued (pop_asks queue now)
       → words_after queued (ask_of (pop_asks queue now)) ≡ queued → reclaim_counts after_it ≡ 0
       → StageAt slots s.submission s.completion s.book.places wrote after_it → x.steps + step_count (asks now) ≤ reclaim_number slots wrote after_it
       → reclaim_goes_back (drains now) (value now) ≡ false → then_of now (value now) ≡ GoOn (reclaim_at slots queue after_it)
-      → effect_of now (value now) ≡ effects.Quiet → Does_at now
+      → effect_of now (value now) ≡ effects.Quiet → StageKeepsAt now
   loads now after_it on words counted stands few =
       steps.loads scene wrote under r idle (drains now) after_it (words_are now s.submission on words) counted stands few
 
+  -- the pop at the load of the write position
   abbrev load_of_write : PopStage
   load_of_write = pops.LoadsWrite s.submission.read
 
+  -- the pop at the load of the cell
   abbrev load_of_cell : PopStage
   load_of_cell = pops.LoadsCell s.submission.read
 
+  -- the pop at its move of the read position
   abbrev moves : PopStage
   moves = pops.MovesRead s.submission.read
 
   module _ (most : length (handed_out wrote) + length s.submission.waiting ≤ slots) (none_taken : taken_back wrote ≡ []) (none_freed : freed wrote ≡ []) where
-    loads_read : x.steps ≤ 4 * length (handed_out wrote) → Does_at pops.LoadsRead
+    -- the load of the read position leads on to the load of the write position
+    loads_read : x.steps ≤ 4 * length (handed_out wrote) → StageKeepsAt pops.LoadsRead
     loads_read few =
         let on_queue : 1 < length queued = (let all = wide in omega arith) in
         loads pops.LoadsRead (drains load_of_write) on_queue refl refl (refl, most, none_taken, none_freed) (omega arith) refl
         (ap (then_of pops.LoadsRead) (old_is pops.LoadsRead on_queue)) refl
 
-    -- nothing waits, or something does
-    loads_write : x.steps ≤ 4 * length (handed_out wrote) + 1 → Does_at load_of_write
+    -- the load of the write position leads to the completion queue where nothing waits, and
+    -- else on to the cell
+    loads_write : x.steps ≤ 4 * length (handed_out wrote) + 1 → StageKeepsAt load_of_write
     loads_write few = go (s.submission.write == s.submission.read) refl
       where
+        -- the word of the write position is one of the queue's
         on : 0 < length queued
         on = let all = wide in omega arith
 
         -- the cases are whether the submission queue is empty
-        go : (same : Bool) → (s.submission.write == s.submission.read) ≡ same → Does_at load_of_write
+        go : (same : Bool) → (s.submission.write == s.submission.read) ≡ same → StageKeepsAt load_of_write
         go true e =
             let same : s.submission.write ≡ s.submission.read = grind (arith, nat_tests) in
-            let write = h.parts.submission.write in
+            let write = holds.parts.submission.write in
             let empty : s.submission.waiting ≡ [] = nil_from_length s.submission.waiting (omega arith) in
             let none : length (taken_back wrote) ≡ 0 = ap length none_taken in
-            let within = h.parts.completion.few in
+            let within = holds.parts.completion.few in
             loads load_of_write (reclaims.Empties ring_pops.LoadsRead) on refl refl
             (tt, (omega arith), none_freed, empty) (omega arith) refl
             (ap (then_of load_of_write) (old_is load_of_write on) ∙ (rw e refl)) refl
         go false e =
             let other : s.submission.write ≢ s.submission.read = grind (arith, nat_tests) in
-            let write = h.parts.submission.write in
+            let write = holds.parts.submission.write in
             loads load_of_write (drains load_of_cell) on refl refl ((refl, omega arith), most, none_taken, none_freed) (omega arith) refl
             (ap (then_of load_of_write) (old_is load_of_write on) ∙ (rw e refl)) refl
 
-    loads_cell : s.submission.read < s.submission.write → x.steps ≤ 4 * length (handed_out wrote) + 2 → Does_at load_of_cell
+    -- the load of the cell leads on to the move of the read position
+    loads_cell : s.submission.read < s.submission.write → x.steps ≤ 4 * length (handed_out wrote) + 2 → StageKeepsAt load_of_cell
     loads_cell ahead few =
-        let cell_within = submission.cell_on queue h.parts.some h.parts.few s.submission h.parts.submission low_write s.submission.read in
+        let cell_within = submission.cell_on queue holds.parts.some holds.parts.few s.submission holds.parts.submission low_write s.submission.read in
         loads load_of_cell (drains moves) cell_within (set-get_or queued (cell_word queue s.submission.read) 0) refl
         ((refl, ahead), most, none_taken, none_freed) (omega arith) refl refl refl
 
     -- ---- the oldest one leaves the queue
 
+    -- the oldest index `u` leaves the submission queue
     module _ (u : ℕ) (rest : List ℕ) (first : s.submission.waiting ≡ u ∷ rest) where
+      -- the event that the index is handed to the sender
       abbrev hands : Event T
       hands = HandedOut 0 (Index u)
 
+      -- the submission queue once `u` is taken
       abbrev k : Core ℕ
       k = taken 1 words_of_index (queue + 1) s.submission rest
 
+      -- the word of the read position is one of the queue's
       on_moves : 1 < length queued
       on_moves = let all = wide in omega arith
 
+      -- the index is one of the channel
       below : u < slots
-      below = sent_below slots s.claims s.submission.waiting s.completion.waiting s.book s.events h.parts.placed u rest first
+      below = sent_below slots s.claims s.submission.waiting s.completion.waiting s.book s.events holds.parts.placed u rest first
 
+      -- the index at the front of the submission queue waited
       was_waiting : spot_of u s.events ≡ Waiting
       was_waiting = grind (arith, waits_there, first_there)
 
-      -- the reclaim pops the queue as it hands the index out
+      -- the event tells of the submission queue that `u` went out of it
       tells_out : Tells queue true s.submission.waiting rest s.completion.waiting s.completion.waiting (hands ∷ [])
       tells_out = grind (arith, pop_front, append-nil, items)
 
-      -- the move past the oldest index hands that index out to the reclaim, which goes on with a
-      -- pop from its first stage
+      -- the exchange of the read position hands the oldest index out to the reclaim, which
+      -- begins its next pop
       leads : x.steps ≤ 4 * length (handed_out wrote) + 3
-          → steps.Leads scene wrote under r idle (drains moves) k s.completion (hands ∷ []) (drains pops.LoadsRead)
+          → steps.StepGoesOn scene wrote under r idle (drains moves) k s.completion (hands ∷ []) (drains pops.LoadsRead)
       leads few =
           let change : change_of (words_in s) (asks moves) ≡ 1 =
-          submission_change slots queue s (counted_for (sends_at latest)) h.parts (pop_asks queue moves) on_moves
-          ∙ submission.take_changes queue h.parts.some h.parts.few s.submission h.parts.submission low_write u rest first
+          submission_change slots queue s (counted_for (sends_at latest)) holds.parts (pop_asks queue moves) on_moves
+          ∙ submission.take_changes queue holds.parts.some holds.parts.few s.submission holds.parts.submission low_write u rest first
           in
           let shorter : length s.submission.waiting ≡ suc (length rest) = ap length first in
           let handed : length (handed_out (wrote ++ hands ∷ [])) ≡ length (handed_out wrote) + 1 =
@@ -174,31 +202,32 @@ module _ {T : Type 0} (scene : Scene T) (wrote : List (Event T)) (small : scene.
           in
           let words =
           words_are moves k on_moves
-          (submission.take_words queue h.parts.some h.parts.few s.submission h.parts.submission low_write u rest first) in
-          let good = submission.take_good queue h.parts.some h.parts.few s.submission h.parts.submission low_write u rest first in
-          let placed = hands_it_out slots s.claims s.submission.waiting s.completion.waiting s.book s.events h.parts.placed u below 0 rest first (inl refl) in
-          let passing = passing_before slots queue s wrote under known h.parts.placed.keeps hands u Waiting refl was_waiting waiting_away in
-          let sent = passing_sent slots queue s wrote under known h.parts.placed.keeps hands u Waiting refl was_waiting waiting_away in
+          (submission.take_words queue holds.parts.some holds.parts.few s.submission holds.parts.submission low_write u rest first) in
+          let good = submission.take_good queue holds.parts.some holds.parts.few s.submission holds.parts.submission low_write u rest first in
+          let placed =
+          hands_it_out slots s.claims s.submission.waiting s.completion.waiting s.book s.events holds.parts.placed u below 0 rest first (inl refl) in
+          let passing = passing_before slots queue s wrote under known holds.parts.placed.keeps hands u Waiting refl was_waiting waiting_away in
+          let sent = passing_sent slots queue s wrote under known holds.parts.placed.keeps hands u Waiting refl was_waiting waiting_away in
           let receiver = fold-append receiver_after 1 s.events (hands ∷ []) in
           let taken_none = none_more takes_back wrote (hands ∷ []) none_taken refl in
           let freed_none = none_more frees wrote (hands ∷ []) none_freed refl in
           grind (arith, tells_out, below, was_waiting)
 
-    -- nobody else moves the read position, so its exchange succeeds
-    moves_read : s.submission.read < s.submission.write → x.steps ≤ 4 * length (handed_out wrote) + 3 → Does_at moves
+    -- no other party moves the read position meanwhile, so the exchange succeeds and keeps the invariant
+    moves_read : s.submission.read < s.submission.write → x.steps ≤ 4 * length (handed_out wrote) + 3 → StageKeepsAt moves
     moves_read ahead few =
-        let write = h.parts.submission.write in
+        let write = holds.parts.submission.write in
         let some : 0 < length s.submission.waiting = omega arith in
-        let front = oldest queue s.submission h.parts.submission some in
+        let front = oldest queue s.submission holds.parts.submission some in
         let u = get_or s.submission.cells (s.submission.read % (queue + 1)) 0 in
         let on_queue : 1 < length queued = (let all = wide in omega arith) in
         let is_same : (s.submission.read == s.submission.read) ≡ true = grind (arith, nat_tests) in
         let found : value moves ≡ s.submission.read = old_is moves on_queue in
         let place : sent_at (submission_word slots) queue (words_in s) s.submission.read ≡ u =
-        submission_old slots queue s (counted_for (sends_at latest)) h.parts
+        submission_old slots queue s (counted_for (sends_at latest)) holds.parts
         (load (cell_word queue s.submission.read))
-        (submission.cell_on queue h.parts.some h.parts.few s.submission h.parts.submission low_write s.submission.read)
-        ∙ submission.cell_is queue h.parts.some h.parts.few s.submission h.parts.submission low_write s.submission.read
+        (submission.cell_on queue holds.parts.some holds.parts.few s.submission holds.parts.submission low_write s.submission.read)
+        ∙ submission.cell_is queue holds.parts.some holds.parts.few s.submission holds.parts.submission low_write s.submission.read
         in
         let is_after : then_of moves (value moves) ≡ GoOn (reclaim_at slots queue (drains pops.LoadsRead)) =
         ap (then_of moves) found ∙ (rw is_same refl) in
@@ -210,16 +239,16 @@ module _ {T : Type 0} (scene : Scene T) (wrote : List (Event T)) (small : scene.
           channel_then = s_out;
           stays = ap (λ v. not (v == s.submission.read)) found ∙ ap not is_same;
           step =
-              subst (λ a. To s_out moves a (effect_of moves (value moves))) (sym is_after)
-              (subst (λ e. To s_out moves (GoOn (reclaim_at slots queue (drains pops.LoadsRead))) e) (sym is_effect) (
+              rw (is_after, is_effect) (
                 steps.leads_on scene wrote under r idle (drains moves) (k u front.0 front.1) s.completion (hands u front.0 front.1 ∷ [])
                     (drains pops.LoadsRead) (leads u front.0 front.1 few),
                 refl,
-              ));
+              );
         }
 
   -- ---- each of its stages
 
+  -- each step of a reclaim that pops the submission queue keeps the invariant
   pub drains_does : (stage : PopStage) → StageAt slots s.submission s.completion s.book.places wrote (drains stage)
-      → x.steps ≤ reclaim_number slots wrote (drains stage) → Does_at stage
+      → x.steps ≤ reclaim_number slots wrote (drains stage) → StageKeepsAt stage
   drains_does = grind (arith, loads_read, loads_write, loads_cell, moves_read)

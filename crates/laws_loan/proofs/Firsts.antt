@@ -1,4 +1,5 @@
--- What the first stage of each call of a loan channel knows, where no row refuses its begin.
+-- The first stage of each call of a loan channel has the fields of `IsFirst` (Begins), where no
+-- row refuses the begin.
 use Rattle.laws_loan.proofs.Names.{MovesRight, ◌≡◌, ◌≢◌, ℕ, ◌<◌, ◌≤◌, ◌⊎◌, ◌==◌, inl, inr, ⊎_elim, nat_le, true}
 use Rattle.laws_loan.proofs.Names.{false, not, Option, Some, None, List, [], ◌∷◌, ◌++◌, get_or, refl, sym, ap, subst}
 use Rattle.laws_loan.proofs.Names.{◌∙◌, cases_eq, nat_tests, submission_word, Event, Begun, LoanStart, LoanFlight}
@@ -27,23 +28,27 @@ use Rattle.laws_loan.proofs.Still.{placed_still}
 use Rattle.laws_loan.proofs.Table.{sender_begins, receiver_begins}
 use Rattle.laws_loan.proofs.QueueEvents.{is_reclaiming}
 
--- ---- what rows tell that do not apply
+-- ---- what the tests of a begin say that do not refuse it
 
+-- numbers that the code does not find different are equal
 pub is_that : (a b : ℕ) → not (a == b) ≡ false → a ≡ b
 is_that = grind arith
 
+-- an index that the code does not find at or above `slots` is below
 pub is_below : (slots index : ℕ) → nat_le slots index ≡ false → index < slots
 is_below = grind (arith, nat_tests)
 
 module _ {T : Type 0} (code : Coding T) (slots queue : ℕ) (s : Channel T) (latest : List (ℕ × Party T))
-    (turns changes : ℕ) (h : HoldsNow slots queue s latest s.events turns) where
+    (turns changes : ℕ) (holds_now : HoldsNow slots queue s latest s.events turns) where
+  -- what a begin has to show of the first stage of its call
   abbrev First : ℕ → LoanStart → LoanFlight → Type 0
   First p start flight = IsFirst code slots queue s latest turns changes p start flight
 
-  -- the party has the index by its row
+  -- a party has the index for which its begin was not refused
   pub has_it : (p index : ℕ) → not (holds (get_or s.book.holders index None) p) ≡ false → spot_of index s.events ≡ With p
   has_it = grind arith
 
+  -- the receiver of the book is not the sender, and is the one by the events
   pub receiver_is : (p : ℕ) → p ≡ s.book.receiver → (p ≢ 0) × (p ≡ receiver_of s.events)
   receiver_is = grind arith
 
@@ -51,16 +56,17 @@ module _ {T : Type 0} (code : Coding T) (slots queue : ℕ) (s : Channel T) (lat
     abbrev begun : Event T
     begun = Begun p (starts.Loan start)
 
-    -- the channel then, where it asks for this index
+    -- the channel once the call has begun, which asks for this index, if any
     abbrev began : Option ℕ → Channel T
     began o = record s { book = taken_from s.book o; events = s.events ++ begun ∷ [] }
 
-    -- a call that asks for no index moves none
+    -- the begin asks for no index, so it moves none
     module _ (none : move_of {T = T} begun ≡ None) where
+      -- the begin leaves each index where it was
       stays_put : (index : ℕ) → spot_of index (s.events ++ begun ∷ []) ≡ spot_of index s.events
       stays_put index = spot_stays s.events begun index none
 
-      -- so much of its begin is the same for each of them
+      -- a call that asks for no index has the fields of `IsFirst`, where its own part of it holds
       asks_none : (flight : LoanFlight) → asks_for start ≡ None → counts flight ≡ 0
           → hung {T = T} s.submission.read (Some (flights.Loan flight)) ≡ None → BeginsRight s.events begun
           → reclaims_after (is_reclaiming s.events) begun ≡ reclaims_in (span_of 0 (s.events ++ begun ∷ []))
@@ -69,29 +75,33 @@ module _ {T : Type 0} (code : Coding T) (slots queue : ℕ) (s : Channel T) (lat
       asks_none flight asks light calm begins reclaiming at knows =
           let placed =
           placed_still slots s.claims s.submission.waiting s.completion.waiting s.book s.events (begun ∷ [])
-          (record { moves = none; receiver = λ r. refl; dead = λ q b. refl }, tt) h.parts.placed in
+          (record { moves = none; receiver = λ r. refl; dead = λ q b. refl }, tt) holds_now.parts.placed in
           grind (arith, stays_put)
 
-    -- one that asks for an index moves it from its party
-    module _ (index : ℕ) (is : move_of {T = T} begun ≡ Some (record { index = index; from = With p; to = Passing p }))
+    -- the begin asks for the index, and moves it from its party into passing
+    module _ (index : ℕ) (move_is : move_of {T = T} begun ≡ Some (record { index = index; from = With p; to = Passing p }))
         (has : spot_of index s.events ≡ With p) where
+      -- the begin moves the index alone, from the party into passing in its call
       one_move : OneMove p index s.events (begun ∷ []) (With p) (Passing p)
       one_move = grind arith
 
+      -- after the begin the index is in passing in the party's call
       now_passes : spot_of index (s.events ++ begun ∷ []) ≡ Passing p
       now_passes = now_there p index s.events (begun ∷ []) (With p) (Passing p) one_move
 
+      -- an index in passing before the begin is so after it
       moves_it : (i q : ℕ) → spot_of i s.events ≡ Passing q → spot_of i (s.events ++ begun ∷ []) ≡ Passing q
       moves_it i q = passes_on p index s.events (begun ∷ []) (With p) (Passing p) one_move q (with_passes p q) i
 
+      -- an index in passing after the begin was so before, or is the one that the begin takes
       moved_or_not : (i q : ℕ) → spot_of i (s.events ++ begun ∷ []) ≡ Passing q → (spot_of i s.events ≡ Passing q) ⊎ ((q ≡ p) × (i ≡ index))
-      moved_or_not i q e =
-          ⊎_elim (λ (same : index ≡ i). inr (passing_same q p (sym e ∙ (ap (λ n. spot_of n (s.events ++ begun ∷ [])) (sym same) ∙ now_passes)), sym same))
-          (λ (ne : index ≢ i). inl (sym (elsewhere p index s.events (begun ∷ []) (With p) (Passing p) one_move i ne) ∙ e))
+      moved_or_not i q spot_is =
+          ⊎_elim (λ (same : index ≡ i). inr (passing_same q p (sym spot_is ∙ (ap (λ n. spot_of n (s.events ++ begun ∷ [])) (sym same) ∙ now_passes)), sym same))
+          (λ (ne : index ≢ i). inl (sym (elsewhere p index s.events (begun ∷ []) (With p) (Passing p) one_move i ne) ∙ spot_is))
           (cases_eq index i)
 
-      -- a call that asks for an index which its party has is right at first, where what is asked
-      -- of the begin holds and its first stage is right once the index is in passing
+      -- a call that asks for an index has the fields of `IsFirst`, where its party has the index and its
+      -- own part of it holds
       asks_one : (flight : LoanFlight) → asks_for start ≡ Some index → counts flight ≡ 0
           → hung {T = T} s.submission.read (Some (flights.Loan flight)) ≡ None → BeginsRight s.events begun
           → reclaims_after (is_reclaiming s.events) begun ≡ reclaims_in (span_of 0 (s.events ++ begun ∷ []))
@@ -100,7 +110,7 @@ module _ {T : Type 0} (code : Coding T) (slots queue : ℕ) (s : Channel T) (lat
           → At slots queue (began (Some index)) p [] start flight → FlightKnows slots queue (began (Some index)) changes changes 0 flight
           → First p start flight
       asks_one flight asks light calm begins reclaiming below carries placed at knows =
-          let right : MovesRight slots s.events begun = subst (λ m. ComesFrom slots m s.events) (sym is) (below, has) in
+          let right : MovesRight slots s.events begun = subst (λ m. ComesFrom slots m s.events) (sym move_is) (below, has) in
           let passing : (i q : ℕ) → spot_of i (s.events ++ begun ∷ []) ≡ Passing q
           → (spot_of i s.events ≡ Passing q) ⊎ ((q ≡ p) × Carries {T = T} i (Open (starts.Loan start) [])) =
           λ i q e. ⊎_elim (λ old. inl old)
@@ -108,31 +118,37 @@ module _ {T : Type 0} (code : Coding T) (slots queue : ℕ) (s : Channel T) (lat
           (moved_or_not i q e) in
           grind (arith, moves_it)
 
-  -- ---- the sender's calls, beside which no reclaim is under way
+  -- ---- calls of the sender, while no reclaim is under way
 
   module _ (idle : reclaims_in (span_of 0 s.events) ≡ false) where
+    -- no reclaim is under way
     quiet : is_reclaiming s.events ≡ false
-    quiet = h.reclaiming ∙ idle
+    quiet = holds_now.reclaiming ∙ idle
 
+    -- where no reclaim is under way, none is after the begin of a call that is no reclaim
     not_reclaiming : (start : LoanStart) → reclaims_in {T = T} (Open (starts.Loan start) []) ≡ false
         → is_reclaiming s.events ≡ reclaims_in (span_of 0 (s.events ++ Begun 0 (starts.Loan start) ∷ []))
     not_reclaiming = grind (arith, quiet, span_of-own)
 
+    -- a loan has the fields of `IsFirst`
     pub loan_first : First 0 calls.Loan (loan_of slots)
     loan_first = asks_none 0 calls.Loan refl (loan_of slots) refl refl refl refl (not_reclaiming calls.Loan refl) (refl, refl, refl, tt) refl
 
+    -- a take-back has the fields of `IsFirst`
     pub take_back_first : First 0 calls.TakeBack (take_back_of slots queue)
     take_back_first =
         asks_none 0 calls.TakeBack refl (take_back_of slots queue) refl refl refl refl (not_reclaiming calls.TakeBack refl)
         (refl, refl, refl, refl, omega arith) refl
 
     module _ (index : ℕ) (below : index < slots) (has : spot_of index s.events ≡ With 0) where
+      -- each index is where the book and the events say, once the sender's index is in passing
       placed_then : (start : LoanStart) → move_of {T = T} (Begun 0 (starts.Loan start)) ≡ Some (record { index = index; from = With 0; to = Passing 0 })
           → Placed slots s.claims s.submission.waiting s.completion.waiting (taken_from s.book (Some index))
           (s.events ++ Begun 0 (starts.Loan start) ∷ [])
-      placed_then start is =
-          sender_begins slots s.claims s.submission.waiting s.completion.waiting s.book s.events h.parts.placed index below start is has
+      placed_then start move_is =
+          sender_begins slots s.claims s.submission.waiting s.completion.waiting s.book s.events holds_now.parts.placed index below start move_is has
 
+      -- a give-up has the fields of `IsFirst`
       pub give_up_first : First 0 (calls.GiveUp index) (give_up_of slots index)
       give_up_first =
           asks_one 0 (calls.GiveUp index) index refl has (give_up_of slots index) refl refl refl refl
@@ -148,19 +164,21 @@ module _ {T : Type 0} (code : Coding T) (slots queue : ℕ) (s : Channel T) (lat
             room = tt;
           })
 
+      -- a send has the fields of `IsFirst`
       pub send_first : 1 ≤ queue → First 0 (calls.Send index) send_at
       send_first some =
           asks_one 0 (calls.Send index) index refl has send_at refl refl refl refl
           (not_reclaiming (calls.Send index) refl) below (inl (refl, refl)) (placed_then (calls.Send index) refl)
           (refl, refl, refl, refl, refl, (some, (below, now_passes 0 (calls.Send index) index refl has))) refl
 
+    -- the reclaim at its first stage
     abbrev pub reclaim_at : LoanFlight
     reclaim_at = Reclaim (record { slots = slots; queue = queue; stage = reclaims.Drains overflow_pops.LoadsRead })
 
-    -- a reclaim is right at first, where the receiver has died and no call of the sender is under way
+    -- a reclaim has the fields of `IsFirst`, where the receiver has died and the sender has no call under way
     pub reclaim_first : IsShut (span_of 0 s.events) → has_died s.book.receiver s.book.dead ≡ true → First 0 calls.Reclaim reclaim_at
     reclaim_first shut dead =
-        let few = waits_few slots s.claims s.submission.waiting s.completion.waiting s.book s.events h.parts.placed in
+        let few = waits_few slots s.claims s.submission.waiting s.completion.waiting s.book s.events holds_now.parts.placed in
         asks_none 0 calls.Reclaim refl reclaim_at refl refl refl refl
         (sym (ap reclaims_in (span_of-own 0 s.events (Begun 0 (starts.Loan calls.Reclaim) ∷ []) (refl, tt)))) (
           refl,
@@ -170,7 +188,7 @@ module _ {T : Type 0} (code : Coding T) (slots queue : ℕ) (s : Channel T) (lat
             dead = dead;
             sent =
                 λ index e. absurd
-                (shut_none index (span_of 0 s.events) shut (h.passing index 0 (sym (stays_put 0 calls.Reclaim refl index) ∙ e)));
+                (shut_none index (span_of 0 s.events) shut (holds_now.passing index 0 (sym (stays_put 0 calls.Reclaim refl index) ∙ e)));
             claims = refl;
             publishes = refl;
             gives = refl;
@@ -180,14 +198,17 @@ module _ {T : Type 0} (code : Coding T) (slots queue : ℕ) (s : Channel T) (lat
         )
         refl
 
-  -- ---- the receiver's calls
+  -- ---- calls of the receiver
 
-  module _ (p : ℕ) (is : p ≡ s.book.receiver) where
+  module _ (p : ℕ) (is_receiver : p ≡ s.book.receiver) where
+    -- the receiver is not the sender
     other : p ≢ 0
-    other = (receiver_is p is).0
+    other = (receiver_is p is_receiver).0
 
+    -- whether a reclaim is under way is as before the begin
     as_before : (start : LoanStart) → is_reclaiming s.events ≡ reclaims_in (span_of 0 (s.events ++ Begun p (starts.Loan start) ∷ []))
-    as_before start = h.reclaiming ∙ sym (ap reclaims_in (span_of-other p 0 s.events (Begun p (starts.Loan start) ∷ []) (λ z. other (sym z)) (refl, tt)))
+    as_before start =
+        holds_now.reclaiming ∙ sym (ap reclaims_in (span_of-other p 0 s.events (Begun p (starts.Loan start) ∷ []) (λ z. other (sym z)) (refl, tt)))
 
     -- a receive at its first stage
     abbrev pub receive_at : LoanFlight
@@ -199,18 +220,19 @@ module _ {T : Type 0} (code : Coding T) (slots queue : ℕ) (s : Channel T) (lat
           room = fresh;
         })
 
+    -- a receive has the fields of `IsFirst`
     pub receive_first : 1 ≤ queue → First p calls.Receive receive_at
     receive_first some =
-        asks_none p calls.Receive refl receive_at refl refl refl (receiver_is p is).1 (as_before calls.Receive)
-        (other, refl, refl, refl, refl, λ alive. (is, some)) (omega arith)
+        asks_none p calls.Receive refl receive_at refl refl refl (receiver_is p is_receiver).1 (as_before calls.Receive)
+        (other, refl, refl, refl, refl, λ alive. (is_receiver, some)) (omega arith)
 
-    -- a give-back is right at first, of an index below the slots that the receiver has
+    -- a give-back has the fields of `IsFirst`, of an index of the channel that the receiver has
     pub give_back_first : (index : ℕ) → index < slots → spot_of index s.events ≡ With p → First p (calls.GiveBack index) (give_back_of slots queue p index)
     give_back_first index below has =
-        asks_one p (calls.GiveBack index) index refl has (give_back_of slots queue p index) refl refl refl (receiver_is p is).1
+        asks_one p (calls.GiveBack index) index refl has (give_back_of slots queue p index) refl refl refl (receiver_is p is_receiver).1
         (as_before (calls.GiveBack index)) below (refl, refl)
-        (receiver_begins slots s.claims s.submission.waiting s.completion.waiting s.book s.events h.parts.placed index below p
-        other (receiver_is p is).1 has) (
+        (receiver_begins slots s.claims s.submission.waiting s.completion.waiting s.book s.events holds_now.parts.placed index below p
+        other (receiver_is p is_receiver).1 has) (
           other,
           refl,
           refl,
@@ -218,5 +240,5 @@ module _ {T : Type 0} (code : Coding T) (slots queue : ℕ) (s : Channel T) (lat
           refl,
           refl,
           omega arith,
-          λ alive. (is, (below, now_passes p (calls.GiveBack index) index refl has), tt),
+          λ alive. (is_receiver, (below, now_passes p (calls.GiveBack index) index refl has), tt),
         ) refl

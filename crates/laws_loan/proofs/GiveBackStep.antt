@@ -1,4 +1,4 @@
--- A give-back's steps, at whatever stage it stands, as steps of the machine.
+-- Each step of a give-back, at any stage, leaves a machine with the invariant.
 use Rattle.laws_loan.proofs.Names.{◌≡◌, ℕ, false, sym, ap, subst, ◌∙◌, Part, Push, Running}
 use Rattle.laws_loan.proofs.Names.{completion_word, Flight, GiveBack, has_died}
 use Rattle.model.specs.declared.event.Start.TheVariants as starts
@@ -11,7 +11,7 @@ use Rattle.laws_loan.proofs.Senders.{Stands, Comes, give_back_pushes}
 module _ {T : Type 0} (m : Underway T) (p index : ℕ) (alive : has_died p m.sound.state.book.dead ≡ false) where
   open m use {slots, queue}
 
-  -- a give-back of a party that lives
+  -- the step of a give-back of a living party leaves a machine with the invariant
   pub give_back_comes : (by : ℕ) (run : Running (Part (Push ℕ)) ℕ (Unit {0}))
       → Stands m p (starts.Loan (calls.GiveBack index)) (flights.Loan (GiveBack by run))
       → Comes m p (starts.Loan (calls.GiveBack index)) (flights.Loan (GiveBack by run))

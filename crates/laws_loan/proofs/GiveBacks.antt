@@ -1,4 +1,5 @@
--- The steps of a give-back: the receiver pushes its index into the completion queue, where there is room for each one.
+-- The steps of a give-back: the receiver pushes its index into the completion queue, which has room for
+-- every index. Each keeps the invariant: it has the fields of `Steps` (Sender).
 use Rattle.laws_loan.proofs.Names.{◌≡◌, ℕ, ◌+◌, ◌-◌, ◌^◌, ◌<◌, ◌≤◌, Bool, true, false, Option, List, [], ◌∷◌}
 use Rattle.laws_loan.proofs.Names.{◌++◌, length, refl, sym, ap, subst, ◌∙◌, append-nil, append_assoc, Ask, Want}
 use Rattle.laws_loan.proofs.Names.{After, GoOn, Push, completion_word, shifted, part_after, went_on, Answer, Event}
@@ -38,87 +39,105 @@ use Rattle.laws_loan.proofs.QueueEvents.{silent_tells}
 use Rattle.laws_loan.proofs.QueueEvents.{is_reclaiming}
 use Rattle.laws_loan.proofs.Turns.{Shows, sends_still}
 
+-- the push of a give-back at a stage
 abbrev pub push_on : ℕ → PushStage → Push ℕ
 push_on slots stage = record { capacity = slots; stage = stage; of = record {} }
 
+-- the give-back at a stage of its push
 abbrev pub give_at : ℕ → ℕ → ℕ → ℕ → PushStage → LoanFlight
 give_at slots queue p index stage =
     GiveBack p (record { call = record { base = completion_word slots queue; call = push_on slots stage }; given = index; room = tt })
 
--- how a give-back goes on whose push goes on so
+-- how the give-back goes on, or ends, where `push` is how its push has gone on or ended
 abbrev pub given_after : (T : Type 0) → ℕ → ℕ → ℕ → ℕ → After (Push ℕ) Bool → After LoanFlight (Answer T)
 given_after T slots queue p index push =
     as_call (λ r. GiveBack p r) answers.Truth (went_on as_it_is index tt (part_after (completion_word slots queue) push))
 
+-- the receiver `p` gives the index back
 module _ {T : Type 0} (scene : Scene T) (p index : ℕ) where
   open scene use {slots, queue, state as s, latest, turns, caller as x}
 
   abbrev start : Start T
   start = starts.Loan (calls.GiveBack index)
 
+  -- the span of the give-back before the step, with nothing written
   abbrev spanned : Span T
   spanned = Open start []
 
+  -- what the push wants at this stage
   abbrev want : PushStage → Want (Unit {0})
   want stage = push_asks words_of_index stage index
 
+  -- the operation that the give-back asks for at this stage
   abbrev pub asked : PushStage → Option Ask
   asked stage = ask_of (shifted (completion_word slots queue) (want stage))
 
+  -- the old value of the word that it asks for
   abbrev old : PushStage → ℕ
   old stage = old_of (words_in s) (asked stage)
 
+  -- the words of the completion queue
   abbrev queued : List ℕ
   queued = layout no_roles s.completion
 
+  -- how the give-back goes on from this stage, or ends
   abbrev pub after_of : PushStage → After LoanFlight (Answer T)
   after_of stage = given_after T slots queue p index (push_takes 1 (push_on slots stage) stage (old stage))
 
-  -- what a step of the give-back shows, where it leaves the completion queue so
+  -- a step at this stage that leaves the completion queue `k` keeps the invariant
   abbrev StepTo : Core ℕ → PushStage → After LoanFlight (Answer T) → Effect → Type 0
   StepTo k stage after effect =
       GivesBy scene p k spanned (calls.GiveBack index) (asked stage) false after effect
 
-  -- what a step of a give-back that stands here comes to
-  pub record Does (stage : PushStage) : Type 0 where
+  -- the step of the give-back at this stage keeps the invariant, with some completion queue
+  pub record StageKeeps (stage : PushStage) : Type 0 where
     pub queue_then : Core ℕ
     pub step : StepTo queue_then stage (after_of stage) (give_back_effect index stage)
 
+  -- the receiver is alive and the index is in passing in its give-back
   module _ (r : ReceiverCalls scene p (calls.GiveBack index)) (passes : Passes slots queue s p index) (straight : x.backs ≡ 0) where
-    open r use {holds as h, other, alive, receives, from}
+    open r use {holds, other, alive, receives, from}
 
-    -- ---- what is so of the queue
+    -- ---- the words of the completion queue
 
+    -- the channel has at least one index
     some : 1 ≤ slots
     some = let below = passes.0 in omega arith
 
+    -- the channel has fewer than 2 ^ 24 indices
     few : slots < 2 ^ 24
-    few = let low = h.parts.set.few in omega arith
+    few = let low = holds.parts.set.few in omega arith
 
+    -- the completion queue's write position is below its last value
     reached : s.completion.write < 2 ^ 64 - 2
-    reached = let given = h.given in omega arith
+    reached = let given = holds.given in omega arith
 
+    -- there is room, as the index itself waits in no queue
     room : length s.completion.waiting < slots
-    room = returns_room slots s.claims s.submission.waiting s.completion.waiting s.book s.events h.parts.placed index p passes.0 passes.1
+    room = returns_room slots s.claims s.submission.waiting s.completion.waiting s.book s.events holds.parts.placed index p passes.0 passes.1
 
+    -- the completion queue has four words and one for each index
     long : length queued ≡ 4 + slots
-    long = completion_long slots queue s (counted_for (sends_at latest)) h.parts
+    long = completion_long slots queue s (counted_for (sends_at latest)) holds.parts
 
+    -- what an operation of the push finds in the whole it finds in the queue
     old_is : (stage : PushStage) → IsOn queued (want stage) → old stage ≡ old_of queued (ask_of (want stage))
-    old_is stage on = completion_old slots queue s (counted_for (sends_at latest)) h.parts (want stage) on
+    old_is stage on = completion_old slots queue s (counted_for (sends_at latest)) holds.parts (want stage) on
 
-    -- an operation on the completion queue changes that part of the words alone, to those of the queue as it is then
+    -- an operation on the completion queue changes that part of the words alone, to those of
+    -- the queue as it is then
     words_are : (stage : PushStage) (k : Core ℕ) → IsOn queued (want stage)
         → words_after queued (ask_of (want stage)) ≡ layout no_roles k
         → words_after (words_in s) (asked stage) ≡ s.set ++ (layout no_roles s.submission ++ layout no_roles k)
-    words_are stage k on is =
-        completion_words slots queue s (counted_for (sends_at latest)) h.parts (want stage) on
-        ∙ ap (λ ws. s.set ++ (layout no_roles s.submission ++ ws)) is
+    words_are stage k on layout_is =
+        completion_words slots queue s (counted_for (sends_at latest)) holds.parts (want stage) on
+        ∙ ap (λ ws. s.set ++ (layout no_roles s.submission ++ ws)) layout_is
 
+    -- each step of the push counts as one
     one_step : (stage : PushStage) → step_count (asked stage) ≡ 1
     one_step = grind arith
 
-    -- ---- it goes on
+    -- ---- the give-back goes on
 
     module _ (stage stage' : PushStage) (k : Core ℕ) (waits : k.waiting ≡ s.completion.waiting)
         (write : k.write ≡ s.completion.write) (good : Good 1 words_of_index slots k) (on : IsOn queued (want stage))
@@ -126,8 +145,8 @@ module _ {T : Type 0} (scene : Scene T) (p index : ℕ) where
         (known : KnowsPush one_word slots k index stage') (steps : x.steps + 1 ≤ push_number 1 stage') (low : push_number 1 stage' ≤ 3)
         (pops : (room : List ℕ) (stage : PopStage) → KnowsPop one_word slots s.completion room stage
         → KnowsPop one_word slots k room stage) where
-      -- a step of the push that goes on, and leaves what waits, leaves the give-back at the push's
-      -- next stage, and writes nothing
+      -- a step of the push that goes on, and leaves what waits, leads the give-back to the push's next
+      -- stage and writes nothing
       goes_on : StepTo k stage (GoOn (give_at slots queue p index stage')) effects.Quiet
       goes_on =
           let one = one_step stage in (
@@ -139,47 +158,57 @@ module _ {T : Type 0} (scene : Scene T) (p index : ℕ) where
             refl,
           )
 
-    -- ---- it ends: the index waits in the completion queue
+    -- ---- the give-back ends: its index waits in the completion queue
 
+    -- the event that the receiver has given the index back
     abbrev returned : Event T
     returned = Returned p index
 
     abbrev ends : Event T
     ends = Finished p start (answers.Truth true)
 
+    -- the events of the last step: the index is given back, and the call ends
     abbrev told : List (Event T)
     told = returned ∷ ends ∷ []
 
+    -- the stage of the last step, the store of the next write position
     abbrev last : PushStage
     last = pushes.StoresWrite s.completion.write
 
+    -- the receiver after the give-back
     abbrev y_end : Party T
     y_end = party_then scene (calls.GiveBack index) (asked last) false (Done (answers.Truth true))
 
+    -- the completion queue once the index waits in it
     abbrev full : Core ℕ
     full = published 1 words_of_index slots s.completion index
 
+    -- the events one after the other are all that the step writes
     whole : (s.events ++ returned ∷ []) ++ ends ∷ [] ≡ s.events ++ told
     whole = append_assoc s.events (returned ∷ []) (ends ∷ [])
 
+    -- the events move the index alone, from passing into the completion queue
     one_move : OneMove p index s.events told (Passing p) Returning
     one_move = let was = passes.1 in grind arith
 
+    -- the give-back leaves the span of the sender
     senders_span : span_of 0 (s.events ++ told) ≡ span_of 0 s.events
     senders_span = span_of-other p 0 s.events told (λ e. other (sym e)) (refl, (refl, tt))
 
-    -- where each index is agrees with the claims, the queues and the book once the index waits in the completion queue
+    -- where each index is agrees with the claims, the queues and the book, once the index waits in the
+    -- completion queue
     placed_end : Placed slots s.claims s.submission.waiting full.waiting s.book (s.events ++ told)
     placed_end =
         let placed =
-        returns_it slots s.claims s.submission.waiting s.completion.waiting s.book s.events h.parts.placed index
-        passes.0 p other (receives ∙ h.parts.placed.keeps.receiver) passes.1 in
+        returns_it slots s.claims s.submission.waiting s.completion.waiting s.book s.events holds.parts.placed index
+        passes.0 p other (receives ∙ holds.parts.placed.keeps.receiver) passes.1 in
         subst (Placed slots s.claims s.submission.waiting full.waiting s.book) whole
         (placed_still slots s.claims s.submission.waiting full.waiting s.book (s.events ++ returned ∷ []) (ends ∷ [])
         (record { moves = refl; receiver = λ r. refl; dead = λ q b. refl }, tt) placed)
 
     module _ (good : Good 1 words_of_index slots full) where
-      -- the last step shows what a turn has to: the index is returned, and the give-back ends
+      -- the store of the next write position keeps what holds between two turns: the index is returned, and
+      -- the give-back ends
       shows_end : Shows slots queue s (given_then slots queue s full (s.events ++ told) p) p y_end latest turns told
       shows_end =
           let below = passes.0 in
@@ -187,16 +216,16 @@ module _ {T : Type 0} (scene : Scene T) (p index : ℕ) where
           let tells = silent_tells queue (is_reclaiming s.events) s.submission.waiting s.completion.waiting full.waiting told refl refl refl refl in
           let still = sends_still latest y_end p other in
           let passing =
-          carried p index s.events told (Passing p) Returning one_move spanned from h.passing
+          carried p index s.events told (Passing p) Returning one_move spanned from holds.passing
           (λ i ne held. absurd (ne (sym held.0))) (λ q e. absurd (returning_passes q e)) in
           grind (arith, same_receiver, one_move, placed_end, senders_span)
 
-      -- the store of the next write position so ends the give-back, with the answer `true`
+      -- the store of the next write position ends the give-back with `true`
       ends_with : x.steps ≤ 3 → StepTo full last (Done (answers.Truth true)) (effects.Returns index)
       ends_with steps =
           let words =
           words_are last full (let wide = long in omega arith)
-          (completion.publish_words slots some few s.completion h.parts.completion reached index room) in
+          (completion.publish_words slots some few s.completion holds.parts.completion reached index room) in
           let others =
           at_given slots queue s full (s.events ++ told) p (record {
             receiver = receives;
@@ -206,74 +235,74 @@ module _ {T : Type 0} (scene : Scene T) (p index : ℕ) where
           }) in
           grind (arith, shows_end)
 
-    -- ---- each of its stages
+    -- ---- each stage of a give-back
 
+    -- the push at the load of the write position
     abbrev load_of_write : PushStage
     load_of_write = pushes.LoadsWrite
 
+    -- the push at the load of the read position
     abbrev load_of_read : PushStage
     load_of_read = pushes.LoadsRead s.completion.write
 
+    -- the push at the store of the index into its cell
     abbrev store_of_cell : PushStage
     store_of_cell = pushes.StoresCell s.completion.write (cell_word slots 1 s.completion.write) 0
 
-    -- the load of the write position does what a step should
-    loads_write : x.steps ≤ 0 → Does load_of_write
+    -- the load of the write position leads on to the load of the read position
+    loads_write : x.steps ≤ 0 → StageKeeps load_of_write
     loads_write steps =
         let on_queue : 0 < length queued = (let wide = long in omega arith) in
         let goes : after_of load_of_write ≡ GoOn (give_at slots queue p index load_of_read) =
         ap (λ n. given_after T slots queue p index (push_takes 1 (push_on slots load_of_write) load_of_write n)) (old_is load_of_write on_queue)
-        ∙ ap (given_after T slots queue p index) (completion.loads_write slots some few s.completion h.parts.completion reached)
+        ∙ ap (given_after T slots queue p index) (completion.loads_write slots some few s.completion holds.parts.completion reached)
         in
         record {
           queue_then = s.completion;
           step =
-              subst (λ a. StepTo s.completion load_of_write a effects.Quiet) (sym goes)
-              (goes_on load_of_write load_of_read s.completion refl refl h.parts.completion on_queue refl
+              rw goes (goes_on load_of_write load_of_read s.completion refl refl holds.parts.completion on_queue refl
               (refl, (let low = reached in omega arith)) (omega arith) (omega arith) (λ room stage known. known));
         }
 
-    -- the load of the read position does so: there is room, and the push goes on to the cell
-    loads_read : x.steps ≤ 1 → Does load_of_read
+    -- the load of the read position finds room, and the push goes on to store the index into the cell
+    loads_read : x.steps ≤ 1 → StageKeeps load_of_read
     loads_read steps =
         let on_queue : 1 < length queued = (let wide = long in omega arith) in
         let goes : after_of load_of_read ≡ GoOn (give_at slots queue p index store_of_cell) =
         ap (λ n. given_after T slots queue p index (push_takes 1 (push_on slots load_of_read) load_of_read n)) (old_is load_of_read on_queue)
-        ∙ ap (given_after T slots queue p index) (completion.loads_read slots some few s.completion h.parts.completion reached room)
+        ∙ ap (given_after T slots queue p index) (completion.loads_read slots some few s.completion holds.parts.completion reached room)
         in
         record {
           queue_then = s.completion;
           step =
-              subst (λ a. StepTo s.completion load_of_read a effects.Quiet) (sym goes)
-              (goes_on load_of_read store_of_cell s.completion refl refl h.parts.completion on_queue refl
+              rw goes (goes_on load_of_read store_of_cell s.completion refl refl holds.parts.completion on_queue refl
               (refl, room, refl, omega arith, (λ i below. absurd (omega arith)), (let low = reached in omega arith))
               (omega arith) (omega arith) (λ room stage known. known));
         }
 
-    -- the step that stores the index into the cell does so
-    stores_cell : x.steps ≤ 2 → Does store_of_cell
+    -- the store of the index into the cell leads on to the store of the next write position
+    stores_cell : x.steps ≤ 2 → StageKeeps store_of_cell
     stores_cell steps =
         record {
           queue_then = filled 1 words_of_index slots s.completion 0 index;
           step =
               goes_on store_of_cell last (filled 1 words_of_index slots s.completion 0 index) refl refl
-              (completion.fill_good slots some few s.completion h.parts.completion reached index room)
-              (completion.cell_on slots some few s.completion h.parts.completion reached s.completion.write)
-              (completion.fill_words slots some few s.completion h.parts.completion reached index room)
-              (refl, room, completion.fill_whole slots some few s.completion h.parts.completion reached index room, (let low = reached in omega arith))
+              (completion.fill_good slots some few s.completion holds.parts.completion reached index room)
+              (completion.cell_on slots some few s.completion holds.parts.completion reached s.completion.write)
+              (completion.fill_words slots some few s.completion holds.parts.completion reached index room)
+              (refl, room, completion.fill_whole slots some few s.completion holds.parts.completion reached index room, (let low = reached in omega arith))
               (omega arith) (omega arith) (fill_keeps one_word slots s.completion 0 index);
         }
 
-    -- what a give-back knows leads on
-    pub does : (stage : PushStage) → KnowsPush one_word slots s.completion index stage → x.steps ≤ push_number 1 stage → Does stage
+    -- the step of a give-back at any stage keeps the invariant, where its push knows what the stage says
+    pub does : (stage : PushStage) → KnowsPush one_word slots s.completion index stage → x.steps ≤ push_number 1 stage → StageKeeps stage
     does pushes.LoadsWrite known steps = loads_write steps
-    does (pushes.LoadsRead write) known steps = subst (λ n. Does (pushes.LoadsRead n)) (sym known.0) (loads_read steps)
+    does (pushes.LoadsRead write) known steps = rw known.0 (loads_read steps)
     does (pushes.StoresCell write cell at) known steps =
         let first : at ≡ 0 = (let below = known.3 in omega arith) in
-        subst (λ n. Does (pushes.StoresCell write cell n)) (sym first) (subst (λ n. Does (pushes.StoresCell write n 0)) (sym known.2)
-        (subst (λ n. Does (pushes.StoresCell n (cell_word slots 1 s.completion.write) 0)) (sym known.0) (stores_cell (omega arith))))
+        rw (first, known.2, known.0) (stores_cell (omega arith))
     does (pushes.StoresWrite write) known steps =
-        subst (λ n. Does (pushes.StoresWrite n)) (sym known.0) (record {
+        rw known.0 (record {
           queue_then = full;
-          step = ends_with (completion.publish_good slots some few s.completion h.parts.completion reached index room known.2) steps;
+          step = ends_with (completion.publish_good slots some few s.completion holds.parts.completion reached index room known.2) steps;
         })

@@ -1,5 +1,5 @@
--- A step of the receiver's call that changes the completion queue alone, or nothing: what it shows, and that it so comes to what
--- the frame asks.
+-- A step of the receiver's call that changes at most the completion queue, and writes nothing: what it
+-- shows, and that it leaves a machine with the invariant.
 use Rattle.laws_loan.proofs.Names.{◌≡◌, ℕ, ◌+◌, ◌≤◌, Bool, Option, List, [], ◌++◌, sym, ap, refl, ◌∙◌}
 use Rattle.laws_loan.proofs.Names.{append-nil, Ask, After, GoOn, Answer, LoanStart, LoanFlight, Effect, Party}
 use Rattle.laws_loan.proofs.Names.{one_word, spot_of, words_of_index, Span, Open, span_of}
@@ -21,16 +21,17 @@ use Rattle.laws_loan.proofs.Turns.{sends_still}
 module _ {T : Type 0} (scene : Scene T) (p : ℕ) where
   open scene use {slots, queue, state as s}
 
+  -- the channel after a step with this effect that leaves the completion queue `k`
   abbrev pub s_given : Core ℕ → LoanStart → After LoanFlight (Answer T) → Effect → Channel T
   s_given k start after effect =
       given_then slots queue s k (s.events ++ told_by scene p start after effect) p
 
-  -- a step with this effect that leaves the completion queue so, and the book
+  -- a step with this effect, which leaves the completion queue `k` and the book, keeps the invariant
   abbrev pub GivesBy : Core ℕ → Span T → LoanStart → Option Ask → Bool → After LoanFlight (Answer T) → Effect → Type 0
   GivesBy k from start ask back after effect =
       StepBy scene p (s_given k start after effect) from start ask back after effect
 
--- ---- a step that writes nothing, and leaves what waits in the completion queue: its call goes on
+-- ---- a step that writes nothing and leaves what waits in the completion queue; its call goes on
 
 module _ {T : Type 0} (scene : Scene T) (p : ℕ) (start : LoanStart) (r : ReceiverCalls scene p start) (ask : Option Ask) (back : Bool) (k : Core ℕ)
     (waits : k.waiting ≡ scene.state.completion.waiting) (write : k.write ≡ scene.state.completion.write) (good : Good 1 words_of_index scene.slots k)
@@ -39,13 +40,15 @@ module _ {T : Type 0} (scene : Scene T) (p : ℕ) (start : LoanStart) (r : Recei
   open scene use {slots, queue, state as s, latest, turns, changes, since, caller as x}
   open r use {other, alive, receives, from}
 
+  -- the receiver after the step
   abbrev y_on : Party T
   y_on = party_then scene start ask back (GoOn flight)
 
+  -- the channel after the step
   abbrev s_on : Channel T
   s_on = given_then slots queue s k (s.events ++ []) p
 
-  -- such a step shows what a turn has to, with no event
+  -- the step keeps what holds between two turns (`Shows`, Turns), with no event
   shows_on : Shows slots queue s s_on p y_on latest turns []
   shows_on =
       let tells =
@@ -54,8 +57,8 @@ module _ {T : Type 0} (scene : Scene T) (p : ℕ) (start : LoanStart) (r : Recei
       let still = sends_still latest y_on p other in
       grind (arith, append-nil)
 
-  -- and it is a step of the machine, where its call is right at the stage to which it goes on,
-  -- within its number of steps
+  -- the step keeps the invariant, where its call stands at the stage to which it goes on,
+  -- within its bound of steps
   pub gives_on : words_after (words_in s) ask ≡ words_in s_on
       → x.steps + step_count ask ≤ number_of {T = T} slots [] flight (x.backs + one_if back) → At slots queue s_on p [] start flight
       → FlightKnows slots queue s_on (since + change_of (words_in s) ask) (changes + change_of (words_in s) ask) (x.backs + one_if back) flight

@@ -1,4 +1,5 @@
--- What is proved of every run of a loan channel: its turns write down in order, act where the promise says, and go on by the table.
+-- What is proved of every run of a loan channel: each turn writes in order and acts where it is justified,
+-- and each call goes on as its table says.
 use Rattle.laws_loan.proofs.Names.{◌≡◌, ◌≢◌, ℕ, Option, Some, List, ◌++◌, refl, sym, ap, subst, After}
 use Rattle.laws_loan.proofs.Names.{OneWord, SendStage, Answer, Event, Start, Flight, Registry}
 use Rattle.laws_loan.proofs.Names.{LoanStart, LoanFlight, Going}
@@ -36,23 +37,26 @@ module _ {T : Type 0} (m : Underway T) (p : ℕ) where
   abbrev Acts : LoanFlight → Type 0
   Acts flight = Acting m p flight
 
-  abbrev There : LoanStart → LoanFlight → Type 0
-  There start flight = StandsThere (channel code slots queue) t s p x since (starts.Loan start) (flights.Loan flight)
+  abbrev StandsAt : LoanStart → LoanFlight → Type 0
+  StandsAt start flight = StandsThere (channel code slots queue) t s p x since (starts.Loan start) (flights.Loan flight)
 
-  send_acts : (index : ℕ) (stage : SendStage) → There (calls.Send index) (send_at slots queue index stage) → Acts (send_at slots queue index stage)
+  -- in a step of a send that stands in the machine, each act is justified
+  send_acts : (index : ℕ) (stage : SendStage) → StandsAt (calls.Send index) (send_at slots queue index stage) → Acts (send_at slots queue index stage)
   send_acts index (sends.Pushes stage) there asks = let at = there.at in send_right m p index stage at.5.0 asks
   send_acts index (sends.Releases oldest stage) there asks = silent_right m p _ (frees_silent oldest stage)
 
+  -- in a step of a receive that stands in the machine, each act is justified
   receive_acts : p ≢ 0 → (stage : PopStage) (room : OneWord)
-      → There calls.Receive (receive_at slots queue p stage room) → Acts (receive_at slots queue p stage room)
+      → StandsAt calls.Receive (receive_at slots queue p stage room) → Acts (receive_at slots queue p stage room)
   receive_acts other stage room there asks = receive_right m p other since t.world.changes x.backs stage room there.knows asks
 
-  call_acts : (start : LoanStart) (flight : LoanFlight) → There start flight → Acts flight
+  -- in a step of any call that stands in the machine, each act is justified
+  call_acts : (start : LoanStart) (flight : LoanFlight) → StandsAt start flight → Acts flight
   call_acts = grind (arith, send_at, send_acts, silent_right, frees_silent, take_back_silent, receive_acts, give_back_silent, reclaim_silent)
 
   -- ---- the order of what a step writes
 
-  -- what a step of a call writes is in order, where the call stands there by the family
+  -- a step of a call that stands in the machine writes in order
   in_order : (start : Start T) (flight : Flight T)
       → StandsThere (channel code slots queue) t s p x since start flight
       → InOrder t p promise t.world.coding (words_in s.state) (registries.Loan s.state.book) start flight
@@ -76,7 +80,7 @@ module _ {T : Type 0} (m : Underway T) (p : ℕ) where
       }
   in_order start flight there = absurd there.at
 
-  -- so is what a step writes of a call that a party of the machine has under way
+  -- a step of a call that a party of the machine has under way writes in order
   step_in_order : (flight : Flight T) → party_of p t.world.latest ≡ Some x → x.doing ≡ Going flight since
       → InOrder t p promise t.world.coding t.world.words t.world.kept x.start flight
   step_in_order flight found doing =

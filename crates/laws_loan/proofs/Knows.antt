@@ -1,5 +1,5 @@
--- What a call of a loan channel knows where it stands, and how many steps it has taken at most. Of a receiver that has died it
--- knows nothing but how often it has turned back, since a reclaim goes on meanwhile.
+-- What a call of a loan channel knows at its stage, and how many steps it has taken at most. A receiver's
+-- call whose party has died knows only how often it has turned back, since a reclaim can go on meanwhile.
 use Rattle.laws_loan.proofs.Names.{◌≡◌, ◌≢◌, ℕ, ◌+◌, ◌*◌, ◌%◌, ◌<◌, ◌≤◌, ◌==◌, if◌then◌else◌, true, false, List, []}
 use Rattle.laws_loan.proofs.Names.{◌∷◌, length, get_or, AllByRecursion, ReleaseStage, Place, ReclaimStage, SendStage}
 use Rattle.laws_loan.proofs.Names.{TakeBackStage, submission_word, completion_word, place_at, PoppedNone, PoppedIndex}
@@ -31,20 +31,24 @@ use Rattle.laws_loan.proofs.SetSteps.{TakesAt}
 
 -- ---- what the sender's call counts for in the head of the indices
 
+-- a send counts in the head only while it releases an index
 abbrev pub send_counts : SendStage → ℕ
 send_counts (sends.Pushes stage) = 0
 send_counts (sends.Releases index stage) = release_counts stage
 
+-- a take-back counts in the head only while it releases an index
 abbrev pub take_back_counts : TakeBackStage → ℕ
 take_back_counts (take_backs.Pops stage found) = 0
 take_back_counts (take_backs.Releases index stage) = release_counts stage
 
+-- a reclaim counts in the head only while it releases an index
 abbrev pub reclaim_counts : ReclaimStage → ℕ
 reclaim_counts (reclaims.Drains stage) = 0
 reclaim_counts (reclaims.Empties stage) = 0
 reclaim_counts (reclaims.Releases number index stage) = release_counts stage
 
--- how many calls of the set each call is, that take an index or give one back at this stage
+-- how much a call counts for in the head of the indices at its stage: 1 while it takes an
+-- index or gives one back
 abbrev pub counts : LoanFlight → ℕ
 counts (Loan run) = acquire_counts run.call.stage
 counts (Send run) = send_counts run.call.stage
@@ -54,18 +58,22 @@ counts (Receive p run) = 0
 counts (GiveBack p run) = 0
 counts (Reclaim call) = reclaim_counts call.stage
 
--- ---- how many steps they have taken at most, having written this and turned back so often
+-- ---- how many steps a call has taken at most, where it has written `wrote` and has turned back `backs`
+-- times
 
+-- how many steps a send has taken at most, by its stage
 abbrev pub send_number : SendStage → ℕ
 send_number (sends.Pushes stage) = overflow_push_number stage
 send_number (sends.Releases index stage) = 6 + release_number stage 0
 
+-- how many steps a take-back has taken at most, by its stage
 abbrev pub take_back_number : TakeBackStage → ℕ
 take_back_number (take_backs.Pops stage found) = pop_number 1 stage
 take_back_number (take_backs.Releases index stage) = 4 + release_number stage 0
 
 module _ {T : Type 0} where
-  -- of a reclaim each index costs so many steps: one handed out, one taken back, and one freed
+  -- how many steps a reclaim has taken at most at its stage: a fixed number for each index that it has handed
+  -- out, taken back or freed
   abbrev pub reclaim_number : ℕ → List (Event T) → ReclaimStage → ℕ
   reclaim_number slots wrote (reclaims.Drains stage) =
       4 * length (handed_out wrote) + overflow_pop_number stage
@@ -74,7 +82,7 @@ module _ {T : Type 0} where
   reclaim_number slots wrote (reclaims.Releases number index stage) =
       8 * (slots + 1) + 5 * number + release_number stage 0
 
-  -- at most so many steps a call has taken at its stage
+  -- how many steps a call has taken at most at its stage
   abbrev pub number_of : ℕ → List (Event T) → LoanFlight → ℕ → ℕ
   number_of slots wrote (Loan run) backs = acquire_number slots run.call.stage 0
   number_of slots wrote (Send run) backs = send_number run.call.stage
@@ -96,7 +104,8 @@ module _ {T : Type 0} where
   abbrev pub send_of : ℕ → Start T
   send_of index = starts.Loan (calls.Send index)
 
-  -- a push that has published over a full queue has acted once the read position has moved
+  -- What a push of the index `index` has written at each stage. A push that has published over a full queue
+  -- has acted as soon as the read position has moved.
   abbrev pub push_wrote : ℕ → Core ℕ → ℕ → PushStage → List (Event T)
   push_wrote queue k index overflow_pushes.HandsBack = []
   push_wrote queue k index overflow_pushes.LoadsWrite = []
@@ -121,14 +130,15 @@ module _ {T : Type 0} where
       ∷ Acted 0 (send_of index) (PoppedIndex oldest)
       ∷ release_wrote 0 oldest stage
 
+  -- what a take-back has written at each stage
   abbrev pub take_back_wrote : TakeBackStage → List (Event T)
   take_back_wrote (take_backs.Pops stage found) = []
   take_back_wrote (take_backs.Releases index stage) =
       TakenBack 0 index ∷ release_wrote 0 index stage
 
--- ---- where a reclaim stands, during which nobody else moves a position
+-- ---- where a reclaim stands; no other party moves a position meanwhile
 
--- where the pops of the submission queue stand
+-- where the pop of the submission queue stands
 abbrev pub DrainsAt : Core ℕ → PopStage → Type 0
 DrainsAt k overflow_pops.FindsNone = ⊥
 DrainsAt k overflow_pops.LoadsRead = Unit {0}
@@ -136,7 +146,7 @@ DrainsAt k (overflow_pops.LoadsWrite read) = read ≡ k.read
 DrainsAt k (overflow_pops.LoadsCell read) = (read ≡ k.read) × (k.read < k.write)
 DrainsAt k (overflow_pops.MovesRead read) = (read ≡ k.read) × (k.read < k.write)
 
--- where the pops of the completion queue stand
+-- where the pop of the completion queue stands
 abbrev pub EmptiesAt : ℕ → Core ℕ → pops.PopStage → Type 0
 EmptiesAt slots k pops.TheVariants.LoadsRead = Unit {0}
 EmptiesAt slots k (pops.TheVariants.LoadsWrite read) = read ≡ k.read
@@ -152,8 +162,9 @@ FreesAt table index (releases.StoresNext head) = Unit {0}
 FreesAt table index (releases.ExchangesHead head) = Unit {0}
 FreesAt table index releases.Subtracts = Unit {0}
 
--- with these two queues and this table: what it has written of the one kind and what still waits are no more than the slots,
--- and none that was sent is behind it
+-- Where a reclaim stands, with these two queues and this table. While it pops a queue, the indices that it
+-- has taken out of that queue and those that still wait are together no more than the slots. While it
+-- releases an index, no index before that one is sent by the table.
 abbrev pub StageAt : {T : Type 0} → ℕ → Core ℕ → Core ℕ → List Place → List (Event T) → ReclaimStage → Type 0
 StageAt slots k m table wrote (reclaims.Drains stage) =
     DrainsAt k stage × (length (handed_out wrote) + length k.waiting ≤ slots) × (taken_back wrote ≡ []) × (freed wrote ≡ [])
@@ -169,11 +180,11 @@ StageAt slots k m table wrote (reclaims.Releases number index stage) =
 -- ---- where a call under way stands
 
 module _ {T : Type 0} (slots queue : ℕ) (s : Channel T) where
-  -- this index is in passing in this party's call
+  -- the index is in passing in the call of this party
   abbrev pub Passes : ℕ → ℕ → Type 0
   Passes p index = (index < slots) × (spot_of index s.events ≡ Passing p)
 
-  -- a release of an index that is in passing, until it clears the flag
+  -- where a release of an index that is in passing stands; the index is in passing until the flag is cleared
   abbrev pub GivesAt : ℕ → ReleaseStage → Type 0
   GivesAt index releases.ClearsFlag = Passes 0 index
   GivesAt index releases.LoadsHead = index < slots
@@ -181,7 +192,8 @@ module _ {T : Type 0} (slots queue : ℕ) (s : Channel T) where
   GivesAt index (releases.ExchangesHead head) = index < slots
   GivesAt index releases.Subtracts = index < slots
 
-  -- a push of the submission queue: its index is in passing until it is published, and so is then the one that it takes out
+  -- where a push of the submission queue stands: its index is in passing until it is published, and the
+  -- index that it takes out is in passing from then on
   abbrev pub PushAt : ℕ → PushStage → Type 0
   PushAt index overflow_pushes.HandsBack = ⊥
   PushAt index overflow_pushes.LoadsWrite = Passes 0 index
@@ -192,34 +204,37 @@ module _ {T : Type 0} (slots queue : ℕ) (s : Channel T) where
   PushAt index (overflow_pushes.LoadsCell read) =
       Passes 0 (get_or s.submission.cells (read % (queue + 1)) 0)
 
+  -- where a send stands
   abbrev pub SendAt : ℕ → SendStage → Type 0
   SendAt index (sends.Pushes stage) =
       KnowsOverflowPush queue s.submission index stage × PushAt index stage
   SendAt index (sends.Releases oldest stage) = GivesAt oldest stage
 
-  -- what a take-back knows at each stage
+  -- where a take-back stands
   abbrev pub TakeBackAt : TakeBackStage → Type 0
   TakeBackAt (take_backs.Pops stage found) =
       KnowsPop one_word slots s.completion (in_one found) stage
   TakeBackAt (take_backs.Releases index stage) = GivesAt index stage
 
-  -- a reclaim that stands at a stage and has written this: the receiver is dead, and the sender's table has each index in passing
+  -- What a reclaim at this stage knows that has written `wrote`: the receiver is dead, and the sender's
+  -- table says `Sent` of each index that is in passing.
   pub record ReclaimAt (wrote : List (Event T)) (stage : ReclaimStage) : Type 0 where
     pub dead : has_died s.book.receiver s.book.dead ≡ true
     pub sent : (index : ℕ) → spot_of index s.events ≡ Passing 0 → place_at s.book.places index ≡ places.Sent
+    -- it has claimed, published, given back and acted nothing
     pub claims : claimed wrote ≡ []
     pub publishes : published wrote ≡ []
     pub gives : given_back wrote ≡ []
     pub acts : moments wrote ≡ []
     pub stage_at : StageAt slots s.submission s.completion s.book.places wrote stage
 
-  -- ---- any call, which has written this
+  -- ---- any call, which has written `wrote`
 
-  -- what a receiver's call knows while its party lives
+  -- what is known of a receiver's call only while its party is alive
   abbrev pub WhileAlive : ℕ → Type 0 → Type 0
   WhileAlive p Fact = has_died p s.book.dead ≡ false → Fact
 
-  -- what a call knows at its stage: whose it is, on which channel, and what it has written
+  -- where a call stands: its party, its channel, what it has written, and what its stage says
   abbrev pub At : ℕ → List (Event T) → LoanStart → LoanFlight → Type 0
   At p wrote calls.Loan (Loan run) =
       (p ≡ 0) × (run.call.capacity ≡ slots) × (wrote ≡ []) × TakesAt slots s.set run.call.stage
@@ -248,9 +263,11 @@ module _ {T : Type 0} (slots queue : ℕ) (s : Channel T) where
       (p ≡ 0) × (call.slots ≡ slots) × (call.queue ≡ queue) × ReclaimAt wrote call.stage
   At p wrote start flight = ⊥
 
-  -- ---- what it knows of the counts: only a receive turns back, where a send has moved the read position
+  -- ---- what a call knows of the counts: only a receive turns back, where a send has moved the read
+  -- position
 
-  -- a receive has turned back no more often than the read position was moved, and the other calls never
+  -- a receive has turned back at most as often as the read position has moved, and other calls
+  -- have not turned back
   abbrev pub FlightKnows : ℕ → ℕ → ℕ → LoanFlight → Type 0
   FlightKnows since changes backs (Loan run) = backs ≡ 0
   FlightKnows since changes backs (Send run) = backs ≡ 0

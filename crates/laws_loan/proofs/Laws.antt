@@ -1,4 +1,5 @@
--- Every turn keeps what holds of a loan channel's machine: the laws of the family, and so every run has it.
+-- Every turn keeps what holds of a loan channel's machine: the laws that the frame asks of the family. So
+-- every run has it.
 use Rattle.laws_loan.proofs.Names.{◌≡◌, ℕ, ◌-◌, ◌^◌, ◌<◌, true, false, Some, None, sym, subst, Start, Flight}
 use Rattle.laws_loan.proofs.Names.{LoanStart, LoanFlight, Send, GiveUp, TakeBack, Receive, GiveBack, Reclaim, Going}
 use Rattle.laws_loan.proofs.Names.{Party, Turn, Coding, want_of, is_question, going_rows, has_died, LivesRight, Each}
@@ -41,38 +42,33 @@ use Rattle.laws_loan.proofs.TakeBackStep.{take_back_at, take_back_steps}
 module _ {T : Type 0} (m : Underway T) where
   open m use {coding as code, slots, queue, trace as t, sound, caller as x, since}
 
-  -- a call that stands there comes on so
-  abbrev Goes : ℕ → LoanStart → LoanFlight → Type 0
-  Goes p start flight =
+  -- the step of this call, where it stands in the machine, leaves a machine with the invariant
+  abbrev CallIsSound : ℕ → LoanStart → LoanFlight → Type 0
+  CallIsSound p start flight =
       Stands m p (starts.Loan start) (flights.Loan flight)
       → Comes m p (starts.Loan start) (flights.Loan flight)
 
-  -- a step of a call whose party lives comes to what is asked, by the stage at which the call stands
-  call_comes : (p : ℕ) (start : LoanStart) (flight : LoanFlight) → has_died (rows.party_of flight) sound.state.book.dead ≡ false → Goes p start flight
+  -- each step of a call of a living party leaves a machine with the invariant
+  call_comes : (p : ℕ) (start : LoanStart) (flight : LoanFlight) → has_died (rows.party_of flight) sound.state.book.dead ≡ false → CallIsSound p start flight
   call_comes p calls.Loan (Loan run) alive there =
       let stands = there.at in
-      subst (λ q. Goes q calls.Loan (Loan run)) (sym stands.0)
-      (subst (λ n. Goes 0 calls.Loan (loan_at n run.call.stage)) (sym stands.1) (λ there. loan_acquires m run.call.stage there))
+      subst (λ q. CallIsSound q calls.Loan (Loan run)) (sym stands.0)
+      (rw stands.1 (λ there. loan_acquires m run.call.stage there))
       there
   call_comes p (calls.Send index) (Send run) alive there =
       let stands = there.at in
-      subst (λ q. Goes q (calls.Send index) (Send run)) (sym stands.0)
-      (subst (λ n. Goes 0 (calls.Send index) (send_at n run.call.queue run.given run.call.stage)) (sym stands.1)
-      (subst (λ n. Goes 0 (calls.Send index) (send_at slots n run.given run.call.stage)) (sym stands.2)
-      (subst (λ n. Goes 0 (calls.Send index) (send_at slots queue n run.call.stage)) (sym stands.3) (λ there. send_steps m index run.call.stage there))))
+      subst (λ q. CallIsSound q (calls.Send index) (Send run)) (sym stands.0)
+      (rw (stands.1, stands.2, stands.3) (λ there. send_steps m index run.call.stage there))
       there
   call_comes p (calls.GiveUp index) (GiveUp run) alive there =
       let stands = there.at in
-      subst (λ q. Goes q (calls.GiveUp index) (GiveUp run)) (sym stands.0)
-      (subst (λ n. Goes 0 (calls.GiveUp index) (give_up_at n queue run.given run.call.stage)) (sym stands.1)
-      (subst (λ n. Goes 0 (calls.GiveUp index) (give_up_at slots queue n run.call.stage)) (sym stands.2)
-      (λ there. give_up_releases m index run.call.stage there)))
+      subst (λ q. CallIsSound q (calls.GiveUp index) (GiveUp run)) (sym stands.0)
+      (rw (stands.1, stands.2) (λ there. give_up_releases m index run.call.stage there))
       there
   call_comes p calls.TakeBack (TakeBack run) alive there =
       let stands = there.at in
-      subst (λ q. Goes q calls.TakeBack (TakeBack run)) (sym stands.0)
-      (subst (λ n. Goes 0 calls.TakeBack (take_back_at n run.call.queue run.call.stage)) (sym stands.1)
-      (subst (λ n. Goes 0 calls.TakeBack (take_back_at slots n run.call.stage)) (sym stands.2) (λ there. take_back_steps m run.call.stage there)))
+      subst (λ q. CallIsSound q calls.TakeBack (TakeBack run)) (sym stands.0)
+      (rw (stands.1, stands.2) (λ there. take_back_steps m run.call.stage there))
       there
   call_comes p calls.Receive (Receive by run) alive there =
       let lives : has_died p sound.state.book.dead ≡ false = subst (λ q. has_died q sound.state.book.dead ≡ false) there.at.1 alive in
@@ -81,27 +77,28 @@ module _ {T : Type 0} (m : Underway T) where
       let lives : has_died p sound.state.book.dead ≡ false = subst (λ q. has_died q sound.state.book.dead ≡ false) there.at.1 alive in
       give_back_comes m p index lives by run there
   call_comes p calls.Reclaim (Reclaim call) alive there =
-      subst (λ q. Goes q calls.Reclaim (Reclaim call)) (sym there.at.0) (λ there. reclaim_steps_from m call there) there
+      subst (λ q. CallIsSound q calls.Reclaim (Reclaim call)) (sym there.at.0) (λ there. reclaim_steps_from m call there) there
   call_comes p start flight alive there = absurd there.at
 
+  -- each step of any call that no row refuses leaves a machine with the invariant
   comes : (p : ℕ) (start : Start T) (flight : Flight T)
       → first_row (going_rows t.world.coding t.world.kept (Some flight) None) ≡ None
       → StandsThere (channel code slots queue) t sound p x since start flight
       → ComesFrom (channel code slots queue) t sound p x since code (words_in sound.state) (registries.Loan sound.state.book) start flight
   comes = grind (arith, call_comes, lives)
 
-  -- a step that no row refuses, of a call under way, comes to what the frame asks of a step
+  -- a step that no row refuses, of a call under way, leaves a machine with the invariant
   step_comes : (p : ℕ) (flight : Flight T)
       → first_row (going_rows t.world.coding t.world.kept (Some flight) None) ≡ None
       → party_of p t.world.latest ≡ Some x → x.doing ≡ Going flight since
       → frame.ComesByStep (channel code slots queue) t p x flight since (asked t.world.coding flight) (old_of t.world.words (asked t.world.coding flight))
-  step_comes p flight r found doing =
+  step_comes p flight not_refused found doing =
       let kept_there = kept_is t.world.kept t.world.words sound.state sound.fit in
       comes_from (channel code slots queue) t sound p x since (words_in sound.state) (registries.Loan sound.state.book) flight kept_there.words kept_there.kept
-      (comes p x.start flight r (stands_there (channel code slots queue) t sound p x since flight found doing))
+      (comes p x.start flight not_refused (stands_there (channel code slots queue) t sound p x since flight found doing))
 
 module _ {T : Type 0} (code : Coding T) (slots queue : ℕ) where
-  -- no call waits for a decision
+  -- no call of a loan channel waits for a decision
   pub asks_nothing : {A : Type 0}
       → (t : Trace T) (p : ℕ) (x : Party T) (flight : Flight T) (since : ℕ) (s : frame.Sound (channel code slots queue) t)
       → party_of p t.world.latest ≡ Some x → x.doing ≡ Going flight since
@@ -121,18 +118,20 @@ module _ {T : Type 0} (code : Coding T) (slots queue : ℕ) where
         death = λ t owner s may. death_comes code slots queue t owner s may;
       }
 
--- a machine that was reached is a sound one of some second number, its dead do nothing more, and its table is right
+-- in a machine that turns have reached the invariant holds with some capacity of the submission queue, dead
+-- parties do nothing more, and the table is right
 pub reached : {T : Type 0} (t : Trace T) → t.world.kind ≡ kinds.Loan → IsReached t
     → (queue : ℕ) × frame.Sound (family t.world.coding t.world.capacity queue) t × Each LivesRight t.events × IsTabled t
-reached {T} t is is_reached = kept_by_runs IsSound keeps t first is_reached
+reached {T} t kind_is is_reached = kept_by_runs IsSound keeps t first is_reached
   where
+    -- what is claimed of every run: the invariant, that its acts are as `LivesRight` asks, and the table
     IsSound : Trace T → Type 0
     IsSound u = (queue : ℕ) × frame.Sound (family t.world.coding t.world.capacity queue) u × Each LivesRight u.events × IsTabled u
 
     -- a turn that is not refused keeps this
     keeps : (u : Trace T) (turn : Turn T) → refusal_of u.world turn ≡ None → IsSound u → IsSound (after_turn u turn)
-    keeps u turn e is_sound =
-        let passed = passes u.world turn e in
+    keeps u turn not_refused is_sound =
+        let passed = passes u.world turn not_refused in
         let sound =
         frame.turn_sound (family t.world.coding t.world.capacity is_sound.0) (λ t turn. t.world.turns < 2 ^ 64 - 2)
         (laws t.world.coding t.world.capacity is_sound.0) u turn passed.on passed.turns is_sound.1 in (
@@ -142,15 +141,15 @@ reached {T} t is is_reached = kept_by_runs IsSound keeps t first is_reached
           turn_tabled t.world.coding t.world.capacity is_sound.0 u is_sound.1 is_sound.3 turn sound.holds.moves,
         )
 
-    -- the opening has it, at any number that is admitted
+    -- the opening has this, at any capacity that is admitted
     first : (queue : ℕ) → queue_error t.world.kind queue ≡ None → IsSound (opened t.world.coding t.world.kind t.world.capacity queue t.world.parties)
     first queue queued =
         let world = t.world in
-        let few = slots_are world.capacity (subst (λ kind. capacity_error kind world.capacity ≡ None) is is_reached.admitted) in
-        let fits = queue_is queue (subst (λ kind. queue_error kind queue ≡ None) is queued) in (
+        let few = slots_are world.capacity (subst (λ kind. capacity_error kind world.capacity ≡ None) kind_is is_reached.admitted) in
+        let fits = queue_is queue (subst (λ kind. queue_error kind queue ≡ None) kind_is queued) in (
           queue,
           subst (λ kind. frame.Sound (family world.coding world.capacity queue) (opened world.coding kind world.capacity queue world.parties))
-              (sym is) (opening_sound world.capacity queue few.0 few.1 fits.0 fits.1 world.coding world.parties),
+              (sym kind_is) (opening_sound world.capacity queue few.0 few.1 fits.0 fits.1 world.coding world.parties),
           Each-nil _,
-          subst (λ kind. IsTabled (opened world.coding kind world.capacity queue world.parties)) (sym is) (λ i. all_free world.capacity i),
+          subst (λ kind. IsTabled (opened world.coding kind world.capacity queue world.parties)) (sym kind_is) (λ i. all_free world.capacity i),
         )

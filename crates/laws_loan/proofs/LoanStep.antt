@@ -1,4 +1,4 @@
--- A loan's acquire, as steps of the machine.
+-- Each step of a loan, which is an acquire of the set, leaves a machine with the invariant.
 use Rattle.laws_loan.proofs.Names.{Ok, Err, ◌≡◌, ℕ, false, Bool, Option, List, [], refl, sym, subst}
 use Rattle.laws_loan.proofs.Names.{Ask, After, GoOn, AcquireStage, Acquired, acquire_asks, acquire_takes}
 use Rattle.laws_loan.proofs.Names.{acquire_goes_back, went_on, Answer, LoanFlight, ask_of, as_it_is}
@@ -23,29 +23,33 @@ use Rattle.laws_loan.proofs.Senders.{Stands, Comes, from_step}
 use Rattle.laws_loan.proofs.SetSteps.{AcquireLeads}
 use Rattle.laws_loan.proofs.StepLaw.{holds_now, ComesBy}
 
--- how a loan goes on whose acquire goes on so
+-- how a loan goes on, or ends, where `acquire` is how its acquire has gone on or ended
 abbrev loaned_after : (T : Type 0) → After acquire_calls.Acquire Acquired → After LoanFlight (Answer T)
 loaned_after T acquire = as_call Loan acquire_answer (went_on as_it_is tt tt acquire)
 
 module _ {T : Type 0} (m : Underway T) (stage : AcquireStage) (there : Stands m 0 (starts.Loan calls.Loan) (flights.Loan (loan_at m.slots stage))) where
   open m use {slots, queue, trace as t, sound}
 
+  -- the operation of the loan's step
   abbrev ask : Option Ask
   ask = ask_of (acquire_asks slots stage)
 
+  -- the acquire of the loan at its stage
   abbrev call : acquire_calls.Acquire
   call = record { capacity = slots; stage = stage }
 
+  -- the words of the set after the step
   abbrev words_then : List ℕ
   words_then = words_after sound.state.set ask
 
+  -- the loan has written nothing yet
   from : span_of 0 sound.state.events ≡ Open (starts.Loan calls.Loan) []
   from = grind arith
 
   abbrev scene : Scene T
   scene = scene_of m
 
-  -- the loan stands at this stage of its acquire, with what that knows of the set
+  -- the loan stands at this stage of its acquire, and knows what the stage says of the set
   stands : Loans scene stage
   stands =
       record {
@@ -57,17 +61,18 @@ module _ {T : Type 0} (m : Underway T) (stage : AcquireStage) (there : Stands m 
         straight = there.knows;
       }
 
-  abbrev With : Bool → After LoanFlight (Answer T) → Type 0
-  With back after =
+  -- a step of the loan after which it is as `after` says leaves a machine with the invariant
+  abbrev StepIsSound : Bool → After LoanFlight (Answer T) → Type 0
+  StepIsSound back after =
       ComesBy m 0 calls.Loan ask back after effects.Claims
 
-  -- where the acquire leads on so over the set, the loan goes on, claims an index, or ends with none
+  -- where `acquire` is how the acquire goes on or ends, as `SetSteps` says, the loan goes on, claims an
+  -- index, or ends with none
   leads_on : (acquire : After acquire_calls.Acquire Acquired)
       → AcquireLeads slots stage sound.state.set words_then sound.state.claims acquire
-      → With false (loaned_after T acquire)
+      → StepIsSound false (loaned_after T acquire)
   leads_on (GoOn acquire) acquire_leads =
-      subst (λ c. With false (GoOn (Loan (record { call = record { capacity = c; stage = acquire.stage }; given = tt; room = tt })))) (sym acquire_leads.1)
-      (from_step m calls.Loan ask (GoOn (loan_at slots acquire.stage)) effects.Claims _ [] from (
+      rw acquire_leads.1 (from_step m calls.Loan ask (GoOn (loan_at slots acquire.stage)) effects.Claims _ [] from (
         goes_steps scene stage stands
             acquire.stage acquire_leads.0 acquire_leads.2 acquire_leads.3,
         refl,
@@ -87,12 +92,10 @@ module _ {T : Type 0} (m : Underway T) (stage : AcquireStage) (there : Stands m 
       )
   leads_on (Done (Err failures.IsLocked)) acquire_leads = absurd acquire_leads
 
-  -- a loan that stands at a stage of its acquire comes on as a step of the machine
+  -- the step of a loan at any stage of its acquire leaves a machine with the invariant
   pub loan_acquires : Comes m 0 (starts.Loan calls.Loan) (flights.Loan (loan_at slots stage))
   loan_acquires =
       let does = step scene stage stands in
       let value : old_of (words_in sound.state) ask ≡ old_of sound.state.set ask =
       set_old slots queue sound.state (counted_for (sends_at t.world.latest)) sound.holds.parts (acquire_asks slots stage) does.on in
-      subst (λ v. With (acquire_goes_back slots stage v) (loaned_after T (acquire_takes call stage v))) (sym value)
-      (subst (λ b. With b (loaned_after T (acquire_takes call stage (old_of sound.state.set ask)))) (sym does.stays)
-      (leads_on (acquire_takes call stage (old_of sound.state.set ask)) does.leads))
+      rw (value, does.stays) (leads_on (acquire_takes call stage (old_of sound.state.set ask)) does.leads)

@@ -68,10 +68,10 @@ module _ {T : Type 0} where
       → after {T = T} book.places flight old ≡ GoOn next
       → ((step {T = T} words push p start flight old book).kept.receiver ≡ book.receiver)
       × ((step {T = T} words push p start flight old book).kept.dead ≡ book.dead)
-  book_goes_on words push p start flight next old book e =
+  book_goes_on words push p start flight next old book after_is =
       subst (λ o. ((ended_book {T = T} p start o (fold book_after book (wrote words push p flight old o))).receiver ≡ book.receiver)
       × ((ended_book {T = T} p start o (fold book_after book (wrote words push p flight old o))).dead ≡ book.dead))
-      (sym (ap answer_in e)) stays
+      (sym (ap answer_in after_is)) stays
     where
       told : List (Event T)
       told = wrote words push p flight old None
@@ -144,7 +144,7 @@ module _ {T : Type 0} (code : Coding T) (slots queue : ℕ) where
           (p ≡ 0) × (AllCosts T slots queue some few fits t.world.words flight (ask_of (want_of t.world.coding flight)) st.after
           ⊎ ((dead ≡ true) × (allowance slots flight ≡ most_sending slots)))
 
-      -- the living receiver's step leaves its call fewer steps
+      -- the step of the living receiver leaves its call fewer steps
       abbrev Receives : Flight T → Step (Flight T) (Registry T) T → Type 0
       Receives flight st =
           (p ≢ 0) × (p ≡ r) × (dead ≡ false)
@@ -165,7 +165,7 @@ module _ {T : Type 0} (code : Coding T) (slots queue : ℕ) where
       -- a step of a loan call that goes on leaves who the receiver is, and whether it has died
       same_book : (start : LoanStart) (flight : LoanFlight) (next : Flight T) → (loan_step start flight).after ≡ GoOn next
           → (receiver_in (loan_step start flight).kept ≡ r) × (is_lost (loan_step start flight).kept ≡ dead)
-      same_book start flight next e = go (after s.book.places flight (old_of t.world.words (ask_of (want flight)))) refl
+      same_book start flight next after_is = go (after s.book.places flight (old_of t.world.words (ask_of (want flight)))) refl
         where
           go : (a : After LoanFlight (Answer T)) → after s.book.places flight (old_of t.world.words (ask_of (want flight))) ≡ a
               → (receiver_in (loan_step start flight).kept ≡ r) × (is_lost (loan_step start flight).kept ≡ dead)
@@ -179,8 +179,8 @@ module _ {T : Type 0} (code : Coding T) (slots queue : ℕ) where
               absurd (cc)
 
       module _ (x : Party T) (since : ℕ) (same_steps : x.steps ≡ steps) where
-        abbrev Stands : LoanStart → LoanFlight → Type 0
-        Stands start flight = StandsThere (channel code slots queue) t sound p x since (starts.Loan start) (flights.Loan flight)
+        abbrev StandsAt : LoanStart → LoanFlight → Type 0
+        StandsAt start flight = StandsThere (channel code slots queue) t sound p x since (starts.Loan start) (flights.Loan flight)
 
         abbrev SaysOf : LoanStart → LoanFlight → Type 0
         SaysOf start flight = Says (flights.Loan flight) (loan_step start flight)
@@ -188,17 +188,17 @@ module _ {T : Type 0} (code : Coding T) (slots queue : ℕ) where
         abbrev CostsOf : LoanFlight → Type 0
         CostsOf flight = CallCosts T slots queue some few fits t.world.words s.book.places flight
 
-        -- one of the sender's
+        -- a step of the sender in a call whose costs are counted (`CostsOf`) is as `Says` asks
         sends : (start : LoanStart) (flight : LoanFlight) → p ≡ 0 → CostsOf flight → SaysOf start flight
         sends start flight mine costs = record { same = same_book start flight; side = inl (mine, inl costs) }
 
-        -- which leaves the read position
+        -- a step of the sender that leaves the read position
         keeps : (start : LoanStart) (flight : LoanFlight) → p ≡ 0 → Keeps slots t.world.words (ask_of (want flight))
             → allowance {T = T} slots (flights.Loan flight) ≡ most_sending slots → SaysOf start flight
-        keeps start flight mine stays is =
+        keeps start flight mine stays is_most =
             sends start flight mine
             (any_costs T slots queue some few fits t.world.words flight
-            (after s.book.places flight (old_of t.world.words (ask_of (want flight)))) stays is)
+            (after s.book.places flight (old_of t.world.words (ask_of (want flight)))) stays is_most)
 
         -- a step of a give-back that goes on leaves the receiver fewer steps to take
         gives : (by : ℕ) (run : Running (Part (Push ℕ)) ℕ (Unit {0})) (index : ℕ) → run.call.base ≡ completion_word slots queue
@@ -227,9 +227,9 @@ module _ {T : Type 0} (code : Coding T) (slots queue : ℕ) where
             subst (λ flight. TakesOne T slots queue t.world.words s.book.places steps flight) (sym same)
             (receive_takes T slots queue t.world.words s.book.places by steps run.room run.call.call.stage)
 
-        -- a step of a living party's call, where the call stands there, says so, by the call
+        -- a step of a call of a living party costs or takes what `Says` states, by the call
         call_says : (start : LoanStart) (flight : LoanFlight) → has_died (rows.party_of flight) s.book.dead ≡ false
-            → Stands start flight → SaysOf start flight
+            → StandsAt start flight → SaysOf start flight
         call_says calls.Loan (Loan run) alive there =
             let stands = there.at in
             keeps calls.Loan (Loan run) stands.0
@@ -239,20 +239,18 @@ module _ {T : Type 0} (code : Coding T) (slots queue : ℕ) where
             let stands = there.at in
             sends (calls.Send index) (Send run) stands.0
             (subst (λ n. CostsOf (send_at n run.call.queue run.given run.call.stage)) (sym stands.1)
-            (subst (λ n. CostsOf (send_at slots n run.given run.call.stage)) (sym stands.2)
-            (send_costs_so T slots queue some few fits t.world.words s.book.places s index run.given run.call.stage stands.5)))
+            (rw stands.2 (send_costs_so T slots queue some few fits t.world.words s.book.places s index run.given run.call.stage stands.5)))
         call_says (calls.GiveUp index) (GiveUp run) alive there =
             let stands = there.at in
             keeps (calls.GiveUp index) (GiveUp run) stands.0
             (subst (λ n. Keeps slots t.world.words (ask_of (back_asks n run.given run.call.stage))) (sym stands.1)
-            (subst (λ i. Keeps slots t.world.words (ask_of (back_asks slots i run.call.stage))) (sym stands.2)
+            (rw stands.2
             (release_keeps slots queue some few fits t.world.words index (gives_below slots queue s index run.call.stage stands.4) run.call.stage))) refl
         call_says calls.TakeBack (TakeBack run) alive there =
             let stands = there.at in
             keeps calls.TakeBack (TakeBack run) stands.0
             (subst (λ n. Keeps slots t.world.words (ask_of (take_back_asks n run.call.queue run.call.stage))) (sym stands.1)
-            (subst (λ n. Keeps slots t.world.words (ask_of (take_back_asks slots n run.call.stage))) (sym stands.2)
-            (take_back_keeps T slots queue some few fits t.world.words s run.call.stage stands.4))) refl
+            (rw stands.2 (take_back_keeps T slots queue some few fits t.world.words s run.call.stage stands.4))) refl
         call_says calls.Receive (Receive by run) alive there =
             let stands = there.at in
             let lives : has_died p s.book.dead ≡ false = subst (λ q. has_died q s.book.dead ≡ false) stands.1 alive in
@@ -284,20 +282,20 @@ module _ {T : Type 0} (code : Coding T) (slots queue : ℕ) where
             record { same = same_book calls.Reclaim (Reclaim call); side = inl (stands.0, inr (stands.3.dead, refl)) }
         call_says start flight alive there = absurd there.at
 
-        -- so does the step of any call of the machine that no row refuses
+        -- a step of any call that no row refuses costs or takes what `Says` states
         says : (start : Start T) (flight : Flight T) → first_row (going_rows t.world.coding t.world.kept (Some flight) None) ≡ None
             → StandsThere (channel code slots queue) t sound p x since start flight
             → Says flight (step_there (registries.Loan s.book) start flight)
         says (starts.Loan start) (flights.Loan flight) passed there = call_says start flight (lives code slots queue t sound flight None passed) there
         says start flight passed there = absurd there.at
 
-    -- what a turn shows
+    -- the turn lowers the weight by its steps, but for the calls that it ends
     abbrev pub Shows : ℕ → World T → List (Event T) → Type 0
     Shows taken then_so es = taken + weight slots then_so ≤ weight slots t.world + ends es * (13 * slots + 12)
 
     -- ---- a call goes on
 
-    -- the sender's, whose steps are no more than it may take
+    -- the sender's call has taken no more steps than it may take
     module _ (s' : Channel T) where
       sender_few : (p backs : ℕ) (wrote : List (Event T)) (start : LoanStart) (flight : LoanFlight) → p ≡ 0
           → At slots queue s' p wrote start flight
@@ -367,9 +365,9 @@ module _ {T : Type 0} (code : Coding T) (slots queue : ℕ) where
           subst (λ kept. Says p x.steps flight (step_there p x.steps kept x.start flight)) (sym is_kept)
           (says p x.steps x since refl x.start flight passed (stands_there (channel code slots queue) t sound p x since flight found doing))
 
-      module _ (later : P (record { world = new; events = t.events ++ told })) (next : Flight T) (e : st.after ≡ GoOn next) where
+      module _ (later : P (record { world = new; events = t.events ++ told })) (next : Flight T) (after_is : st.after ≡ GoOn next) where
         going : y.doing ≡ Going next (since + change)
-        going = ap (λ a. doing_after (t.world.changes + change) (since + change) a) e
+        going = ap (λ a. doing_after (t.world.changes + change) (since + change) a) after_is
 
         here : party_of p new.latest ≡ Some y
         here = party_put_same p y t.world.latest
@@ -377,13 +375,13 @@ module _ {T : Type 0} (code : Coding T) (slots queue : ℕ) where
         there : (q : ℕ) → q ≢ p → party_of q new.latest ≡ party_of q t.world.latest
         there q ne = party_put_other q p y t.world.latest ne
 
-        -- what the receiver has left then is of the same receiver, at the read position that the step left
+        -- what the receiver has left afterwards, at the read position that the step left
         rest_then : (o : Option (Party T)) → party_of r new.latest ≡ o
             → receivers_left slots new.words new.kept new.latest ≡ cond dead 0 (new_rest o)
-        rest_then o is =
-            let same = says_now.same next e in
+        rest_then o party_is =
+            let same = says_now.same next after_is in
             ap (λ b. cond b 0 (new_rest (party_of (receiver_in new.kept) new.latest))) same.1
-            ∙ (ap (λ q. cond dead 0 (new_rest (party_of q new.latest))) same.0 ∙ ap (λ o. cond dead 0 (new_rest o)) is)
+            ∙ (ap (λ q. cond dead 0 (new_rest (party_of q new.latest))) same.0 ∙ ap (λ o. cond dead 0 (new_rest o)) party_is)
 
         -- ---- the sender's
 
@@ -413,7 +411,7 @@ module _ {T : Type 0} (code : Coding T) (slots queue : ℕ) where
           abbrev Less : Type 0
           Less = steps + weight slots new ≤ weight slots t.world
 
-          -- a step that leaves the read position and allows no more leaves less weight
+          -- a step that leaves the read position and allows no more lowers the weight
           costs_none : Keeps slots t.world.words ask × (allowance slots next ≤ allowance slots flight) → Less
           costs_none h =
               let same : new_rest (party_of r t.world.latest) ≡ old_rest (party_of r t.world.latest) =
@@ -426,7 +424,7 @@ module _ {T : Type 0} (code : Coding T) (slots queue : ℕ) where
               let few = within in
               omega arith
 
-          -- a step that allows two fewer leaves less weight, even if it moved the read position
+          -- a step that allows two steps fewer lowers the weight, even if it moved the read position
           costs_two : allowance slots next + 2 ≤ allowance slots flight → Less
           costs_two less =
               let moved = receiver_moved (read_at slots t.world.words) (read_at slots new.words) (party_of r t.world.latest) in
@@ -438,7 +436,7 @@ module _ {T : Type 0} (code : Coding T) (slots queue : ℕ) where
               let few = within in
               omega arith
 
-          -- where the receiver has died its steps weigh nothing, so that the sender's step leaves less weight
+          -- where the receiver has died its steps count for nothing, so the sender's step lowers the weight
           costs_nobody : (dead ≡ true) × (allowance slots flight ≡ most_sending slots) → Less
           costs_nobody lost =
               let rest = lost_none dead (new_rest (party_of r t.world.latest)) (old_rest (party_of r t.world.latest)) lost.0 in
@@ -456,20 +454,20 @@ module _ {T : Type 0} (code : Coding T) (slots queue : ℕ) where
               ⊎ ((dead ≡ true) × (allowance slots flight ≡ most_sending slots)) → Less
           sends_less h =
               ⊎_elim
-              (λ costs. ⊎_elim costs_none costs_two (subst (λ a. AllCosts T slots queue some few fits t.world.words flight ask a) e costs))
+              (λ costs. ⊎_elim costs_none costs_two (subst (λ a. AllCosts T slots queue some few fits t.world.words flight ask a) after_is costs))
               costs_nobody h
 
         -- ---- the receiver's
 
-        -- a step of the receiver leaves less weight
+        -- a step of the receiver lowers the weight
         receives_less : Receives p x.steps flight st → steps + weight slots new ≤ weight slots t.world
         receives_less received =
             let ne = received.0 in
             let is = received.1 in
             let alive = received.2 in
-            let fewer = subst (λ a. Fewer T slots queue t.world.words s.book.places x.steps ask flight a) e received.3 in
-            let mine : party_of r new.latest ≡ Some y = subst (λ q. party_of q new.latest ≡ Some y) is here in
-            let was : party_of r t.world.latest ≡ Some x = subst (λ q. party_of q t.world.latest ≡ Some x) is found in
+            let fewer = subst (λ a. Fewer T slots queue t.world.words s.book.places x.steps ask flight a) after_is received.3 in
+            let mine : party_of r new.latest ≡ Some y = rw (← is) here in
+            let was : party_of r t.world.latest ≡ Some x = rw (← is) found in
             let now : new_rest (Some y) ≡ receiver_call (read_at slots new.words) (x.steps + steps) next =
             ap (λ d. receiver_doing (read_at slots new.words) (x.steps + steps) d) going in
             let before : old_rest (Some x) ≡ receiver_call (read_at slots t.world.words) x.steps flight =
@@ -485,16 +483,16 @@ module _ {T : Type 0} (code : Coding T) (slots queue : ℕ) where
         less : steps + weight slots new ≤ weight slots t.world
         less = ⊎_elim (λ h. sends_less h.0 h.1) receives_less says_now.side
 
-      -- each step leaves less weight, with the end of its call or without
+      -- each step lowers the weight, or ends a call
       pub goes_on : P (record { world = new; events = t.events ++ told }) → Shows steps new told
       goes_on later = go st.after refl
         where
           go : (a : After (Flight T) (Answer T)) → st.after ≡ a → Shows steps new told
-          go (GoOn next) e = omega (arith, less later next e)
-          go (Done answer) e =
+          go (GoOn next) after_is = omega (arith, less later next after_is)
+          go (Done answer) after_is =
               let most = weight_most slots new in
               let one = steps_small ask in
               let more = ended_more st.wrote (ending_of p x.start (answer_in st.after)) in
-              let end : ends (ending_of p x.start (answer_in st.after)) ≡ 1 = rw e refl in
+              let end : ends (ending_of p x.start (answer_in st.after)) ≡ 1 = rw after_is refl in
               let paid = worth 1 (ends told) (13 * slots + 12) (omega arith) in
               omega arith

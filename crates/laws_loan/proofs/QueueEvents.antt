@@ -1,4 +1,5 @@
--- What the events tell of the two queues, beside the indices that wait in them; and how a turn's events go on with it.
+-- What the events tell of the two queues, and of the indices that wait in them; and what the events of a
+-- turn add to it.
 use Rattle.laws_loan.proofs.Names.{◌≡◌, ℕ, Bool, false, List, [], ◌∷◌, ◌++◌, map, take, fold, refl, sym, ap, subst}
 use Rattle.laws_loan.proofs.Names.{◌∙◌, append-nil, append_assoc, flat_map-append, Event, Item, Index, gives_back}
 use Rattle.laws_loan.proofs.Names.{takes_back, given_back, taken_back, reclaims_after, queue_acts, as_queue}
@@ -9,8 +10,9 @@ use Rattle.std.proofs.Common.{flat_map}
 use Rattle.model.specs.Families.Queues.Reading.{publishes, published}
 use Rattle.model.proofs.Replays.{calls_of, answers_of, standing_more, legal_more}
 
--- what goes in behind a list that another list left, and what comes out of it
+-- what goes into a list at its end, and what comes out at its front, before and after more events
 module _ {A X : Type 0} (goes_in comes_out : A → List X) (events es : List A) (old new : List X) where
+  -- what went in is what came out and what is left, with further events as well
   pub rest_more : flat_map goes_in events ≡ flat_map comes_out events ++ old → old ++ flat_map goes_in es ≡ flat_map comes_out es ++ new
       → flat_map goes_in (events ++ es) ≡ flat_map comes_out (events ++ es) ++ new
   rest_more = grind (arith, flat_map-append, append_assoc)
@@ -23,23 +25,28 @@ module _ {T : Type 0} where
   abbrev pub is_reclaiming : List (Event T) → Bool
   is_reclaiming events = fold reclaims_after false events
 
+  -- the calls on the queue in two lists of events, one behind the other, are those of the first and then
+  -- those of the second, which goes on where the first ended
   as_queue_more : (b : Bool) (xs ys : List (Event T)) → as_queue b (xs ++ ys) ≡ as_queue b xs ++ as_queue (fold reclaims_after b xs) ys
   as_queue_more b [] ys = refl
   as_queue_more b (x ∷ xs) ys =
       ap (λ l. queue_acts b x ++ l) (as_queue_more (reclaims_after b x) xs ys)
       ∙ sym (append_assoc (queue_acts b x) (as_queue (reclaims_after b x) xs) (as_queue (fold reclaims_after (reclaims_after b x) xs) ys))
 
+  -- the moments of the queue go on with those of further events
   moments_more : (events es : List (Event T)) → queue_moments (events ++ es) ≡ queue_moments events ++ as_queue (is_reclaiming events) es
   moments_more events es = as_queue_more false events es
 
-  -- what the events tell of a channel: `queue` is the capacity of its submission queue, `sent` waits in that, and `back` in the completion queue
+  -- what the events tell of a channel: `queue` is the capacity of its submission queue, `sent` waits in that,
+  -- and `back` in the completion queue
   pub record Told (queue : ℕ) (sent back : List ℕ) (events : List (Event T)) : Type 0 where
     pub book : published events ≡ handed_out events ++ items sent
     pub given : given_back events ≡ taken_back events ++ back
     pub stand : standing (overflowing_list queue) (queue_moments events) ≡ items (take queue sent)
     pub legal : IsLegal (overflowing_list queue) (queue_moments events)
 
-  -- what a turn's events `es` tell, where before them `sent` and `back` waited, and a reclaim was under way or not, and after them `sent'` and `back'` wait
+  -- what the events `es` of a turn tell of the two queues, where `sent` and `back` wait before them, and
+  -- `sent'` and `back'` after them; `reclaims` is whether a reclaim was under way
   pub record Tells (queue : ℕ) (reclaims : Bool) (sent sent' back back' : List ℕ) (es : List (Event T)) : Type 0 where
     pub book : items sent ++ published es ≡ handed_out es ++ items sent'
     pub given : back ++ given_back es ≡ taken_back es ++ back'
@@ -47,7 +54,7 @@ module _ {T : Type 0} where
     pub answers : answers_from (overflowing_list queue) (items (take queue sent)) (calls_of (as_queue reclaims es)) ≡ answers_of (as_queue reclaims es)
 
   module _ (queue : ℕ) (sent sent' back back' : List ℕ) (events es : List (Event T)) where
-    -- what the events told of the channel they tell with a turn's events behind them, of what waits then
+    -- what the events tell of the channel, with those of one turn more
     pub told_more : Told queue sent back events → Tells queue (is_reclaiming events) sent sent' back back' es → Told queue sent' back' (events ++ es)
     told_more told tells =
         let more = moments_more events es in
@@ -64,7 +71,8 @@ module _ {T : Type 0} where
               (items (take queue sent)) told.legal told.stand tells.answers);
         }
 
--- events that tell nothing of the submission queue, where of the completion queue they tell so
+-- events that tell nothing of the submission queue tell what `Tells` asks, where they tell it of the
+-- completion queue
 pub silent_tells : {T : Type 0} (queue : ℕ) (reclaims : Bool) (sent back back' : List ℕ) (es : List (Event T))
     → published es ≡ [] → handed_out es ≡ [] → as_queue reclaims es ≡ []
     → back ++ given_back es ≡ taken_back es ++ back' → Tells queue reclaims sent sent back back' es

@@ -1,4 +1,4 @@
--- A receive's steps, at whatever stage it stands, as steps of the machine.
+-- Each step of a receive, at any stage, leaves a machine with the invariant.
 use Rattle.laws_loan.proofs.Names.{◌≡◌, ℕ, ◌+◌, ◌-◌, ◌%◌, ◌^◌, ◌<◌, ◌==◌, Bool, true, false, Option, Some, [], ◌∷◌}
 use Rattle.laws_loan.proofs.Names.{length, get_or, set, fold, refl, sym, ap, subst, ◌∙◌, eq-eqb, nat_tests, Ask}
 use Rattle.laws_loan.proofs.Names.{After, OneWord, Part, Pop, Running, index_in, submission_word, shifted, pop_takes}
@@ -42,6 +42,7 @@ module _ {T : Type 0} (m : Underway T) where
 
   -- ---- it takes an index out
 
+  -- the receiver `p` is alive, and its receive is at the move of the read position, which has not moved since
   module _ (p : ℕ) (room : OneWord) (alive : has_died p s.book.dead ≡ false) (there : Stands m p (starts.Loan calls.Receive)
       (flights.Loan (receive_at slots queue p (pops.MovesRead s.submission.read) room))) where
     abbrev stage : PopStage
@@ -53,25 +54,30 @@ module _ {T : Type 0} (m : Underway T) where
     abbrev old : ℕ
     old = old_of (words_in s) asks
 
+    -- how the receive goes on once it is handed `value`: to its next stage, or to its end
     abbrev goes : ℕ → After LoanFlight (Answer T)
     goes value = received_after T slots p (pop_keeps room stage value) (pop_takes (pop_on queue stage) stage value)
 
+    -- what the step does to the channel
     abbrev does : ℕ → Effect
     does value = receive_effect (submission_word slots) queue (words_in s) (beside s.book (words_in s) t.world.latest p) stage value
 
+    -- the index with which a send waits for this move, if one does
     abbrev waits : Option ℕ
     waits = hung s.submission.read (sends_at t.world.latest)
 
-    abbrev With : Bool → After LoanFlight (Answer T) → Effect → Type 0
-    With back after effect =
+    -- a step after which the receive is as `after` says leaves a machine with the invariant
+    abbrev StepIsSound : Bool → After LoanFlight (Answer T) → Effect → Type 0
+    StepIsSound back after effect =
         ComesBy m p calls.Receive asks back after effect
 
+    -- the receive has written nothing yet
     from : span_of p s.events ≡ Open (starts.Loan calls.Receive) []
     from = grind arith
 
-    -- the move of the read position where it was found ends the receive with the index in its
-    -- room, and a send that waited for it acts
-    takes : With false (Done (answers.PoppedIndex room.0)) (effects.Receives room.0 (by_sender waits))
+    -- the exchange of the read position ends the receive with the index in its room, and a
+    -- send that waited acts
+    takes : StepIsSound false (Done (answers.PoppedIndex room.0)) (effects.Receives room.0 (by_sender waits))
     takes =
         let holds_there = holds_now m in
         let inv = inv_now m in
@@ -98,7 +104,7 @@ module _ {T : Type 0} (m : Underway T) where
         (take_shows scene p room.0 front.0 receiver_calls inv front.1 there.steps (omega arith))
         (take_owes scene p room.0 front.0 receiver_calls inv front.1 there.steps (omega arith))
 
-    -- as the call computes it
+    -- the step in which the receive takes an index out leaves a machine with the invariant
     takes_out : Comes m p (starts.Loan calls.Receive) (flights.Loan (receive_at slots queue p stage room))
     takes_out =
         let holds_there = holds_now m in
@@ -122,34 +128,35 @@ module _ {T : Type 0} (m : Underway T) where
         in
         let push = beside_is code slots queue s t.world.latest t.world.turns holds_there p known.0 (span_of 0 s.events) (inv.calls 0) in
         let effect : does old ≡ effects.Receives room.0 (by_sender waits) = ap does found ∙ (rw (here, place, push) refl) in
-        subst (λ b. With b (goes old) (does old)) (sym back)
-        (subst (λ a. With false a (does old)) (sym comes_to)
-        (subst (λ e. With false (Done (answers.PoppedIndex room.0)) e) (sym effect) takes))
+        rw (back, comes_to, effect) takes
 
   -- ---- any step
 
   module _ (p : ℕ) (alive : has_died p s.book.dead ≡ false) where
+    -- the receive stands in the machine at this stage, with this room
     abbrev StandsAt : PopStage → OneWord → Type 0
     StandsAt stage room =
         Stands m p (starts.Loan calls.Receive) (flights.Loan (receive_at slots queue p stage room))
 
+    -- the step of the receive at this stage leaves a machine with the invariant
     abbrev ComesAt : PopStage → OneWord → Type 0
     ComesAt stage room =
         Comes m p (starts.Loan calls.Receive) (flights.Loan (receive_at slots queue p stage room))
 
-    -- the move of the read position comes on as a step of the machine, whether a send has moved it before or not
+    -- the exchange of the read position leaves a machine with the invariant, whether a send has moved the
+    -- position before or not
     moves_read : (read : ℕ) (room : OneWord) → StandsAt (pops.MovesRead read) room → ComesAt (pops.MovesRead read) room
     moves_read read room there = go (s.submission.read == read) refl
       where
-        -- the cases are whether the read position is still what was read
+        -- the cases are whether the read position is still the one that was loaded
         go : (b : Bool) → (s.submission.read == read) ≡ b → ComesAt (pops.MovesRead read) room
-        go true e =
+        go true read_same =
             let same : read ≡ s.submission.read = grind (arith, nat_tests) in
             subst (λ n. ComesAt (pops.MovesRead n) room) (sym same)
             (takes_out p room alive (subst (λ n. StandsAt (pops.MovesRead n) room) same there))
-        go false e = receive_looks m p (pops.MovesRead read) room alive e there
+        go false read_moved = receive_looks m p (pops.MovesRead read) room alive read_moved there
 
-    -- the step of each stage of a receive comes to what it should
+    -- the step of a receive at any stage leaves a machine with the invariant
     at_stage : (stage : PopStage) (room : OneWord) → StandsAt stage room → ComesAt stage room
     at_stage (pops.MovesRead read) room there = moves_read read room there
     at_stage pops.FindsNone room there = receive_looks m p pops.FindsNone room alive tt there
@@ -159,7 +166,7 @@ module _ {T : Type 0} (m : Underway T) where
     at_stage (pops.LoadsCell read) room there =
         receive_looks m p (pops.LoadsCell read) room alive tt there
 
-    -- a receive of a party that lives
+    -- the step of a receive of a living party leaves a machine with the invariant
     pub receive_comes : (by : ℕ) (run : Running (Part Pop) (Unit {0}) OneWord)
         → Stands m p (starts.Loan calls.Receive) (flights.Loan (Receive by run))
         → Comes m p (starts.Loan calls.Receive) (flights.Loan (Receive by run))

@@ -1,4 +1,5 @@
--- The step of a receive that takes an index out: what it shows, and what it owes to the sender, whose send may have waited for it.
+-- The step of a receive that takes an index out: what it shows of the channel, and what it owes to the
+-- sender, whose send may have waited for it.
 use Rattle.laws_loan.proofs.Names.{◌≡◌, ◌≢◌, ℕ, suc, ◌+◌, ◌-◌, ◌*◌, ◌^◌, ◌<◌, ◌≤◌, ⊎_elim, inr, false, Option, Some}
 use Rattle.laws_loan.proofs.Names.{List, [], ◌∷◌, ◌++◌, length, set, refl, sym, ap, subst, ◌∙◌, cases_eq, Ask}
 use Rattle.laws_loan.proofs.Names.{submission_word, shifted, Event, Start, Flight, Book, Party, ask_of}
@@ -32,6 +33,7 @@ use Rattle.laws_loan.proofs.SenderInterference.{Stays, theirs_stay, knows_keeps}
 use Rattle.laws_loan.proofs.QueueEvents.{is_reclaiming, Tells}
 use Rattle.laws_loan.proofs.Turns.{Shows}
 
+-- the receiver `p` takes the index `value` out of the submission queue, behind which `rest` waits
 module _ {T : Type 0} (scene : Scene T) (p value : ℕ) (rest : List ℕ) where
   open scene use {coding as code, slots, queue, state as s, latest, turns, changes, since, caller as x}
 
@@ -45,117 +47,136 @@ module _ {T : Type 0} (scene : Scene T) (p value : ℕ) (rest : List ℕ) where
   abbrev pub waits : Option ℕ
   waits = hung s.submission.read (sends_at latest)
 
+  -- the events of the step
   abbrev pub es : List (Event T)
   es = told p value waits
 
+  -- the book after the step, in which the receiver has the index
   abbrev pub book_then : Book
   book_then = record s.book { holders = set s.book.holders value (Some p) }
 
+  -- the channel after the step
   abbrev pub s_then : Channel T
   s_then = taken_then slots queue s rest book_then (s.events ++ es) p
 
+  -- the channel after the step
   abbrev k : Core ℕ
   k = taken_out slots queue s rest book_then (s.events ++ es) p
 
+  -- the receiver after the step
   abbrev pub y_then : Party T
   y_then = party_then scene calls.Receive asks false (Done (answer p value))
 
+  -- the receive is at its move of the read position, and `value` is the oldest index that waits
   module _ (r : ReceiverCalls scene p calls.Receive) (inv : frame.Inv channel s latest s.events changes)
       (first : s.submission.waiting ≡ value ∷ rest) (steps : x.steps ≤ 2 * x.backs + 3) (paid : x.backs + since ≤ changes) where
-    open r use {holds as h, other, receives, from}
+    open r use {holds, other, receives, from}
 
     -- ---- the words
 
+    -- the write position is below its last value
     low_write : s.submission.write < 2 ^ 64 - 2
-    low_write = let sent = h.sent in omega arith
+    low_write = let sent = holds.sent in omega arith
 
+    -- the word of the read position is one of the queue's
     on : 1 < length (layout no_roles s.submission)
-    on = let wide = submission_long slots queue s (counted_for (sends_at latest)) h.parts in omega arith
+    on = let wide = submission_long slots queue s (counted_for (sends_at latest)) holds.parts in omega arith
 
+    -- the words after the exchange are those of the channel whose front is taken
     pub take_words : words_after (words_in s) asks ≡ words_in s_then
     take_words =
-        submission_words slots queue s (counted_for (sends_at latest)) h.parts (pop_asks queue (pops.MovesRead s.submission.read)) on
+        submission_words slots queue s (counted_for (sends_at latest)) holds.parts (pop_asks queue (pops.MovesRead s.submission.read)) on
         ∙ ap (λ ws. s.set ++ (ws ++ layout no_roles s.completion))
-        (submission.take_words queue h.parts.some h.parts.few s.submission h.parts.submission low_write value rest first)
+        (submission.take_words queue holds.parts.some holds.parts.few s.submission holds.parts.submission low_write value rest first)
 
+    -- the exchange changes one word
     one : change_of (words_in s) asks ≡ 1
     one =
-        submission_change slots queue s (counted_for (sends_at latest)) h.parts (pop_asks queue (pops.MovesRead s.submission.read)) on
-        ∙ submission.take_changes queue h.parts.some h.parts.few s.submission h.parts.submission low_write value rest first
+        submission_change slots queue s (counted_for (sends_at latest)) holds.parts (pop_asks queue (pops.MovesRead s.submission.read)) on
+        ∙ submission.take_changes queue holds.parts.some holds.parts.few s.submission holds.parts.submission low_write value rest first
 
-    -- ---- where the index is
+    -- ---- where each index is
 
+    -- the index is one of the channel
     below : value < slots
-    below = sent_below slots s.claims s.submission.waiting s.completion.waiting s.book s.events h.parts.placed value rest first
+    below = sent_below slots s.claims s.submission.waiting s.completion.waiting s.book s.events holds.parts.placed value rest first
 
+    -- the index that is taken waited
     was_waiting : spot_of value s.events ≡ Waiting
     was_waiting = grind (arith, waits_there, first_there)
 
+    -- each index is where the book and the events say, before the receive ends
     placed_run : Placed slots s.claims rest s.completion.waiting s.book (run p value s.events waits)
     placed_run =
         placed_still slots s.claims rest s.completion.waiting s.book (s.events ++ hands p value ∷ []) (acts p value ∷ made waits) (still p value s.events waits)
-        (hands_it_out slots s.claims s.submission.waiting s.completion.waiting s.book s.events h.parts.placed value
-        below p rest first (inr (receives ∙ h.parts.placed.keeps.receiver)))
+        (hands_it_out slots s.claims s.submission.waiting s.completion.waiting s.book s.events holds.parts.placed value
+        below p rest first (inr (receives ∙ holds.parts.placed.keeps.receiver)))
 
+    -- each index is where the book and the events say, once the receive has ended
     placed_then : Placed slots s.claims rest s.completion.waiting book_then (s.events ++ es)
     placed_then =
         subst (Placed slots s.claims rest s.completion.waiting book_then) (whole p value s.events waits)
         (receive_ends slots s.claims rest s.completion.waiting s.book (run p value s.events waits) placed_run value
         below p other (receives ∙ placed_run.keeps.receiver) (passing_run p value s.events waits))
 
+    -- the index passes from the submission queue to the receiver's call
     takes : Takes slots queue s rest book_then (s.events ++ es) p
     takes = grind (arith, passing_on, elsewhere, was_waiting, waiting_passes)
 
-    -- an index that is in passing afterwards is carried by the span of its party's call
+    -- an index in passing afterwards is carried by the span of its party's call
     passing_then : (i q : ℕ) → spot_of i (s.events ++ es) ≡ Passing q → Carries i (span_of q (s.events ++ es))
-    passing_then i q e = ⊎_elim mine others (cases_eq value i)
+    passing_then i q spot_is = ⊎_elim mine others (cases_eq value i)
       where
+        -- the index that is taken out is not in passing
         mine : value ≡ i → Carries i (span_of q (s.events ++ es))
-        mine same = absurd (with_passes p q (sym (has_it p value s.events waits) ∙ (ap (λ n. spot_of n (s.events ++ es)) same ∙ e)))
+        mine same = absurd (with_passes p q (sym (has_it p value s.events waits) ∙ (ap (λ n. spot_of n (s.events ++ es)) same ∙ spot_is)))
 
-        -- so it is of an index that is not the one taken out
+        -- any other index was in passing before
         others : value ≢ i → Carries i (span_of q (s.events ++ es))
         others ne =
-            let carried = h.passing i q (sym (elsewhere p value s.events waits i ne) ∙ e) in
-            ⊎_elim (λ (here : q ≡ p). absurd (subst (Carries i) from (subst (λ n. Carries i (span_of n s.events)) here carried))) (λ (away : q ≢ p).
-            ⊎_elim (λ (sender : q ≡ 0). subst (λ n. Carries i (span_of n (s.events ++ es))) (sym sender)
-            (subst (Carries i) (sym (senders_then p value s.events other waits))
-            (carries_made waits i (span_of 0 s.events) (subst (λ n. Carries i (span_of n s.events)) sender carried))))
+            let carried = holds.passing i q (sym (elsewhere p value s.events waits i ne) ∙ spot_is) in
+            ⊎_elim (λ (here : q ≡ p). absurd (subst (Carries i) from (rw (← here) carried))) (λ (away : q ≢ p).
+            ⊎_elim (λ (sender : q ≡ 0). rw sender (subst (Carries i) (sym (senders_then p value s.events other waits))
+            (carries_made waits i (span_of 0 s.events) (rw (← sender) carried))))
             (λ (far : q ≢ 0). subst (Carries i) (sym (others_then p value s.events other waits q away far)) carried) (cases_eq q 0)) (cases_eq q p)
 
     -- ---- the queues
 
+    -- one index less waits
     shorter : length s.submission.waiting ≡ suc (length rest)
     shorter = ap length first
 
+    -- no more indices than the capacity wait once one is taken
     few_rest : length rest ≤ queue
-    few_rest = let few = h.parts.submission.few in let long = shorter in omega arith
+    few_rest = let few = holds.parts.submission.few in let long = shorter in omega arith
 
     -- no reclaim is under way
     quiet : is_reclaiming s.events ≡ false
     quiet = grind (arith, none_reclaims, takes)
 
+    -- the receive leaves the call of the sender
     sends_still : sends_at (put p y_then latest) ≡ sends_at latest
     sends_still = ap (λ o. flight_of (doing_of o)) (party_put_other 0 p y_then latest (λ e. other (sym e)))
 
-    -- no send waits for the next read position
+    -- no send waits for the next read position, so it is enough that at most the capacity waits
     hangs_then : Hangs queue k (hung (s.submission.read + 1) (sends_at (put p y_then latest)))
     hangs_then = grind (arith, sends_at, put, sends_still, past_none, few_rest)
 
+    -- what holds of the parts of the channel holds afterwards
     parts_then : Holds slots queue s_then (counted_for (sends_at (put p y_then latest)))
     parts_then =
-        let good = submission.take_good queue h.parts.some h.parts.few s.submission h.parts.submission low_write value rest first in
+        let good = submission.take_good queue holds.parts.some holds.parts.few s.submission holds.parts.submission low_write value rest first in
         grind (arith, sends_still, placed_then)
 
-    -- the step that takes an index out shows what a turn has to
+    -- the step keeps what holds between two turns (`Shows`, Turns)
     pub take_shows : Shows slots queue s s_then p y_then latest turns es
     take_shows =
-        let sent = h.sent in
-        let given = h.given in
+        let sent = holds.sent in
+        let given = holds.given in
         let same = receiver_told p value s.events waits in
         let tells =
         subst (λ b. Tells queue b s.submission.waiting rest s.completion.waiting s.completion.waiting es) (sym quiet)
-        (tells_told p value queue s.submission.waiting rest s.completion.waiting waits h.parts.some first s.submission refl h.hangs) in
+        (tells_told p value queue s.submission.waiting rest s.completion.waiting waits holds.parts.some first s.submission refl holds.hangs) in
         let reclaims = reclaims_told p value s.events waits (is_reclaiming s.events) in
         let made = reclaims_made waits (span_of 0 s.events) in
         let senders = senders_then p value s.events other waits in
@@ -164,32 +185,35 @@ module _ {T : Type 0} (scene : Scene T) (p value : ℕ) (rest : List ℕ) where
         let answers = answers_told p value s.events slots waits in
         grind (arith, parts_then, quiet, hangs_then, passing_then)
 
-    -- ---- what it owes
+    -- ---- what the step owes to the other parties
 
+    -- what another party's call reads stays
     stays : (q : ℕ) → q ≢ p → Stays slots queue s s_then q
     stays = grind arith
 
+    -- a call of a third party stands where it stood
     still_at : (q : ℕ) → q ≢ p → q ≢ 0 → (start : Start T) (flight : Flight T) → channel.At s q start flight
         → channel.At s_then q start flight × (channel.written s_then q flight ≡ channel.written s q flight)
     still_at = grind (arith, others_then, theirs_stay, stays)
 
-    -- the calls of the other parties stand as their spans say, with the send that waited having acted
+    -- the calls of the other parties fit their spans, where the send that waited has acted
     others_fit : (q : ℕ) → q ≢ p → frame.Fits channel s_then q (party_of q latest) (span_of q (s.events ++ es))
     others_fit q ne =
-        ⊎_elim (λ (sender : q ≡ 0). subst (λ n. frame.Fits channel s_then n (party_of n latest) (span_of n (s.events ++ es))) (sym sender)
-        (sender_fits slots queue s rest book_then (s.events ++ es) p takes other code (party_of 0 latest)
+        ⊎_elim (λ (sender : q ≡ 0). rw sender (sender_fits slots queue s rest book_then (s.events ++ es) p takes other code (party_of 0 latest)
         (inv.calls 0) (senders_then p value s.events other waits))) (λ (far : q ≢ 0).
-        subst (λ a. frame.Fits channel s_then q (party_of q latest) a) (sym (others_then p value s.events other waits q ne far))
+        rw (others_then p value s.events other waits q ne far)
         (frame.still_fits channel s s_then q (still_at q ne far) (party_of q latest) (span_of q s.events) (inv.calls q))) (cases_eq q 0)
 
+    -- the read position goes up by one, which one change pays for
     goes_up : GoesUp s.submission k changes (changes + change_of (words_in s) asks)
     goes_up = grind (arith, one)
 
+    -- what a call knows of the counts stays known
     know_still : (q sooner backs : ℕ) (flight : Flight T) → channel.Knows s q s.events sooner changes backs flight
         → channel.Knows s_then q (s.events ++ es) sooner (changes + change_of (words_in s) asks) backs flight
     know_still = grind (arith, knows_keeps, goes_up)
 
-    -- it owes the other calls nothing more, so it comes to what the frame asks
+    -- the step gives the frame what it asks of a turn
     pub take_owes : frame.Owes channel s_then p y_then latest s.events es (changes + change_of (words_in s) asks)
     take_owes =
         let change = one in

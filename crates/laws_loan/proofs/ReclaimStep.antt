@@ -1,4 +1,5 @@
--- A reclaim, as steps of the machine: it pops the two queues, and releases one index after the other that was sent.
+-- Each step of a reclaim leaves a machine with the invariant. A reclaim pops the two queues, and then
+-- releases one after the other the indices that are sent.
 use Rattle.laws_loan.proofs.Names.{◌≡◌, ◌≢◌, ℕ, ◌+◌, ◌*◌, ◌%◌, ◌^◌, ◌<◌, ◌≤◌, false, Option, Some, None, List}
 use Rattle.laws_loan.proofs.Names.{[], ⊎_elim, refl, sym, ap, subst, ◌∙◌, AllByRecursion, cases_lt, Ask, After, GoOn}
 use Rattle.laws_loan.proofs.Names.{ReleaseState, DefaultMode, Release, ReleaseStage, Place, ReclaimStage, Releases}
@@ -24,7 +25,7 @@ use Rattle.laws_loan.proofs.Frees.{frees_at, all_less, frees_for, leads, on_word
 use Rattle.laws_loan.proofs.Invariant.{sends_at, counted_for, HoldsNow}
 use Rattle.laws_loan.proofs.Knows.{wrote_in, StageAt}
 use Rattle.laws_loan.proofs.Parts.{set_old}
-use Rattle.laws_loan.proofs.ReclaimGoes.{asked, old, goes, effect_at, Does}
+use Rattle.laws_loan.proofs.ReclaimGoes.{asked, old, goes, effect_at, StageKeeps}
 use Rattle.laws_loan.proofs.Reclaiming.{reclaim_at, Reclaims}
 use Rattle.laws_loan.proofs.Scene.{Scene, Underway, scene_of}
 use Rattle.laws_loan.proofs.Senders.{Stands, Comes, from_step}
@@ -32,7 +33,7 @@ use Rattle.laws_loan.proofs.SentIndices.{ComesTo, comes_to}
 use Rattle.laws_loan.proofs.SetSteps.{ReleaseLeads}
 use Rattle.laws_loan.proofs.StepLaw.{holds_now, ComesWith, ComesBy}
 
--- how a reclaim goes on whose release goes on so
+-- how a reclaim goes on, or ends, where `release` is how its release has gone on or ended
 abbrev pub reclaimed_after : (T : Type 0) → reclaims.Reclaim → List Place → ℕ → ℕ → After (Release DefaultMode) ReleaseState → After LoanFlight (Answer T)
 reclaimed_after T call table number index release = as_call Reclaim Number (reclaim_released call table number index release)
 
@@ -45,38 +46,44 @@ module _ {T : Type 0} (m : Underway T) where
   abbrev s : Channel T
   s = sound.state
 
+  -- what the reclaim has written so far
   abbrev wrote : List (Event T)
   wrote = wrote_in (span_of 0 s.events)
 
-  abbrev There : ReclaimStage → Type 0
-  There stage =
+  -- the reclaim stands in the machine at this stage
+  abbrev StandsAt : ReclaimStage → Type 0
+  StandsAt stage =
       Stands m 0 (starts.Loan calls.Reclaim) (flights.Loan (reclaim_at slots queue stage))
 
-  abbrev Goes : ReclaimStage → Type 0
-  Goes stage = Comes m 0 (starts.Loan calls.Reclaim) (flights.Loan (reclaim_at slots queue stage))
+  -- the step of the reclaim at this stage leaves a machine with the invariant
+  abbrev StageIsSound : ReclaimStage → Type 0
+  StageIsSound stage = Comes m 0 (starts.Loan calls.Reclaim) (flights.Loan (reclaim_at slots queue stage))
 
   abbrev now : HoldsNow slots queue s t.world.latest s.events t.world.turns
   now = holds_now m
 
-  from : (stage : ReclaimStage) → There stage → span_of 0 s.events ≡ Open (starts.Loan calls.Reclaim) wrote
+  -- the reclaim that stands in the machine has written what its span says
+  from : (stage : ReclaimStage) → StandsAt stage → span_of 0 s.events ≡ Open (starts.Loan calls.Reclaim) wrote
   from stage there = ap (span_of 0) sound.holds.same ∙ there.span
 
-  stands : (stage : ReclaimStage) → There stage → Reclaims scene wrote stage
+  -- a reclaim that stands in the machine stands as `Reclaims` says
+  stands : (stage : ReclaimStage) → StandsAt stage → Reclaims scene wrote stage
   stands stage there = record { holds = now; here = there.found; from = from stage there; known = there.at.3; straight = there.knows }
 
-  -- ---- it releases an index, and comes to the next one that is sent, or ends
+  -- ---- the release of an index; then the reclaim comes to the next one that is sent, or ends
 
   module _ (number index : ℕ) where
+    -- the reclaim at a stage of the release
     abbrev call : ReleaseStage → reclaims.Reclaim
     call stage = record { slots = slots; queue = queue; stage = Releases number index stage }
 
     abbrev FreesThere : ReleaseStage → Type 0
-    FreesThere stage = There (Releases number index stage)
+    FreesThere stage = StandsAt (Releases number index stage)
 
     -- ---- the clear of the flag
 
-    -- the clear of the flag comes on as a step of the machine
-    clears : FreesThere releases.ClearsFlag → Goes (Releases number index releases.ClearsFlag)
+    -- the clear of the flag leaves a machine with the invariant
+    clears : FreesThere releases.ClearsFlag → StageIsSound (Releases number index releases.ClearsFlag)
     clears there =
         let few = there.steps in
         let clear = clears_steps scene number index wrote (stands (Releases number index releases.ClearsFlag) there) (omega arith) in
@@ -86,29 +93,35 @@ module _ {T : Type 0} (m : Underway T) where
 
     -- ---- every later step
 
+    -- the reclaim is at a later stage of the release
     module _ (stage : ReleaseStage) (heavy : release_counts stage ≡ 1) (there : FreesThere stage) where
+      -- the operation of the release's step
       abbrev ask : Option Ask
       ask = ask_of (back_asks slots index stage)
 
+      -- the words of the set after the step
       abbrev words_then : List ℕ
       words_then = words_after s.set ask
 
+      -- the span of the reclaim is open before the step, with what it has written
       was_open : span_of 0 s.events ≡ Open (starts.Loan calls.Reclaim) wrote
       was_open = from (Releases number index stage) there
 
+      -- where the release of the reclaim stands
       r : Reclaims scene wrote (Releases number index stage)
       r = stands (Releases number index stage) there
 
-      abbrev With : After LoanFlight (Answer T) → Type 0
-      With after =
+      -- a step after which the reclaim is as `after` says leaves a machine with the invariant
+      abbrev StepIsSound : After LoanFlight (Answer T) → Type 0
+      StepIsSound after =
           ComesWith m 0 calls.Reclaim ask false after [] (ended_book {T = T} 0 calls.Reclaim (answer_in after) s.book)
 
-      -- it goes on at this stage
+      -- the reclaim goes on to the stage `stage'` of a release
       goes_on : (number' index' : ℕ) (stage' : ReleaseStage)
           → indices.Good slots words_then s.claims (release_counts stage')
           → StageAt slots s.submission s.completion s.book.places wrote (Releases number' index' stage')
           → x.steps + 1 ≤ 8 * (slots + 1) + 5 * number' + release_number stage' 0
-          → With (GoOn (frees_at slots queue number' index' stage'))
+          → StepIsSound (GoOn (frees_at slots queue number' index' stage'))
       goes_on number' index' stage' good known more =
           from_step m calls.Reclaim ask (GoOn (frees_at slots queue number' index' stage')) effects.Quiet _ wrote was_open (
             goes_steps scene number index wrote stage heavy r there.steps number' index' stage' good
@@ -116,10 +129,10 @@ module _ {T : Type 0} (m : Underway T) where
             refl,
           )
 
-      -- the release is done
+      -- the release has ended: the reclaim goes on with the next index that is sent, or ends
       next : indices.Good slots words_then s.claims 0 → release_number stage 0 + 1 ≤ 5 → (o : Option ℕ)
           → ComesTo s.book.places slots (index + 1) o
-          → With (as_call Reclaim Number (reclaim_releases (call stage) (number + 1) o))
+          → StepIsSound (as_call Reclaim Number (reclaim_releases (call stage) (number + 1) o))
       next good last None none =
           let few = there.steps in
           from_step m calls.Reclaim ask (Done (Number (number + 1))) effects.Quiet _ wrote was_open (
@@ -129,7 +142,7 @@ module _ {T : Type 0} (m : Underway T) where
             refl,
           )
         where
-          -- no index up to this one is on its way to the receiver
+          -- no index up to this one is sent any more
           before : (j : ℕ) → j < index + 1 → place_at s.book.places j ≢ places.Sent
           before j low = there.at.3.stage_at.5 j (omega arith)
       next good last (Some i) comes =
@@ -150,11 +163,11 @@ module _ {T : Type 0} (m : Underway T) where
           )
           (omega arith)
 
-      -- where the release leads on so over the set, the reclaim goes on with it, comes to the next
-      -- index that is sent, or ends
+      -- where `release` is how the release goes on or ends, as `SetSteps` says, the reclaim goes on with it,
+      -- comes to the next index that is sent, or ends
       leads_on : (release : After (Release DefaultMode) ReleaseState)
           → ReleaseLeads slots stage words_then s.claims release
-          → With (reclaimed_after T (call stage) s.book.places number index release)
+          → StepIsSound (reclaimed_after T (call stage) s.book.places number index release)
       leads_on (GoOn release) release_leads =
           let few = there.steps in
           let stage_stands = there.at.3.stage_at in
@@ -177,38 +190,36 @@ module _ {T : Type 0} (m : Underway T) where
           let low = now.parts.set.few in
           let counted : (number + 1) % 2 ^ 64 ≡ number + 1 = omega arith in
           let next_one : (index + 1) % 2 ^ 32 ≡ index + 1 = omega arith in
-          subst (λ n. With (as_call Reclaim Number (reclaim_comes_to (call stage) s.book.places n ((index + 1) % 2 ^ 32)))) (sym counted)
-          (subst (λ i. With (as_call Reclaim Number (reclaim_comes_to (call stage) s.book.places (number + 1) i))) (sym next_one)
-          (next release_leads.0 release_leads.1 (next_sent s.book.places slots (index + 1)) (comes_to s.book.places slots (index + 1))))
+          rw (counted, next_one)
+          (next release_leads.0 release_leads.1 (next_sent s.book.places slots (index + 1)) (comes_to s.book.places slots (index + 1)))
 
-      -- every later step of the release comes on
-      later : With (reclaimed_after T (call stage) s.book.places number index (back_takes slots stage (old_of (words_in s) ask)))
+      -- every later step of the release leaves a machine with the invariant
+      later : StepIsSound (reclaimed_after T (call stage) s.book.places number index (back_takes slots stage (old_of (words_in s) ask)))
       later =
           let value : old_of (words_in s) ask ≡ old_of s.set ask =
           set_old slots queue s (counted_for (sends_at t.world.latest)) now.parts (back_asks slots index stage)
           (on_words scene number index wrote stage r) in
-          subst (λ v. With (reclaimed_after T (call stage) s.book.places number index (back_takes slots stage v))) (sym value)
-          (leads_on (back_takes slots stage (old_of s.set ask)) (leads scene number index wrote stage heavy r there.steps))
+          rw value (leads_on (back_takes slots stage (old_of s.set ask)) (leads scene number index wrote stage heavy r there.steps))
 
     -- ---- any step
 
-    reclaim_frees : (stage : ReleaseStage) → FreesThere stage → Goes (Releases number index stage)
+    -- each step of the release leaves a machine with the invariant
+    reclaim_frees : (stage : ReleaseStage) → FreesThere stage → StageIsSound (Releases number index stage)
     reclaim_frees = grind (arith, clears, later)
 
   -- ---- any step
 
-  -- no pop of it turns back
-  pops : (stage : ReclaimStage) → There stage → Does scene wrote stage → Goes stage
+  -- a step of a pop of the reclaim, none of which turns back, leaves a machine with the invariant
+  pops : (stage : ReclaimStage) → StandsAt stage → StageKeeps scene wrote stage → StageIsSound stage
   pops stage there does =
       let value = old scene wrote stage in
       let after = goes scene wrote stage value in
       let effect = effect_at scene wrote stage value in
       let ask = asked scene wrote stage in
-      subst (λ back. ComesBy m 0 calls.Reclaim ask back after effect) (sym does.stays)
-      (from_step m calls.Reclaim ask after effect does.channel_then wrote (from stage there) does.step)
+      rw does.stays (from_step m calls.Reclaim ask after effect does.channel_then wrote (from stage there) does.step)
 
-  -- a reclaim comes on as a step of the machine, whatever its stage
-  pub reclaim_steps : (stage : ReclaimStage) → There stage → Goes stage
+  -- the step of a reclaim at any stage leaves a machine with the invariant
+  pub reclaim_steps : (stage : ReclaimStage) → StandsAt stage → StageIsSound stage
   reclaim_steps (stages.Drains stage) there =
       let r = stands (stages.Drains stage) there in
       pops (stages.Drains stage) there (drains_does scene wrote small (stages.Drains stage) r refl stage r.known.stage_at there.steps)
@@ -217,7 +228,7 @@ module _ {T : Type 0} (m : Underway T) where
       pops (stages.Empties stage) there (empties_does scene wrote small (stages.Empties stage) r refl stage r.known.stage_at there.steps)
   reclaim_steps (Releases number index stage) there = reclaim_frees number index stage there
 
-  -- as the machine has the call
+  -- the step of the reclaim as the machine has it leaves a machine with the invariant
   pub reclaim_steps_from : (held : reclaims.Reclaim)
       → Stands m 0 (starts.Loan calls.Reclaim) (flights.Loan (Reclaim held))
       → Comes m 0 (starts.Loan calls.Reclaim) (flights.Loan (Reclaim held))

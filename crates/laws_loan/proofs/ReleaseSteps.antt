@@ -1,4 +1,5 @@
--- The release with which a give-up, a send and a take-back end, as steps of the machine.
+-- Each step of the release with which a give-up, a send or a take-back ends leaves a
+-- machine with the invariant.
 use Rattle.laws_loan.proofs.Names.{◌≡◌, ℕ, ◌<◌, false, Option, Some, None, List, [], ◌∷◌, ◌++◌}
 use Rattle.laws_loan.proofs.Names.{set, sym, ap, subst, ◌∙◌, append-nil, Ask, After, GoOn, ReleaseState, DefaultMode}
 use Rattle.laws_loan.proofs.Names.{Release, ReleaseStage, back_asks, back_takes, Answer, Event, Freed, LoanFlight}
@@ -19,10 +20,11 @@ use Rattle.laws_loan.proofs.Senders.{from_step}
 use Rattle.laws_loan.proofs.SetSteps.{ReleaseLeads}
 use Rattle.laws_loan.proofs.StepLaw.{holds_now, ComesBy}
 
--- an index that is released is one of the channel
+-- an index that is released is an index of the channel
 pub gives_below : {T : Type 0} (slots queue : ℕ) (s : Channel T) (index : ℕ) (stage : ReleaseStage) → GivesAt slots queue s index stage → index < slots
 gives_below = grind arith
 
+-- the sender has a call that ends with the release `r` of this index
 module _ {T : Type 0} (m : Underway T) (index : ℕ) (r : Releasing T m.slots m.queue index) (straight : m.caller.backs ≡ 0) where
   open m use {slots, queue, trace as t, sound}
 
@@ -32,27 +34,30 @@ module _ {T : Type 0} (m : Underway T) (index : ℕ) (r : Releasing T m.slots m.
   abbrev s : Channel T
   s = sound.state
 
+  -- the operation of the release's step
   abbrev asked : ReleaseStage → Option Ask
   asked stage = ask_of (back_asks slots index stage)
 
-  -- the release's step leads on, with this effect
-  abbrev pub With : ReleaseStage → Effect → After LoanFlight (Answer T) → Type 0
-  With stage effect after =
+  -- a step of the release at this stage, with this effect, leaves a machine with the invariant
+  abbrev pub StepIsSound : ReleaseStage → Effect → After LoanFlight (Answer T) → Type 0
+  StepIsSound stage effect after =
       ComesBy m 0 r.start (asked stage) false after effect
 
-  abbrev Goes : ReleaseStage → ℕ → Type 0
-  Goes stage value = With stage (release_effect index stage) (embedded r.at r.answer (back_takes slots stage value))
+  -- the step of the release at this stage, where its word has the value `value`, leaves a
+  -- machine with the invariant
+  abbrev StageIsSound : ReleaseStage → ℕ → Type 0
+  StageIsSound stage value = StepIsSound stage (release_effect index stage) (embedded r.at r.answer (back_takes slots stage value))
 
-  h : HoldsNow slots queue s t.world.latest s.events t.world.turns
-  h = holds_now m
+  holds_before : HoldsNow slots queue s t.world.latest s.events t.world.turns
+  holds_before = holds_now m
 
-  -- the release's call stands there
-  abbrev There : ReleaseStage → Type 0
-  There stage = Stands scene index r stage
+  -- the call stands at this stage of its release
+  abbrev StandsAt : ReleaseStage → Type 0
+  StandsAt stage = Stands scene index r stage
 
   module _ (below : index < slots) where
-    -- the clear of the flag
-    clears : There releases.ClearsFlag → Goes releases.ClearsFlag (old_of s.set (asked releases.ClearsFlag))
+    -- the clear of the flag leaves a machine with the invariant
+    clears : StandsAt releases.ClearsFlag → StageIsSound releases.ClearsFlag (old_of s.set (asked releases.ClearsFlag))
     clears there =
         from_step m r.start (asked releases.ClearsFlag) (GoOn (r.at releases.LoadsHead)) (effects.Frees index) (record s {
           set = words_after s.set (asked releases.ClearsFlag);
@@ -61,46 +66,51 @@ module _ {T : Type 0} (m : Underway T) (index : ℕ) (r : Releasing T m.slots m.
           events = s.events ++ Freed 0 index ∷ [];
         }) r.before
         (there.from ∙ ap (λ es. Open (starts.Loan r.start) es) (append-nil r.before)) (
-          clears_steps scene index r below h there straight,
+          clears_steps scene index r below holds_before there straight,
           r.so.book None (book_after {T = T} s.book (Freed 0 index)),
         )
 
-    module _ (stage : ReleaseStage) (heavy : release_counts stage ≡ 1) (there : There stage) where
+    module _ (stage : ReleaseStage) (heavy : release_counts stage ≡ 1) (there : StandsAt stage) where
+      -- the words of the set after the step
       abbrev words_then : List ℕ
       words_then = words_after s.set (asked stage)
 
+      -- what the call has written, with the free of the index
       abbrev wrote_now : List (Event T)
       wrote_now = r.before ++ Freed 0 index ∷ []
 
-      -- where the release leads on so over the set, the call goes on with it, or ends with its answer
+      -- where `release` is how the release goes on or ends, as `SetSteps` says, the call goes on with it, or
+      -- ends with its answer
       leads_on : (release : After (Release DefaultMode) ReleaseState)
           → ReleaseLeads slots stage words_then s.claims release
-          → With stage effects.Quiet (embedded r.at r.answer release)
+          → StepIsSound stage effects.Quiet (embedded r.at r.answer release)
       leads_on (GoOn release) release_leads =
           from_step m r.start (asked stage) (GoOn (r.at release.stage)) effects.Quiet _
-          wrote_now (was_open scene index r below h stage heavy there straight) (
-            goes_steps scene index r below h stage heavy there straight release.stage release_leads.0 release_leads.1 release_leads.2,
+          wrote_now (was_open scene index r below holds_before stage heavy there straight) (
+            goes_steps scene index r below holds_before stage heavy there straight release.stage release_leads.0 release_leads.1 release_leads.2,
             r.so.book None s.book,
           )
       leads_on (Done state) release_leads =
           from_step m r.start (asked stage) (Done r.answer) effects.Quiet
-          _ wrote_now (was_open scene index r below h stage heavy there straight) (
-            ends_steps scene index r below h stage heavy there straight release_leads.0 release_leads.1,
+          _ wrote_now (was_open scene index r below holds_before stage heavy there straight) (
+            ends_steps scene index r below holds_before stage heavy there straight release_leads.0 release_leads.1,
             r.so.book (Some r.answer) s.book,
           )
 
-      later : With stage effects.Quiet (embedded r.at r.answer (back_takes slots stage (old_of s.set (asked stage))))
+      -- each later step of the release leaves a machine with the invariant
+      later : StepIsSound stage effects.Quiet (embedded r.at r.answer (back_takes slots stage (old_of s.set (asked stage))))
       later =
-          leads_on (back_takes slots stage (old_of s.set (asked stage))) (leads scene index r below h stage heavy there straight)
+          leads_on (back_takes slots stage (old_of s.set (asked stage))) (leads scene index r below holds_before stage heavy there straight)
 
-    goes : (stage : ReleaseStage) → There stage → Goes stage (old_of s.set (asked stage))
+    -- each step of the release leaves a machine with the invariant, for the words of the indices
+    goes : (stage : ReleaseStage) → StandsAt stage → StageIsSound stage (old_of s.set (asked stage))
     goes = grind (arith, clears, later)
 
-  -- each stage of such a release comes on as a step of the machine
-  pub releases_on : (stage : ReleaseStage) → There stage → Goes stage (old_of (words_in s) (asked stage))
+  -- each step of the release leaves a machine with the invariant
+  pub releases_on : (stage : ReleaseStage) → StandsAt stage → StageIsSound stage (old_of (words_in s) (asked stage))
   releases_on stage there =
       let below = gives_below slots queue s index stage there.gives in
-      let on = (steps_set scene index r below h stage there.found there.gives).on in
+      let on = (steps_set scene index r below holds_before stage there.found there.gives).on in
       let value : old_of (words_in s) (asked stage) ≡ old_of s.set (asked stage) =
-      set_old slots queue s (counted_for (sends_at t.world.latest)) h.parts (back_asks slots index stage) on in
-      subst (Goes stage) (sym value) (goes below stage there)
+      set_old slots queue s (counted_for (sends_at t.world.latest)) holds_before.parts (back_asks slots index stage) on in
+      subst (StageIsSound stage) (sym value) (goes below stage there)

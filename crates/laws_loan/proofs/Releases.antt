@@ -1,4 +1,4 @@
--- The three calls that end with a release.
+-- The three calls that end with a release: a give-up, a send that has taken an index out, and a take-back.
 use Rattle.laws_loan.proofs.Names.{ℕ, [], ◌∷◌, ReleaseStage, PoppedIndex, Published, HandedOut, TakenBack, Acted}
 use Rattle.laws_loan.proofs.Names.{Index, LoanFlight, Send, GiveUp, TakeBack}
 use Rattle.std.proofs.Common.{arith}
@@ -10,19 +10,23 @@ use Rattle.laws_loan.proofs.Knows.{send_of}
 use Rattle.laws_loan.proofs.Releasing.{Releasing, ReleasesLast}
 
 module _ (slots queue : ℕ) where
+  -- a give-up at a stage of its release
   abbrev pub give_up_at : ℕ → ReleaseStage → LoanFlight
   give_up_at index stage =
       GiveUp (record { call = record { capacity = slots; stage = stage; of = record {} }; given = index; room = tt })
 
+  -- a send at a stage of the release of the oldest index
   abbrev pub send_frees_at : ℕ → ℕ → ReleaseStage → LoanFlight
   send_frees_at own oldest stage =
       Send (record { call = record { slots = slots; queue = queue; stage = sends.Releases oldest stage }; given = own; room = tt })
 
+  -- a take-back at a stage of the release of its index
   abbrev pub take_back_frees_at : ℕ → ReleaseStage → LoanFlight
   take_back_frees_at index stage =
       TakeBack (record { call = record { slots = slots; queue = queue; stage = take_backs.Releases index stage }; given = tt; room = tt })
 
 module _ (T : Type 0) (slots queue : ℕ) where
+  -- a give-up has what `Releasing` asks of a call that ends with a release
   pub gives_up_so : (index : ℕ) → ReleasesLast T slots queue index (calls.GiveUp index) (give_up_at slots queue index) [] Done 0
   gives_up_so = grind arith
 
@@ -38,6 +42,7 @@ module _ (T : Type 0) (slots queue : ℕ) where
         so = gives_up_so index;
       }
 
+  -- a send has what `Releasing` asks of a call that ends with a release
   pub sends_back_so : (own oldest : ℕ)
       → ReleasesLast T slots queue oldest (calls.Send own) (send_frees_at slots queue own oldest)
       (Published 0 (Index own) ∷ HandedOut 0 (Index oldest) ∷ Acted 0 (send_of own) (PoppedIndex oldest) ∷ [])
@@ -56,6 +61,7 @@ module _ (T : Type 0) (slots queue : ℕ) where
         so = sends_back_so own oldest;
       }
 
+  -- a take-back has what `Releasing` asks of a call that ends with a release
   pub takes_back_so : (index : ℕ)
       → ReleasesLast T slots queue index calls.TakeBack (take_back_frees_at slots queue index) (TakenBack 0 index ∷ [])
       (PoppedIndex index) 4

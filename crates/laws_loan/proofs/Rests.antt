@@ -1,5 +1,5 @@
--- A step of the sender's call that moves no index and leaves both queues: it changes no word but those of the indices, and writes
--- nothing, or that it ends.
+-- A step of the sender's call that moves no index and leaves both queues. It changes at most the words of
+-- the indices, and writes nothing but, if the call ends, its end.
 use Rattle.laws_loan.proofs.Names.{◌≡◌, ◌≢◌, ℕ, ◌+◌, ◌≤◌, false, Option, Some, None, List, [], ◌∷◌, ◌++◌, fold, refl}
 use Rattle.laws_loan.proofs.Names.{sym, ap, subst, ◌∙◌, append-nil, Ask, After, GoOn, locked, Answer, Event, Finished}
 use Rattle.laws_loan.proofs.Names.{LoanStart, LoanFlight, Party, most_steps, MovesRight, BeginsRight}
@@ -25,19 +25,20 @@ use Rattle.laws_loan.proofs.QueueEvents.{is_reclaiming, Tells, silent_tells}
 use Rattle.laws_loan.proofs.Turns.{Shows, sends_now}
 
 module _ {T : Type 0} (slots queue : ℕ) (s : Channel T) (latest : List (ℕ × Party T)) (ask : Option Ask) where
-  -- what is so of the words then, with so many calls of the set in an acquire or a release
+  -- what holds of the words of the indices after the step, with `busy` calls of the set in an
+  -- acquire or a release
   pub record KeepsSet (set' : List ℕ) (busy : ℕ) : Type 0 where
     pub words : words_after (words_in s) ask ≡ words_in (record s { set = set' })
     pub good : indices.Good slots set' s.claims busy
     pub unlocked : indices.counted_in set' ≢ locked
     pub calm : hung s.submission.read (sends_at latest) ≡ None
 
-  -- a step that changes no word
+  -- a step that changes no word leaves the words of the indices as the record says, with no busy call
   pub keeps_all : (turns : ℕ) → HoldsNow slots queue s latest s.events turns → words_after (words_in s) ask ≡ words_in s
       → counted_for (sends_at latest) ≡ 0 → hung s.submission.read (sends_at latest) ≡ None → KeepsSet s.set 0
   keeps_all = grind arith
 
-module _ {T : Type 0} (scene : Scene T) (h : HoldsIn scene) (straight : scene.caller.backs ≡ 0) (start : LoanStart) (wrote : List (Event T))
+module _ {T : Type 0} (scene : Scene T) (holds : HoldsIn scene) (straight : scene.caller.backs ≡ 0) (start : LoanStart) (wrote : List (Event T))
     (from : span_of 0 scene.state.events ≡ Open (starts.Loan start) wrote) (ask : Option Ask) (set' : List ℕ) where
   open scene use {coding as code, slots, queue, state as s, latest, turns, changes, since, caller as x}
 
@@ -47,13 +48,17 @@ module _ {T : Type 0} (scene : Scene T) (h : HoldsIn scene) (straight : scene.ca
   abbrev spanned : Span T
   spanned = Open (starts.Loan start) wrote
 
+  -- the channel after the step, with these events
   abbrev then_on : List (Event T) → Channel T
   then_on es = record s { set = set'; claims = s.claims; book = s.book; events = s.events ++ es }
 
+  -- the step leads to `after`, and its events move no index and are the sender's own
   module _ (after : After LoanFlight (Answer T)) (es : List (Event T)) (still : AreStill es) (own : AreOwn 0 es) where
+    -- the sender after the step
     abbrev y : Party T
     y = party_then scene start ask false after
 
+    -- what else the step has to show: of the words, of the queues, and of its events
     module _ (keeps : KeepsSet slots queue s latest ask set' (counted_for (flight_of (Some y.doing))))
         (calm : hung s.submission.read (flight_of (Some y.doing)) ≡ None)
         (tells : Tells queue (is_reclaiming s.events) s.submission.waiting s.submission.waiting s.completion.waiting s.completion.waiting es)
@@ -61,17 +66,17 @@ module _ {T : Type 0} (scene : Scene T) (h : HoldsIn scene) (straight : scene.ca
         (moves : AreRight (MovesRight slots) s.events es) (begins : AreRight BeginsRight s.events es)
         (answers : AreRight (AnswersRight slots) s.events es)
         (carries : (i : ℕ) → Carries i spanned → Carries i (fold own_after spanned es)) where
-      -- such a step shows what a turn has to
+      -- the step keeps what holds between two turns (`Shows`, Turns)
       shows : Shows slots queue s (then_on es) 0 y latest turns es
       shows =
           let same = receiver_still s.events es still in
-          let placed = placed_still slots s.claims s.submission.waiting s.completion.waiting s.book s.events es still h.parts.placed in
+          let placed = placed_still slots s.claims s.submission.waiting s.completion.waiting s.book s.events es still holds.parts.placed in
           let span = span_then 0 s.events es own spanned from in
           let passing : (i q : ℕ) → spot_of i (s.events ++ es) ≡ Passing q → Carries i (span_of q (s.events ++ es)) =
-          λ i q e. carried_on 0 s.events es own spanned from i q (h.passing i q (sym (spots_still i s.events es still) ∙ e)) (carries i) in
+          λ i q e. carried_on 0 s.events es own spanned from i q (holds.passing i q (sym (spots_still i s.events es still) ∙ e)) (carries i) in
           grind (arith, sends_now)
 
-      -- it is a step of the machine, where the call is right afterwards
+      -- the step keeps the invariant (`Steps`, Sender), where the call fits its span afterwards
       rests : AllFollow (Stands promise slots) spanned es → frame.Fits channel (then_on es) 0 (Some y) (fold own_after spanned es)
           → frame.KnowsDoing channel (then_on es) 0 (s.events ++ es) (changes + change_of (words_in s) ask) y.backs y.doing
           → Steps scene 0 (then_on es) spanned start ask false after es
@@ -82,9 +87,10 @@ module _ {T : Type 0} (scene : Scene T) (h : HoldsIn scene) (straight : scene.ca
           (λ q ne i e. spots_still i s.events es still ∙ e) in
           grind (arith, shows)
 
-  -- ---- it goes on
+  -- ---- the call goes on
 
-  -- so it is where the call goes on, at a stage where it is right, within its number of steps
+  -- a step after which the call goes on keeps the invariant, where the call stands at its next stage within
+  -- its bound of steps
   pub goes_on : (flight : LoanFlight) → KeepsSet slots queue s latest ask set' (counts flight)
       → hung {T = T} s.submission.read (Some (flights.Loan flight)) ≡ None
       → x.steps + step_count ask ≤ number_of slots wrote flight (x.backs + 0)
@@ -98,9 +104,10 @@ module _ {T : Type 0} (scene : Scene T) (h : HoldsIn scene) (straight : scene.ca
       (append-nil s.completion.waiting))
       refl tt tt tt (λ i carried. carried) tt (grind arith) knows
 
-  -- ---- it ends, with nothing in passing
+  -- ---- the call ends, with no index in passing
 
-  -- and where it ends, with an answer that is right after what it wrote
+  -- a step that ends the call keeps the invariant, where the answer is right and the call
+  -- has no index in passing
   pub ends : (answer : Answer T) → KeepsSet slots queue s latest ask set' 0 → Still (Finished 0 (starts.Loan start) answer)
       → reclaims_after (reclaims_in spanned) (Finished 0 (starts.Loan start) answer) ≡ false
       → AnswersRight slots s.events (Finished 0 (starts.Loan start) answer) → ((i : ℕ) → Carries i spanned → ⊥)
@@ -111,5 +118,5 @@ module _ {T : Type 0} (scene : Scene T) (h : HoldsIn scene) (straight : scene.ca
       rests (Done answer) (Finished 0 (starts.Loan start) answer ∷ []) (still, tt) (refl, tt) keeps refl
       (silent_tells queue (is_reclaiming s.events) s.submission.waiting s.completion.waiting s.completion.waiting
       (Finished 0 (starts.Loan start) answer ∷ []) refl refl refl (append-nil s.completion.waiting)) reclaims
-      (subst (λ m. ComesFrom slots m s.events) (sym still.moves) tt, tt) (tt, tt) (right, tt) none ((refl, done), tt)
+      (rw still.moves tt, tt) (tt, tt) (right, tt) none ((refl, done), tt)
       (record { answer = answer; wrote = wrote; span = refl; steps = steps }) (omega arith)

@@ -12,31 +12,34 @@ pub index_is : (i slots : ℕ) → i < slots → slots < 2 ^ 32 → index_in i �
 index_is i slots below few = let low : i < 2 ^ 32 = omega arith in omega arith
 
 module _ {T : Type 0} (slots : ℕ) (claims : List (Option ℕ)) (sent back : List ℕ) (book : Book)
-    (events : List (Event T)) (h : Placed slots claims sent back book events) where
+    (events : List (Event T)) (placed : Placed slots claims sent back book events) where
+  -- no more indices wait in the submission queue than there are slots
   pub waits_few : length sent ≤ slots
-  waits_few = lists_few is_waiting sent events slots h.waits (λ i beyond. ap is_waiting (h.past i beyond))
+  waits_few = lists_few is_waiting sent events slots placed.waits (λ i beyond. ap is_waiting (placed.past i beyond))
 
-  -- a give-back finds room
+  -- where an index is in passing, the completion queue has room for it
   pub returns_room : (i p : ℕ) → i < slots → spot_of i events ≡ Passing p → length back < slots
   returns_room i p below from =
-      lists_room is_returning back events slots i h.returns (λ j beyond. ap is_returning (h.past j beyond)) below (ap is_returning from)
+      lists_room is_returning back events slots i placed.returns (λ j beyond. ap is_returning (placed.past j beyond)) below (ap is_returning from)
 
   -- the oldest index that is sent is below the slots
   pub sent_below : (i : ℕ) (rest : List ℕ) → sent ≡ i ∷ rest → i < slots
   sent_below i rest front = ⊎_elim (λ (less : i < slots). less) past (cases_lt i slots)
     where
+      -- an index beyond the slots is free, so it does not wait
       past : slots ≤ i → i < slots
       past beyond =
-          let there : spot_of i events ≡ Waiting = waits_there (spot_of i events) (first_there is_waiting sent rest events i front h.waits) in
-          let both : Waiting ≡ Free = sym there ∙ h.past i beyond in
+          let there : spot_of i events ≡ Waiting = waits_there (spot_of i events) (first_there is_waiting sent rest events i front placed.waits) in
+          let both : Waiting ≡ Free = sym there ∙ placed.past i beyond in
           absurd (cc)
 
   -- the first index that was given back is below the slots
   pub back_below : (i : ℕ) (rest : List ℕ) → back ≡ i ∷ rest → i < slots
   back_below i rest front = ⊎_elim (λ (less : i < slots). less) past (cases_lt i slots)
     where
+      -- an index beyond the slots is free, so it is not on its way back
       past : slots ≤ i → i < slots
       past beyond =
-          let there : spot_of i events ≡ Returning = returns_there (spot_of i events) (first_there is_returning back rest events i front h.returns) in
-          let both : Returning ≡ Free = sym there ∙ h.past i beyond in
+          let there : spot_of i events ≡ Returning = returns_there (spot_of i events) (first_there is_returning back rest events i front placed.returns) in
+          let both : Returning ≡ Free = sym there ∙ placed.past i beyond in
           absurd (cc)

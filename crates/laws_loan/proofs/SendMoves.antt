@@ -1,5 +1,6 @@
--- Every step of a send's push; here those over a full queue: it moves the read position, and loads the index that so leaves; or a
--- receive has moved it before, and the send ends.
+-- Every step of a send's push keeps the invariant: it has the fields of `Steps` (Sender). Here are the
+-- steps after the publishing over a full queue: the send moves the read position and loads the index that
+-- it has so taken out; or a receive has moved the position before, and the send ends.
 use Rattle.laws_loan.proofs.Names.{◌≡◌, ◌≢◌, ℕ, suc, ◌+◌, ◌-◌, ◌%◌, ◌^◌, ◌<◌, ◌≤◌, ◌==◌, inl, inr, true, false, Bool}
 use Rattle.laws_loan.proofs.Names.{Option, List, [], ◌∷◌, ◌++◌, length, get_or, refl, sym, ap, subst, ◌∙◌, None}
 use Rattle.laws_loan.proofs.Names.{append-nil, append_assoc, length-append, nat_tests, set-get_or, Ask, After, GoOn}
@@ -31,7 +32,8 @@ use Rattle.laws_loan.proofs.Rests as rests
 use Rattle.laws_loan.proofs.Rooms.{sent_below, index_is}
 use Rattle.laws_loan.proofs.Scene.{Scene, HoldsIn}
 use Rattle.laws_loan.proofs.Sender.{party_then}
-use Rattle.laws_loan.proofs.Sends.{pushes_at, asked, old, queued, goes, effect_at, StepTo, Does, does_by, Here, reached, long, old_is, words_are, change_is}
+use Rattle.laws_loan.proofs.Sends.{pushes_at, asked, old, queued, goes, effect_at, StepTo, StageKeeps, does_by, SendIsAt, reached, long, old_is, words_are}
+use Rattle.laws_loan.proofs.Sends.{change_is}
 use Rattle.laws_loan.proofs.Sends.{loads_write, loads_read, stores_cell}
 use Rattle.laws_loan.proofs.Spots.{waits_there, passing_same, waiting_passes}
 use Rattle.laws_loan.proofs.Still.{AreStill, placed_still}
@@ -41,7 +43,8 @@ use Rattle.laws_loan.proofs.SenderInterference.{others_beside}
 use Rattle.laws_loan.proofs.QueueEvents.{items, is_reclaiming, Tells}
 use Rattle.laws_loan.proofs.Turns.{Shows, sends_now}
 
-module _ {T : Type 0} (scene : Scene T) (index : ℕ) (h : HoldsIn scene) (small : scene.turns < 2 ^ 64 - 2) (straight : scene.caller.backs ≡ 0) where
+-- the sender has a send of the index under way; `holds` is the invariant before the step
+module _ {T : Type 0} (scene : Scene T) (index : ℕ) (holds : HoldsIn scene) (small : scene.turns < 2 ^ 64 - 2) (straight : scene.caller.backs ≡ 0) where
   open scene use {slots, queue, state as s, latest, turns, caller as x}
 
   abbrev call : Start T
@@ -50,187 +53,220 @@ module _ {T : Type 0} (scene : Scene T) (index : ℕ) (h : HoldsIn scene) (small
   abbrev publishes : Event T
   publishes = Published 0 (Index index)
 
+  -- the operation that the send asks for at this stage
   abbrev asks : PushStage → Option Ask
   asks stage = asked scene index stage
 
+  -- the old value of the word that it asks for
   abbrev value : PushStage → ℕ
   value stage = old scene index stage
 
+  -- how the send goes on from this stage, or ends, where the word has the value `v`
   abbrev then_of : PushStage → ℕ → After LoanFlight (Answer T)
   then_of stage v = goes scene index stage v
 
+  -- what the step at this stage does to the channel
   abbrev effect_of : PushStage → ℕ → Effect
   effect_of stage v = effect_at scene index stage v
 
-  abbrev To : Channel T → List (Event T) → PushStage → After LoanFlight (Answer T) → Effect → Type 0
-  To s' wrote stage after effect = StepTo scene index s' wrote stage after effect
+  -- a step at this stage, to the channel `s'`, keeps the invariant
+  abbrev KeepsTo : Channel T → List (Event T) → PushStage → After LoanFlight (Answer T) → Effect → Type 0
+  KeepsTo s' wrote stage after effect = StepTo scene index s' wrote stage after effect
 
-  abbrev Does_at : PushStage → Type 0
-  Does_at stage = Does scene index stage
+  -- the step of the send at this stage keeps the invariant
+  abbrev StageKeepsAt : PushStage → Type 0
+  StageKeepsAt stage = StageKeeps scene index stage
 
   abbrev party : PushStage → After LoanFlight (Answer T) → Party T
   party stage after = party_then scene (calls.Send index) (asks stage) false after
 
+  -- the write position is below its last value
   low_write : s.submission.write < 2 ^ 64 - 2
-  low_write = reached scene index h small straight
+  low_write = reached scene index holds small straight
 
+  -- the submission queue has five words and one for each index that may wait
   wide : length (queued scene index) ≡ 5 + queue
-  wide = long scene index h small straight
+  wide = long scene index holds small straight
 
-  -- the index in the cell of this position
+  -- the index in the cell of the position `read`
   abbrev oldest_at : ℕ → ℕ
   oldest_at read = get_or s.submission.cells (read % (queue + 1)) 0
 
-  -- the words of the whole have it
+  -- the words of the whole have this index in that cell
   sent_is : (read : ℕ) → sent_at (submission_word slots) queue (words_in s) read ≡ oldest_at read
   sent_is read =
-      submission_old slots queue s (counted_for (sends_at latest)) h.parts (load (cell_word queue read))
-      (submission.cell_on queue h.parts.some h.parts.few s.submission h.parts.submission low_write read)
-      ∙ submission.cell_is queue h.parts.some h.parts.few s.submission h.parts.submission low_write read
+      submission_old slots queue s (counted_for (sends_at latest)) holds.parts (load (cell_word queue read))
+      (submission.cell_on queue holds.parts.some holds.parts.few s.submission holds.parts.submission low_write read)
+      ∙ submission.cell_is queue holds.parts.some holds.parts.few s.submission holds.parts.submission low_write read
 
-  -- once it has published, a send carries none until it takes one out
+  -- once a send has published its index, it has none in passing until it takes one out
   none_carried : {A : Type 0} (i : ℕ) (wrote : List (Event T)) → handed_out wrote ≡ [] → Carries i (Open call (publishes ∷ wrote)) → A
   none_carried = grind arith
 
-  -- ---- it takes the oldest index out
+  -- ---- the send takes the oldest index out
 
+  -- the push at its move of the read position
   abbrev moves : PushStage
   moves = pushes.MovesRead s.submission.read
 
+  -- the push at the load of the oldest index
   abbrev loads : PushStage
   loads = pushes.LoadsCell s.submission.read
 
-  module _ (here : Here scene index moves) (from : span_of 0 s.events ≡ Open call (publishes ∷ [])) (others rest : List ℕ)
-      (is : s.submission.waiting ≡ others ++ index ∷ [])
+  -- the send is at its move of the read position, which has not moved since, and the queue
+  -- is over its capacity
+  module _ (here : SendIsAt scene index moves) (from : span_of 0 s.events ≡ Open call (publishes ∷ [])) (others rest : List ℕ)
+      (waiting_is : s.submission.waiting ≡ others ++ index ∷ [])
       (first : s.submission.waiting ≡ oldest_at s.submission.read ∷ rest)
       (far : s.submission.write ≡ s.submission.read + queue + 1) (steps : x.steps ≤ 4) where
+    -- the oldest index that waits
     abbrev u : ℕ
     u = oldest_at s.submission.read
 
+    -- the submission queue once the oldest index is taken out
     abbrev k : Core ℕ
     k = taken 1 words_of_index (queue + 1) s.submission rest
 
+    -- the event that the oldest index is handed to the sender
     abbrev hands : Event T
     hands = HandedOut 0 (Index u)
 
+    -- the act of the send, which hands the oldest index back
     abbrev acts : Event T
     acts = Acted 0 call (answers.PoppedIndex u)
 
     abbrev told : List (Event T)
     told = hands ∷ acts ∷ []
 
+    -- the channel after the step
     abbrev s_out : Channel T
     s_out = record s { submission = k; completion = s.completion; book = s.book; events = s.events ++ told }
 
+    -- the sender after the step
     abbrev y_out : Party T
     y_out = party moves (GoOn (pushes_at slots queue loads index))
 
+    -- the word of the read position is one of the queue's
     on : 1 < length (queued scene index)
     on = let all = wide in omega arith
 
+    -- the oldest index is one of the channel
     below : u < slots
-    below = sent_below slots s.claims s.submission.waiting s.completion.waiting s.book s.events h.parts.placed u rest first
+    below = sent_below slots s.claims s.submission.waiting s.completion.waiting s.book s.events holds.parts.placed u rest first
 
+    -- besides the newest index as many wait as the capacity
     full : length others ≡ queue
     full = grind (arith, length-append, length)
 
+    -- the oldest index waited
     was_waiting : spot_of u s.events ≡ Waiting
     was_waiting = grind (arith, waits_there, first_there)
 
+    -- the act moves no index
     acts_still : AreStill (acts ∷ [])
     acts_still = grind arith
 
+    -- the events one after the other are all that the step writes
     whole : (s.events ++ hands ∷ []) ++ acts ∷ [] ≡ s.events ++ told
     whole = append_assoc s.events (hands ∷ []) (acts ∷ [])
 
+    -- the events move the oldest index alone, from the queue into passing in the send
     one_move : OneMove 0 u s.events told Waiting (Passing 0)
     one_move = grind (arith, was_waiting)
 
+    -- after the step the span is open with what the send has written
     open_then : span_of 0 (s.events ++ told) ≡ Open call (publishes ∷ told)
     open_then = span_after 0 u s.events told Waiting (Passing 0) one_move (Open call (publishes ∷ [])) from
 
+    -- each index is where the book and the events say, once the oldest one is in passing in the send
     placed_out : Placed slots s.claims rest s.completion.waiting s.book (s.events ++ told)
     placed_out =
         subst (Placed slots s.claims rest s.completion.waiting s.book) whole
         (placed_still slots s.claims rest s.completion.waiting s.book (s.events ++ hands ∷ []) (acts ∷ []) acts_still
-        (hands_it_out slots s.claims s.submission.waiting s.completion.waiting s.book s.events h.parts.placed u below 0 rest first (inl refl)))
+        (hands_it_out slots s.claims s.submission.waiting s.completion.waiting s.book s.events holds.parts.placed u below 0 rest first (inl refl)))
 
     -- no reclaim is under way
     quiet : is_reclaiming s.events ≡ false
-    quiet = h.reclaiming ∙ ap reclaims_in from
+    quiet = holds.reclaiming ∙ ap reclaims_in from
 
+    -- the events tell of the submission queue that its oldest index went out and that the send has acted
     tells_out : Tells queue (is_reclaiming s.events) s.submission.waiting rest s.completion.waiting s.completion.waiting told
     tells_out =
-        let list = push_over {T = T} queue s.submission.waiting others u index rest is full first in
-        subst (λ b. Tells queue b s.submission.waiting rest s.completion.waiting s.completion.waiting told) (sym quiet)
-        (grind (arith, append-nil, items))
+        let list = push_over {T = T} queue s.submission.waiting others u index rest waiting_is full first in
+        rw quiet (grind (arith, append-nil, items))
 
-    -- the move that takes the oldest index out shows what a turn has to: the send hands it out to itself, and acts
+    -- the exchange that takes the oldest index out keeps what holds between two turns: the send hands that
+    -- index out to itself, and acts
     shows_out : Shows slots queue s s_out 0 y_out latest turns told
     shows_out =
-        let write = h.parts.submission.write in
+        let write = holds.parts.submission.write in
         let shorter : length s.submission.waiting ≡ suc (length rest) = ap length first in
-        let good = submission.take_good queue h.parts.some h.parts.few s.submission h.parts.submission low_write u rest first in
+        let good = submission.take_good queue holds.parts.some holds.parts.few s.submission holds.parts.submission low_write u rest first in
         let passing =
-        carried 0 u s.events told Waiting (Passing 0) one_move (Open call (publishes ∷ [])) from h.passing
+        carried 0 u s.events told Waiting (Passing 0) one_move (Open call (publishes ∷ [])) from holds.passing
         (λ i ne. none_carried i [] refl) (λ q e. (sym (passing_same 0 q e), inr (refl, refl))) in
         grind (arith, open_then, sends_now, same_receiver, one_move, placed_out, tells_out, quiet, below, was_waiting)
 
-    -- the send so goes on to the load of the cell
-    takes_out : To s_out (publishes ∷ []) moves (GoOn (pushes_at slots queue loads index)) (effects.TakesOut index u)
+    -- the exchange leads the send on to the load of the cell
+    takes_out : KeepsTo s_out (publishes ∷ []) moves (GoOn (pushes_at slots queue loads index)) (effects.TakesOut index u)
     takes_out =
-        let some = h.parts.some in
+        let some = holds.parts.some in
         let change : change_of (words_in s) (asks moves) ≡ 1 =
-        change_is scene index h small straight moves on
-        ∙ submission.take_changes queue h.parts.some h.parts.few s.submission h.parts.submission low_write u rest first in
+        change_is scene index holds small straight moves on
+        ∙ submission.take_changes queue holds.parts.some holds.parts.few s.submission holds.parts.submission low_write u rest first in
         let words =
-        words_are scene index h small straight moves k on
-        (submission.take_words queue h.parts.some h.parts.few s.submission h.parts.submission low_write u rest first) in
+        words_are scene index holds small straight moves k on
+        (submission.take_words queue holds.parts.some holds.parts.few s.submission holds.parts.submission low_write u rest first) in
         let there = now_there 0 u s.events told Waiting (Passing 0) one_move in
         let others =
         others_beside slots queue s s_out refl refl (take_keeps_pop queue s.submission rest far) (λ i stage known. known)
         (λ q ne. passes_on 0 u s.events told Waiting (Passing 0) one_move q (waiting_passes q)) in
         grind (arith, shows_out, open_then, below)
 
-    -- as the call computes it
-    moves_read : Does_at moves
+    -- the step in which the send moves the read position keeps the invariant
+    moves_read : StageKeepsAt moves
     moves_read =
         let is_same : (s.submission.read == s.submission.read) ≡ true = grind (arith, nat_tests) in
-        let found : value moves ≡ s.submission.read = old_is scene index h small straight moves on in
+        let found : value moves ≡ s.submission.read = old_is scene index holds small straight moves on in
         let place = sent_is s.submission.read in
         does_by scene index s_out moves (publishes ∷ []) (GoOn (pushes_at slots queue loads index)) (effects.TakesOut index u) (rw is_same refl)
         (ap (then_of moves) found ∙ (rw is_same refl)) (ap (effect_of moves) found ∙ (rw (is_same, place) refl)) takes_out
 
-  -- ---- a receive has moved it before: the send has acted, and ends
+  -- ---- a receive has moved the read position before: the send has acted, and ends
 
+  -- the act of a send that hands nothing back
   abbrev acted : Event T
   acted = Acted 0 call answers.PoppedNone
 
+  -- the end of a send that hands nothing back
   abbrev ends : Event T
   ends = Finished 0 call answers.PoppedNone
 
   abbrev late : ℕ → PushStage
   late read = pushes.MovesRead read
 
-  module _ (read : ℕ) (here : Here scene index (late read))
+  -- the send is at its move of the read position, which a receive has moved since
+  module _ (read : ℕ) (here : SendIsAt scene index (late read))
       (from : span_of 0 s.events ≡ Open call (publishes ∷ acted ∷ [])) (moved : (s.submission.read == read) ≡ false)
       (apart : (read == s.submission.read) ≡ false) (steps : x.steps ≤ 4) where
+    -- the channel after the end of the send
     abbrev s_end : Channel T
     s_end = record s { submission = s.submission; completion = s.completion; book = s.book; events = s.events ++ ends ∷ [] }
 
+    -- the read position is one of the queue's words
     on_late : 1 < length (queued scene index)
     on_late = let all = wide in omega arith
 
-    -- the position is no more that before which it waited
+    -- the send does not wait any more, as the read position is another
     calm : hung s.submission.read (sends_at latest) ≡ None
     calm = ap (hung s.submission.read) here ∙ (rw apart refl)
 
-    -- a send that finds the read position moved by a receive, and so has acted before, ends with no index
-    finds_room : To s_end (publishes ∷ acted ∷ []) (late read) (Done answers.PoppedNone) effects.Quiet
+    -- the exchange fails, and the send, which has acted before, ends with no index
+    finds_room : KeepsTo s_end (publishes ∷ acted ∷ []) (late read) (Done answers.PoppedNone) effects.Quiet
     finds_room = (
-      rests.ends scene h straight (calls.Send index) (publishes ∷ acted ∷ []) from (asks (late read)) s.set answers.PoppedNone
-          (keeps_all slots queue s latest (asks (late read)) turns h (words_are scene index h small straight (late read) s.submission on_late
-          (submission.stays_words queue h.parts.some h.parts.few s.submission h.parts.submission low_write read moved))
+      rests.ends scene holds straight (calls.Send index) (publishes ∷ acted ∷ []) from (asks (late read)) s.set answers.PoppedNone
+          (keeps_all slots queue s latest (asks (late read)) turns holds (words_are scene index holds small straight (late read) s.submission on_late
+          (submission.stays_words queue holds.parts.some holds.parts.few s.submission holds.parts.submission low_write read moved))
           (ap counted_for here) calm)
           (record { moves = refl; receiver = λ r. refl; dead = λ q b. refl }) refl tt
           (λ i carried. none_carried i (acted ∷ []) refl carried)
@@ -239,39 +275,43 @@ module _ {T : Type 0} (scene : Scene T) (index : ℕ) (h : HoldsIn scene) (small
       refl,
     )
 
-    -- the move does what a step should where a receive has moved the position before
-    moves_late : Does_at (late read)
+    -- the step in which the send finds the read position moved keeps the invariant
+    moves_late : StageKeepsAt (late read)
     moves_late =
-        let found : value (late read) ≡ s.submission.read = old_is scene index h small straight (late read) on_late in
+        let found : value (late read) ≡ s.submission.read = old_is scene index holds small straight (late read) on_late in
         does_by scene index s_end (late read) (publishes ∷ acted ∷ [])
         (Done answers.PoppedNone) effects.Quiet (rw apart refl) (ap (then_of (late read)) found ∙ (rw moved refl))
         (ap (effect_of (late read)) found ∙ (rw moved refl)) finds_room
 
-  -- ---- it loads the index that it has taken out
+  -- ---- the send loads the index that it has taken out
 
   abbrev wrote_out : ℕ → List (Event T)
   wrote_out read = publishes ∷ HandedOut 0 (Index (oldest_at read)) ∷ Acted 0 call (answers.PoppedIndex (oldest_at read)) ∷ []
 
-  module _ (read : ℕ) (here : Here scene index (pushes.LoadsCell read))
+  -- the send is at the load of the cell from which it has taken an index out
+  module _ (read : ℕ) (here : SendIsAt scene index (pushes.LoadsCell read))
       (from : span_of 0 s.events ≡ Open call (wrote_out read)) (passes : Passes slots queue s 0 (oldest_at read))
       (steps : x.steps ≤ 5) where
     abbrev stage : PushStage
     stage = pushes.LoadsCell read
 
+    -- the channel once the send begins to release the oldest index
     abbrev s_free : Channel T
     s_free = record s { submission = s.submission; completion = s.completion; book = s.book; events = s.events ++ [] }
 
+    -- the send at the first stage of its release
     abbrev frees : LoanFlight
     frees = send_frees_at slots queue index (oldest_at read) releases.ClearsFlag
 
+    -- the word of the cell is one of the queue's
     on_cell : cell_word queue read < length (queued scene index)
     on_cell = grind (arith, low_write)
 
-    -- the load of the cell finds the index that was taken out, which the send goes on to release
-    has_it : To s_free (wrote_out read) stage (GoOn frees) effects.Quiet
+    -- the load of the cell finds that index, and leads the send on to release it
+    has_it : KeepsTo s_free (wrote_out read) stage (GoOn frees) effects.Quiet
     has_it = (
-      rests.goes_on scene h straight (calls.Send index) (wrote_out read) from (asks stage) s.set frees
-          (keeps_all slots queue s latest (asks stage) turns h (words_are scene index h small straight stage s.submission on_cell
+      rests.goes_on scene holds straight (calls.Send index) (wrote_out read) from (asks stage) s.set frees
+          (keeps_all slots queue s latest (asks stage) turns holds (words_are scene index holds small straight stage s.submission on_cell
           (set-get_or (queued scene index) (cell_word queue read) 0)) (ap counted_for here) (ap (hung s.submission.read) here))
           refl (omega arith)
           (refl, refl, refl, refl, refl, (passes.0, ap (spot_of (oldest_at read)) (append-nil s.events) ∙ passes.1))
@@ -279,14 +319,14 @@ module _ {T : Type 0} (scene : Scene T) (index : ℕ) (h : HoldsIn scene) (small
       refl,
     )
 
-    -- the load of the cell does what a step should
-    loads_cell : Does_at stage
+    -- the step in which the send loads the word of the cell keeps the invariant
+    loads_cell : StageKeepsAt stage
     loads_cell =
-        let few = h.parts.set.few in
+        let few = holds.parts.set.few in
         let low : slots < 2 ^ 32 = omega arith in
         let found : value stage ≡ oldest_at read =
-        old_is scene index h small straight stage on_cell
-        ∙ submission.cell_is queue h.parts.some h.parts.few s.submission h.parts.submission low_write read in
+        old_is scene index holds small straight stage on_cell
+        ∙ submission.cell_is queue holds.parts.some holds.parts.few s.submission holds.parts.submission low_write read in
         does_by scene index s_free stage (wrote_out read) (GoOn frees) effects.Quiet
         refl
         (ap (then_of stage) found
@@ -295,46 +335,47 @@ module _ {T : Type 0} (scene : Scene T) (index : ℕ) (h : HoldsIn scene) (small
 
   -- ---- every step of the push
 
-  -- what a send knows leads on
-  pub does : (now : PushStage) → Here scene index now
+  -- the step of a send's push at any stage keeps the invariant, where the send stands at the stage and
+  -- knows what it says
+  pub does : (now : PushStage) → SendIsAt scene index now
       → span_of 0 s.events ≡ Open call (push_wrote queue s.submission index now)
       → KnowsOverflowPush queue s.submission index now → PushAt slots queue s index now
-      → x.steps ≤ overflow_push_number now → Does_at now
+      → x.steps ≤ overflow_push_number now → StageKeepsAt now
   does pushes.HandsBack here from known stands steps = absurd stands
   does pushes.LoadsWrite here from known stands steps =
-      loads_write scene index h small straight stands from here steps
+      loads_write scene index holds small straight stands from here steps
   does (pushes.LoadsRead write) here from known stands steps =
-      subst Does_at (ap (λ n. pushes.LoadsRead n) (sym known.1)) (loads_read scene index h small straight stands from
-      (subst (λ n. Here scene index (pushes.LoadsRead n)) known.1 here)
+      subst StageKeepsAt (ap (λ n. pushes.LoadsRead n) (sym known.1)) (loads_read scene index holds small straight stands from
+      (subst (λ n. SendIsAt scene index (pushes.LoadsRead n)) known.1 here)
       steps)
   does (pushes.StoresCell write read) here from known stands steps =
-      subst Does_at (ap (λ n. pushes.StoresCell n read) (sym known.1)) (stores_cell scene index h small straight stands from read known.2 known.3
-      (subst (λ n. Here scene index (pushes.StoresCell n read)) known.1 here)
+      subst StageKeepsAt (ap (λ n. pushes.StoresCell n read) (sym known.1)) (stores_cell scene index holds small straight stands from read known.2 known.3
+      (subst (λ n. SendIsAt scene index (pushes.StoresCell n read)) known.1 here)
       steps)
   does (pushes.StoresWrite write read) here from known stands steps =
-      subst Does_at (ap (λ n. pushes.StoresWrite n read) (sym known.1)) (stores_write scene index h small straight read
-      (subst (λ n. Here scene index (pushes.StoresWrite n read)) known.1 here)
+      subst StageKeepsAt (ap (λ n. pushes.StoresWrite n read) (sym known.1)) (stores_write scene index holds small straight read
+      (subst (λ n. SendIsAt scene index (pushes.StoresWrite n read)) known.1 here)
       stands from known.4 steps known.2 known.3)
   does (pushes.MovesRead read) here from known stands steps = go (s.submission.read == read) refl
     where
-      -- the cases are whether the read position is still what was read
-      go : (b : Bool) → (s.submission.read == read) ≡ b → Does_at (pushes.MovesRead read)
-      go true e =
+      -- the cases are whether the read position is still the one that was loaded
+      go : (b : Bool) → (s.submission.read == read) ≡ b → StageKeepsAt (pushes.MovesRead read)
+      go true read_same =
           let same : read ≡ s.submission.read = grind (arith, nat_tests) in
           let is_same : (s.submission.read == s.submission.read) ≡ true = grind (arith, nat_tests) in
           let last = known.3 same in
           let far = known.2 in
-          let write = h.parts.submission.write in
-          let front = oldest queue s.submission h.parts.submission (omega arith) in
+          let write = holds.parts.submission.write in
+          let front = oldest queue s.submission holds.parts.submission (omega arith) in
           let wrote : push_wrote {T = T} queue s.submission index moves ≡ publishes ∷ [] = rw is_same refl in
-          subst Does_at (ap (λ n. pushes.MovesRead n) (sym same)) (moves_read (subst (λ n. Here scene index (pushes.MovesRead n)) same here)
+          subst StageKeepsAt (ap (λ n. pushes.MovesRead n) (sym same)) (moves_read (subst (λ n. SendIsAt scene index (pushes.MovesRead n)) same here)
           (subst (λ n. span_of 0 s.events ≡ Open call (push_wrote queue s.submission index (pushes.MovesRead n))) same from
           ∙ ap (λ es. Open call es) wrote)
           last.0 front.0 last.1 front.1 (omega arith) steps)
-      go false e =
+      go false read_moved =
           let differs : s.submission.read ≢ read = grind (arith, nat_tests) in
           let apart : (read == s.submission.read) ≡ false = (let other : read ≢ s.submission.read = λ same. differs (sym same) in grind (arith, nat_tests)) in
           let wrote : push_wrote {T = T} queue s.submission index (late read) ≡ publishes ∷ acted ∷ [] = rw apart refl in
-          moves_late read here (from ∙ ap (λ es. Open call es) wrote) e apart steps
+          moves_late read here (from ∙ ap (λ es. Open call es) wrote) read_moved apart steps
   does (pushes.LoadsCell read) here from known stands steps =
       loads_cell read here from stands steps

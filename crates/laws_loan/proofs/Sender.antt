@@ -1,4 +1,5 @@
--- A step of a party's call, which writes events of this party alone: what it has to show, and that this is all that the frame asks.
+-- A step of a party's call that writes events of this party alone: what it has to show (`Steps`), and that
+-- a step which shows it gives the frame what it asks of a turn.
 use Rattle.laws_loan.proofs.Names.{◌≡◌, ◌≢◌, ℕ, ◌+◌, Bool, Option, Some, List, [], ◌++◌, fold, ap, ◌∙◌, Ask, After}
 use Rattle.laws_loan.proofs.Names.{Answer, Event, Start, Flight, LoanStart, LoanFlight, Effect, Party, Coding}
 use Rattle.laws_loan.proofs.Names.{promise, ended_book, book_after, effects_of, Stands, Span, own_after, span_of}
@@ -21,13 +22,14 @@ module _ {T : Type 0} where
   abbrev pub any_call : After LoanFlight (Answer T) → After (Flight T) (Answer T)
   any_call after = as_call flights.Loan (λ answer. answer) after
 
-  -- the sender's party after a step that does this operation
+  -- the party after a step with this operation
   abbrev pub party_then : Scene T → LoanStart → Option Ask → Bool → After LoanFlight (Answer T) → Party T
   party_then scene start ask back after =
       party_after (record (scene.caller) { start = starts.Loan start }) scene.since scene.changes (step_count ask)
       (change_of (words_in scene.state) ask) (record { after = any_call after; back = back; wrote = []; kept = registries.Loan scene.state.book })
 
--- a turn of a party that writes events of its own, where the calls of the others stand where they stood
+-- a turn of the party `p` that writes events of its own, from the channel `s` to `s'`, in which the calls
+-- of other parties stand where they stood
 module _ {T : Type 0} (code : Coding T) (slots queue : ℕ) (s s' : Channel T) (p : ℕ) (y : Party T)
     (latest : List (ℕ × Party T)) (from : Span T) (es : List (Event T)) (changes changes' : ℕ)
     (events : s'.events ≡ s.events ++ es) (own : AreOwn p es)
@@ -37,24 +39,27 @@ module _ {T : Type 0} (code : Coding T) (slots queue : ℕ) (s s' : Channel T) (
   abbrev any : frame.Family T
   any = family code slots queue
 
+  -- the spans of the other parties stay
   same_span : (q : ℕ) → q ≢ p → span_of q s'.events ≡ span_of q s.events
   same_span q ne = ap (span_of q) events ∙ span_of-other p q s.events es ne own
 
+  -- the calls of the other parties stand where they stood
   others : (q : ℕ) → q ≢ p → (other : Start T) (call : Flight T) → any.At s q other call
       → any.At s' q other call × (any.written s' q call ≡ any.written s q call)
   others = grind (arith, same_span)
 
+  -- the calls of the other parties know what they knew
   others_know : (q : ℕ) → q ≢ p → (sooner backs : ℕ) (call : Flight T) → any.Knows s q s.events sooner changes backs call
       → any.Knows s' q (s.events ++ es) sooner changes' backs call
   others_know = grind (arith, knows_keeps)
 
-  -- so much of the call's own party is enough for what a turn owes: its events stand in its span,
-  -- and its call is right afterwards
+  -- a turn of the sender gives the frame what it asks, where its events may follow in the party's span and its call
+  -- fits the span and knows what its stage says
   pub owes_by : AllFollow (Stands promise slots) from es → frame.Fits any s' p (Some y) (fold own_after from es)
       → frame.KnowsDoing any s' p (s.events ++ es) changes' y.backs y.doing
       → span_of p s.events ≡ from → frame.Inv any s latest s.events changes → frame.Owes any s' p y latest s.events es changes'
-  owes_by stands here knows is inv =
-      frame.owes any s s' from p y latest s.events es changes changes' is inv
+  owes_by stands here knows span_is inv =
+      frame.owes any s s' from p y latest s.events es changes changes' span_is inv
       (record { own = own; stands = stands; here = here; knows = knows; others = others; others_know = others_know })
 
 module _ {T : Type 0} (scene : Scene T) (p : ℕ) where
@@ -64,16 +69,21 @@ module _ {T : Type 0} (scene : Scene T) (p : ℕ) where
   abbrev channel : frame.Family T
   channel = family code slots queue
 
-  -- what a step shows that leaves the channel so, where the span of the call was this
+  -- What a step with the operation `ask` shows that leaves the channel `s'`, where the span of its call was
+  -- `from`, the call is afterwards `after`, and the step writes `es`.
   pub record Steps (s' : Channel T) (from : Span T) (start : LoanStart) (ask : Option Ask) (back : Bool)
       (after : After LoanFlight (Answer T)) (es : List (Event T)) : Type 0 where
+    -- the words afterwards, and what a turn has to show of the channel
     pub words : words_after (words_in s) ask ≡ words_in s'
     pub shows : Shows slots queue s s' p (party_then scene start ask back after) latest turns es
+    -- the events are the party's own and may follow in its span, and its call fits the span and knows what
+    -- its stage says
     pub own : AreOwn p es
     pub stands : AllFollow (Stands promise slots) from es
     pub here : frame.Fits channel s' p (Some (party_then scene start ask back after)) (fold own_after from es)
     pub knows : frame.KnowsDoing channel s' p (s.events ++ es) (changes + change_of (words_in s) ask) (party_then scene start ask back after).backs
         (party_then scene start ask back after).doing
+    -- the calls of other parties stand where they stood, and the positions only go up
     pub others : Others slots queue s s' p
     pub up : GoesUp s.submission s'.submission changes (changes + change_of (words_in s) ask)
 
@@ -81,7 +91,7 @@ module _ {T : Type 0} (scene : Scene T) (p : ℕ) where
   abbrev pub told_by : LoanStart → After LoanFlight (Answer T) → Effect → List (Event T)
   told_by start after effect = effects_of p effect (answer_in after) ++ ending_of p (starts.Loan start) (answer_in (any_call after))
 
-  -- such a step with this effect, which leaves its book
+  -- a step with this effect keeps the invariant, and the channel has the book that the effect says
   abbrev pub StepBy : Channel T → Span T → LoanStart → Option Ask → Bool → After LoanFlight (Answer T) → Effect → Type 0
   StepBy s' from start ask back after effect =
       Steps s' from start ask back after (told_by start after effect)
@@ -89,6 +99,7 @@ module _ {T : Type 0} (scene : Scene T) (p : ℕ) where
 
   module _ (s' : Channel T) (from : Span T) (start : LoanStart) (ask : Option Ask) (back : Bool)
       (after : After LoanFlight (Answer T)) (es : List (Event T)) (steps : Steps s' from start ask back after es) where
+    -- a step that shows this gives the frame what it asks of a turn
     pub step_owes : span_of p s.events ≡ from → frame.Inv channel s latest s.events changes
         → frame.Owes channel s' p (party_then scene start ask back after) latest s.events es (changes + change_of (words_in s) ask)
     step_owes =

@@ -1,4 +1,5 @@
--- The push of a send, the pop of a take-back, the push of a give-back and what a receive looks at, as steps of the machine.
+-- Steps that leave a machine with the invariant: those of a send's push, of a take-back's pop, of a give-
+-- back's push, and those of a receive that take no index out.
 use Rattle.laws_loan.proofs.Names.{◌≡◌, ℕ, false, Bool, Option, List, [], ap, ◌∙◌, Ask, After, OneWord}
 use Rattle.laws_loan.proofs.Names.{goes_back, Answer, Event, LoanStart, LoanFlight, Effect, has_died}
 use Rattle.laws_loan.proofs.Names.{beside, take_back_effect, give_back_effect, Open, span_of, StandsThere}
@@ -37,16 +38,17 @@ module _ {T : Type 0} (m : Underway T) where
   abbrev scene : Scene T
   scene = scene_of m
 
-  -- a call of this party stands there, and comes so on
+  -- the party `p` has this call under way, and the call stands in the machine as its family says
   abbrev pub Stands : ℕ → Start T → Flight T → Type 0
   Stands p start flight = StandsThere (channel code slots queue) t sound p x since start flight
 
+  -- the next step of this call leaves a machine with the invariant
   abbrev pub Comes : ℕ → Start T → Flight T → Type 0
   Comes p start flight =
       ComesFrom (channel code slots queue) t sound p x since code (words_in sound.state)
       (registries.Loan sound.state.book) start flight
 
-  -- a step of the sender that leaves this book
+  -- a step of the sender that has the fields of `Steps` leaves a machine with the invariant
   pub from_step : (start : LoanStart) (ask : Option Ask) (after : After LoanFlight (Answer T)) (effect : Effect)
       (s' : Channel T) (wrote : List (Event T))
       → span_of 0 sound.state.events ≡ Open (starts.Loan start) wrote
@@ -55,7 +57,8 @@ module _ {T : Type 0} (m : Underway T) where
   from_step start ask after effect s' wrote =
       step_comes m 0 start ask false after effect s' (Open (starts.Loan start) wrote)
 
-  -- a step of the receiver that leaves this book, whose call has written nothing before
+  -- a step of the receiver that has the fields of `Steps` leaves a machine with the invariant, where its
+  -- call has written nothing before
   from_receiver : (p : ℕ) (start : LoanStart) (ask : Option Ask) (back : Bool) (after : After LoanFlight (Answer T))
       (effect : Effect) (k : Core ℕ) → span_of p sound.state.events ≡ Open (starts.Loan start) []
       → GivesBy scene p k (Open (starts.Loan start) []) start ask back after effect
@@ -66,33 +69,33 @@ module _ {T : Type 0} (m : Underway T) where
   abbrev s : Channel T
   s = sound.state
 
-  abbrev h : HoldsNow slots queue s t.world.latest s.events t.world.turns
-  h = holds_now m
+  abbrev holds_before : HoldsNow slots queue s t.world.latest s.events t.world.turns
+  holds_before = holds_now m
 
-  -- a send that stands in its push comes on as a step of the machine
+  -- the step of a send in its push leaves a machine with the invariant
   pub send_pushes : (index : ℕ) (stage : PushStage)
       → Stands 0 (starts.Loan (calls.Send index)) (flights.Loan (pushes_at slots queue stage index))
       → Comes 0 (starts.Loan (calls.Send index)) (flights.Loan (pushes_at slots queue stage index))
   send_pushes index stage there =
       let stands = there.at in
       let from = ap (span_of 0) sound.holds.same ∙ (there.span ∙ ap (λ es. Open (starts.Loan (calls.Send index)) es) stands.4) in
-      let done = sends.does scene index h small there.knows stage there.found from stands.5.0 stands.5.1 there.steps in
+      let done = sends.does scene index holds_before small there.knows stage there.found from stands.5.0 stands.5.1 there.steps in
       let value = old scene index stage in
       from_step (calls.Send index) (asked scene index stage) (goes scene index stage value) (effect_at scene index stage value)
       done.channel_then (push_wrote queue s.submission index stage) from done.step
 
-  -- a take-back that stands in its pop comes on as a step of the machine
+  -- the step of a take-back in its pop leaves a machine with the invariant
   pub take_back_pops : (stage : PopStage) (found : OneWord)
       → Stands 0 (starts.Loan calls.TakeBack) (flights.Loan (pops_at slots queue stage found))
       → Comes 0 (starts.Loan calls.TakeBack) (flights.Loan (pops_at slots queue stage found))
   take_back_pops stage found there =
       let stands = there.at in
       let from = ap (span_of 0) sound.holds.same ∙ (there.span ∙ ap (λ es. Open (starts.Loan calls.TakeBack) es) stands.3) in
-      let done = take_backs.does scene h small stage found there.found from there.knows stage found stands.4 there.steps in
+      let done = take_backs.does scene holds_before small stage found there.found from there.knows stage found stands.4 there.steps in
       from_step calls.TakeBack (take_backs.asked scene stage) (take_backs.goes scene stage found (take_backs.old scene stage))
       (take_back_effect (take_back_stages.Pops stage found)) done.channel_then [] from done.step
 
-  -- a give-back of a party that has not died comes on as a step of the machine
+  -- the step of a give-back of a living party leaves a machine with the invariant
   pub give_back_pushes : (p index : ℕ) (stage : ring_pushes.PushStage) → has_died p s.book.dead ≡ false
       → Stands p (starts.Loan (calls.GiveBack index)) (flights.Loan (give_at slots queue p index stage))
       → Comes p (starts.Loan (calls.GiveBack index)) (flights.Loan (give_at slots queue p index stage))
@@ -101,23 +104,24 @@ module _ {T : Type 0} (m : Underway T) where
       let known = stands.7 alive in
       let from = ap (span_of p) sound.holds.same ∙ (there.span ∙ ap (λ es. Open (starts.Loan (calls.GiveBack index)) es) stands.5) in
       let receiver_calls : ReceiverCalls scene p (calls.GiveBack index) =
-      record { holds = h; small = small; other = stands.0; alive = alive; receives = known.0; from = from } in
+      record { holds = holds_before; small = small; other = stands.0; alive = alive; receives = known.0; from = from } in
       let done = give_backs.does scene p index receiver_calls known.1 there.knows stage known.2 there.steps in
       from_receiver p (calls.GiveBack index) (give_backs.asked scene p index stage) false (give_backs.after_of scene p index stage)
       (give_back_effect index stage) done.queue_then from done.step
 
-  -- a receive that takes nothing out with this step
+  -- the step of a receive that takes no index out leaves a machine with the invariant
   pub receive_looks : (p : ℕ) (stage : overflow_pops.PopStage) (room : OneWord)
       → has_died p s.book.dead ≡ false → IsLook s stage
       → Stands p (starts.Loan calls.Receive) (flights.Loan (receive_at slots queue p stage room))
       → Comes p (starts.Loan calls.Receive) (flights.Loan (receive_at slots queue p stage room))
-  receive_looks p stage room alive is there =
+  receive_looks p stage room alive is_look there =
       let stands = there.at in
       let known = stands.5 alive in
       let from = ap (span_of p) sound.holds.same ∙ (there.span ∙ ap (λ es. Open (starts.Loan calls.Receive) es) stands.4) in
       let receiver_calls : ReceiverCalls scene p calls.Receive =
-      record { holds = h; small = small; other = stands.0; alive = alive; receives = known.0; from = from } in
+      record { holds = holds_before; small = small; other = stands.0; alive = alive; receives = known.0; from = from } in
       let send = beside s.book (words_in s) t.world.latest p in
       let value = receives.old scene p send stage in
       from_receiver p calls.Receive (receives.asked scene p send stage) (goes_back stage value) (receives.goes scene p send stage room value)
-      (receives.effect_at scene p send stage value) s.completion from (receives.looks scene p send receiver_calls stage room is known.1 there.steps there.knows)
+      (receives.effect_at scene p send stage value) s.completion from
+      (receives.looks scene p send receiver_calls stage room is_look known.1 there.steps there.knows)

@@ -1,4 +1,5 @@
--- The steps of a send until it releases an index: the sender pushes the submission queue.
+-- The steps of a send before it publishes: the sender pushes its index into the submission queue. Each
+-- keeps the invariant: it has the fields of `Steps` (Sender).
 use Rattle.laws_loan.proofs.Names.{◌≡◌, ◌≢◌, ℕ, ◌+◌, ◌-◌, ◌^◌, ◌<◌, ◌≤◌, ◌==◌, false, Option, Some, None, List, []}
 use Rattle.laws_loan.proofs.Names.{◌++◌, length, refl, ap, subst, ◌∙◌, append-nil, nat_tests, Ask, After, GoOn}
 use Rattle.laws_loan.proofs.Names.{OneWord, submission_word, shifted, send_takes, load, went_on, Answer, Event, Start}
@@ -30,99 +31,116 @@ use Rattle.laws_loan.proofs.SenderInterference.{others_beside}
 use Rattle.laws_loan.proofs.QueueEvents.{silent_tells}
 use Rattle.laws_loan.proofs.Turns.{Shows, sends_now}
 
+-- the send at a stage of its push
 abbrev pub pushes_at : ℕ → ℕ → PushStage → ℕ → LoanFlight
 pushes_at slots queue stage index =
     Send (record { call = record { slots = slots; queue = queue; stage = sends.Pushes stage }; given = index; room = tt })
 
--- how a send goes on that goes on so
+-- how the send goes on, or ends, where `after` is how its push has gone on or ended
 abbrev pub sent_after : (T : Type 0) → ℕ → After send.Send (Option ℕ) → After LoanFlight (Answer T)
 sent_after T index after = as_call Send popped (went_on as_it_is index tt after)
 
--- a push that waits for nothing
+-- a push at this stage does not wait for the read position
 abbrev pub IsCalm : PushStage → Type 0
 IsCalm (pushes.MovesRead read) = ⊥
 IsCalm stage = Unit {0}
 
+-- the sender sends the index
 module _ {T : Type 0} (scene : Scene T) (index : ℕ) where
   open scene use {slots, queue, state as s, latest, turns, caller as x}
 
   abbrev pub start : Start T
   start = starts.Loan (calls.Send index)
 
+  -- the operation that the send asks for at this stage
   abbrev pub asked : PushStage → Option Ask
   asked stage = ask_of (shifted (submission_word slots) (push_asks queue stage index))
 
+  -- the old value of the word that it asks for
   abbrev pub old : PushStage → ℕ
   old stage = old_of (words_in s) (asked stage)
 
+  -- the words of the submission queue
   abbrev pub queued : List ℕ
   queued = layout no_roles s.submission
 
+  -- how the send goes on from this stage, or ends, where the word has the value `value`
   abbrev pub goes : PushStage → ℕ → After LoanFlight (Answer T)
   goes stage value =
       sent_after T index (send_takes (record { slots = slots; queue = queue; stage = sends.Pushes stage })
       (sends.Pushes stage) index value)
 
+  -- what the step at this stage does to the channel
   abbrev pub effect_at : PushStage → ℕ → Effect
   effect_at stage value = push_effect (submission_word slots) queue (words_in s) index stage value
 
-  -- what a step of the send shows, where it leaves the channel so
+  -- a step at this stage that leaves the channel `s'`, where the send has written `wrote`,
+  -- keeps the invariant
   abbrev pub StepTo : Channel T → List (Event T) → PushStage → After LoanFlight (Answer T) → Effect → Type 0
   StepTo s' wrote stage after effect =
       StepBy scene 0 s' (Open start wrote) (calls.Send index) (asked stage) false after effect
 
-  -- what a step of a send that stands here comes to
-  pub record Does (stage : PushStage) : Type 0 where
+  -- the step of the send at this stage keeps the invariant, with some channel
+  pub record StageKeeps (stage : PushStage) : Type 0 where
     pub channel_then : Channel T
     pub step : StepTo channel_then (push_wrote queue s.submission index stage) stage (goes stage (old stage)) (effect_at stage (old stage))
 
-  -- the step comes to this, as the call computes it
+  -- the step is the one with this result, as the call computes it
   pub does_by : (s' : Channel T) (stage : PushStage) (wrote : List (Event T)) (after : After LoanFlight (Answer T)) (effect : Effect)
       → push_wrote queue s.submission index stage ≡ wrote → goes stage (old stage) ≡ after → effect_at stage (old stage) ≡ effect
-      → StepTo s' wrote stage after effect → Does stage
+      → StepTo s' wrote stage after effect → StageKeeps stage
   does_by = grind arith
 
-  abbrev pub Here : PushStage → Type 0
-  Here stage = sends_at latest ≡ Some (flights.Loan (pushes_at slots queue stage index))
+  -- the sender has a send of the index under way, at this stage
+  abbrev pub SendIsAt : PushStage → Type 0
+  SendIsAt stage = sends_at latest ≡ Some (flights.Loan (pushes_at slots queue stage index))
 
-  module _ (h : HoldsIn scene) (small : turns < 2 ^ 64 - 2) (straight : x.backs ≡ 0) where
-    -- ---- what is so of the queue
+  module _ (holds : HoldsIn scene) (small : turns < 2 ^ 64 - 2) (straight : x.backs ≡ 0) where
+    -- ---- the words of the submission queue
 
+    -- the write position is below its last value
     pub reached : s.submission.write < 2 ^ 64 - 2
-    reached = let sent = h.sent in omega arith
+    reached = let sent = holds.sent in omega arith
 
+    -- the submission queue has five words and one for each index that may wait
     pub long : length queued ≡ 5 + queue
     long = grind (arith, reached)
 
+    -- what an operation of the push finds in the whole it finds in the queue
     pub old_is : (stage : PushStage) → IsOn queued (push_asks queue stage index) → old stage ≡ old_of queued (ask_of (push_asks queue stage index))
-    old_is stage on = submission_old slots queue s (counted_for (sends_at latest)) h.parts (push_asks queue stage index) on
+    old_is stage on = submission_old slots queue s (counted_for (sends_at latest)) holds.parts (push_asks queue stage index) on
 
-    -- an operation on the submission queue changes that part of the words alone, to those of the queue as it is then
+    -- an operation on the submission queue changes that part of the words alone, to those of
+    -- the queue as it is then
     pub words_are : (stage : PushStage) (k : Core ℕ) → IsOn queued (push_asks queue stage index)
         → words_after queued (ask_of (push_asks queue stage index)) ≡ layout no_roles k
         → words_after (words_in s) (asked stage) ≡ s.set ++ (layout no_roles k ++ layout no_roles s.completion)
-    words_are stage k on is =
-        submission_words slots queue s (counted_for (sends_at latest)) h.parts (push_asks queue stage index) on
-        ∙ ap (λ ws. s.set ++ (ws ++ layout no_roles s.completion)) is
+    words_are stage k on layout_is =
+        submission_words slots queue s (counted_for (sends_at latest)) holds.parts (push_asks queue stage index) on
+        ∙ ap (λ ws. s.set ++ (ws ++ layout no_roles s.completion)) layout_is
 
+    -- an operation of the push counts as many changes in the whole as in the queue
     pub change_is : (stage : PushStage) → IsOn queued (push_asks queue stage index)
         → change_of (words_in s) (asked stage) ≡ change_of queued (ask_of (push_asks queue stage index))
-    change_is stage on = submission_change slots queue s (counted_for (sends_at latest)) h.parts (push_asks queue stage index) on
+    change_is stage on = submission_change slots queue s (counted_for (sends_at latest)) holds.parts (push_asks queue stage index) on
 
     -- the read position, as the words of the whole have it
     pub read_is : read_in (submission_word slots) (words_in s) ≡ s.submission.read
-    read_is = submission_old slots queue s (counted_for (sends_at latest)) h.parts (load 1) (let wide = long in omega arith)
+    read_is = submission_old slots queue s (counted_for (sends_at latest)) holds.parts (load 1) (let wide = long in omega arith)
 
-    idle : (stage : PushStage) → Here stage → counted_for (sends_at latest) ≡ 0
+    -- while it pushes, a send is not counted by the set
+    idle : (stage : PushStage) → SendIsAt stage → counted_for (sends_at latest) ≡ 0
     idle stage here = ap counted_for here
 
-    -- a send carries no other index, until it takes one out
+    -- a send has no other index in passing than its own, until it takes one out
     pub none_carried : {A : Type 0} (i : ℕ) → index ≢ i → Carries i (Open start []) → A
     none_carried = grind arith
 
-    -- ---- it goes on, and nothing has moved yet
+    -- ---- the send goes on, and no position has moved yet
 
-    module _ (now after_it : PushStage) (k : Core ℕ) (here : Here now) (calm : IsCalm now)
+    -- the send is at the stage `now`, and its step leaves the submission queue `k`, with the same positions
+    -- and the same indices
+    module _ (now after_it : PushStage) (k : Core ℕ) (here : SendIsAt now) (calm : IsCalm now)
         (from : span_of 0 s.events ≡ Open start []) (waits : k.waiting ≡ s.submission.waiting)
         (write : k.write ≡ s.submission.write) (read : k.read ≡ s.submission.read) (good : Good 1 words_of_index (queue + 1) k)
         (on : IsOn queued (push_asks queue now index)) (words : words_after queued (ask_of (push_asks queue now index)) ≡ layout no_roles k)
@@ -134,22 +152,27 @@ module _ {T : Type 0} (scene : Scene T) (index : ℕ) where
         after_it) (steps : x.steps + 1 ≤ overflow_push_number after_it)
         (pops : (room : OneWord) (stage : PopStage) → KnowsOverflowPop queue s.submission room stage
         → KnowsOverflowPop queue k room stage) where
+      -- the channel after a step with which the send goes on
       abbrev s_on : Channel T
       s_on = record s { submission = k; completion = s.completion; book = s.book; events = s.events ++ [] }
 
+      -- the sender after a step with which the send goes on
       abbrev y_on : Party T
       y_on = party_then scene (calls.Send index) (asked now) false (GoOn (pushes_at slots queue after_it index))
 
+      -- the span of the send still has nothing written
       as_was : span_of 0 (s.events ++ []) ≡ Open start []
       as_was = ap (span_of 0) (append-nil s.events) ∙ from
 
+      -- at most the capacity waits after the step
       few_wait : length k.waiting ≤ queue
       few_wait = grind (arith, length)
 
+      -- a step with which the push goes on keeps what holds between two turns, with no event
       shows_on : Shows slots queue s s_on 0 y_on latest turns []
       shows_on = grind (arith, append-nil, idle, silent_tells, few_wait, sends_now)
 
-      -- a step that goes on, where nothing has moved yet, leaves the send at the push's next stage, and writes nothing
+      -- a step with which the push goes on leads the send to its next stage, and writes nothing
       pub goes_on : StepTo s_on [] now (GoOn (pushes_at slots queue after_it index)) effects.Quiet
       goes_on =
           let written = words_are now k on words in
@@ -160,47 +183,49 @@ module _ {T : Type 0} (scene : Scene T) (index : ℕ) where
     -- ---- the loads, and the store into the cell
 
     module _ (passes : Passes slots queue s 0 index) (from : span_of 0 s.events ≡ Open start []) where
+      -- the channel after a step that changes nothing of it
       abbrev still : Channel T
       still = record s { submission = s.submission; completion = s.completion; book = s.book; events = s.events ++ [] }
 
+      -- the index stays in passing in the send
       passes_on : Passes slots queue (record s { events = s.events ++ [] }) 0 index
       passes_on = (passes.0, ap (spot_of index) (append-nil s.events) ∙ passes.1)
 
-      -- the load of the write position does what a step should
-      pub loads_write : Here pushes.LoadsWrite → x.steps ≤ 0 → Does pushes.LoadsWrite
+      -- the load of the write position leads on to the load of the read position
+      pub loads_write : SendIsAt pushes.LoadsWrite → x.steps ≤ 0 → StageKeeps pushes.LoadsWrite
       loads_write here steps =
-          let some = h.parts.some in
+          let some = holds.parts.some in
           let on_queue : 0 < length queued = (let wide = long in omega arith) in
           does_by still pushes.LoadsWrite [] (GoOn (pushes_at slots queue (pushes.LoadsRead s.submission.write) index))
           effects.Quiet refl (ap (goes pushes.LoadsWrite) (old_is pushes.LoadsWrite on_queue)
           ∙ (let not_last : (s.submission.write == 2 ^ 64 - 1) ≡ false = (let low = reached in grind (arith, nat_tests)) in rw not_last refl))
           refl (goes_on pushes.LoadsWrite (pushes.LoadsRead s.submission.write) s.submission here tt from
-          refl refl refl h.parts.submission on_queue refl refl refl refl refl
+          refl refl refl holds.parts.submission on_queue refl refl refl refl refl
           (omega arith, refl, (let low = reached in omega arith)) passes_on (omega arith) (λ room stage known. known))
 
-      -- the load of the read position does what a step should
-      pub loads_read : Here (pushes.LoadsRead s.submission.write) → x.steps ≤ 1 → Does (pushes.LoadsRead s.submission.write)
+      -- the load of the read position leads on to the store into the cell
+      pub loads_read : SendIsAt (pushes.LoadsRead s.submission.write) → x.steps ≤ 1 → StageKeeps (pushes.LoadsRead s.submission.write)
       loads_read here steps =
-          let some = h.parts.some in
+          let some = holds.parts.some in
           let on_queue : 1 < length queued = (let wide = long in omega arith) in
-          let few : length s.submission.waiting ≤ queue = subst (Hangs queue s.submission) (ap (hung s.submission.read) here) h.hangs in
-          let write = h.parts.submission.write in
+          let few : length s.submission.waiting ≤ queue = subst (Hangs queue s.submission) (ap (hung s.submission.read) here) holds.hangs in
+          let write = holds.parts.submission.write in
           does_by still (pushes.LoadsRead s.submission.write) []
           (GoOn (pushes_at slots queue (pushes.StoresCell s.submission.write s.submission.read) index)) effects.Quiet
           refl (ap (goes (pushes.LoadsRead s.submission.write)) (old_is (pushes.LoadsRead s.submission.write) on_queue)) refl
           (goes_on (pushes.LoadsRead s.submission.write)
           (pushes.StoresCell s.submission.write s.submission.read) s.submission here tt from refl refl refl
-          h.parts.submission on_queue refl refl refl refl refl
+          holds.parts.submission on_queue refl refl refl refl refl
           (omega arith, refl, omega arith, omega arith, (let low = reached in omega arith)) passes_on (omega arith) (λ room stage known. known))
 
-      -- and the store into the cell, at a read position that is not past the queue's, from which
-      -- the queue is no more than full
+      -- the store into the cell leads on to the store of the next write position; `read` is the read
+      -- position that the send has loaded, which can have moved on since
       pub stores_cell : (read : ℕ) → read ≤ s.submission.read → s.submission.write ≤ read + queue
-          → Here (pushes.StoresCell s.submission.write read) → x.steps ≤ 2
-          → Does (pushes.StoresCell s.submission.write read)
+          → SendIsAt (pushes.StoresCell s.submission.write read) → x.steps ≤ 2
+          → StageKeeps (pushes.StoresCell s.submission.write read)
       stores_cell read low far here steps =
-          let some = h.parts.some in
-          let few : length s.submission.waiting ≤ queue = subst (Hangs queue s.submission) (ap (hung s.submission.read) here) h.hangs in
+          let some = holds.parts.some in
+          let few : length s.submission.waiting ≤ queue = subst (Hangs queue s.submission) (ap (hung s.submission.read) here) holds.hangs in
           let below : length s.submission.waiting < queue + 1 = omega arith in
           record {
             channel_then =
@@ -213,15 +238,15 @@ module _ {T : Type 0} (scene : Scene T) (index : ℕ) where
             step =
                 goes_on (pushes.StoresCell s.submission.write read) (pushes.StoresWrite s.submission.write read)
                 (filled 1 words_of_index (queue + 1) s.submission 0 index) here tt from refl refl refl
-                (submission.fill_good queue h.parts.some h.parts.few s.submission h.parts.submission reached index below)
-                (submission.cell_on queue h.parts.some h.parts.few s.submission h.parts.submission reached s.submission.write)
-                (submission.fill_words queue h.parts.some h.parts.few s.submission h.parts.submission reached index)
+                (submission.fill_good queue holds.parts.some holds.parts.few s.submission holds.parts.submission reached index below)
+                (submission.cell_on queue holds.parts.some holds.parts.few s.submission holds.parts.submission reached s.submission.write)
+                (submission.fill_words queue holds.parts.some holds.parts.few s.submission holds.parts.submission reached index)
                 refl refl refl refl (
                   omega arith,
                   refl,
                   low,
                   far,
-                  submission.fill_whole queue h.parts.some h.parts.few s.submission h.parts.submission reached index below,
+                  submission.fill_whole queue holds.parts.some holds.parts.few s.submission holds.parts.submission reached index below,
                   (omega (arith, reached)),
                 )
                 passes_on (omega arith) (fill_keeps_pop queue s.submission 0 index);

@@ -1,4 +1,4 @@
--- From what a step shows to what it comes to for the frame.
+-- A step with the fields of `Steps` (Sender) leaves a machine with the invariant.
 use Rattle.laws_loan.proofs.Names.{◌≡◌, ℕ, ◌+◌, Bool, Option, List, ◌++◌, subst, fold, Ask, After, Answer, Event}
 use Rattle.laws_loan.proofs.Names.{Book, LoanStart, LoanFlight, Effect, Coding, ended_book, book_after}
 use Rattle.laws_loan.proofs.Names.{effects_of, put, Span, span_of, answer_in, words_after, change_of, step_count}
@@ -29,14 +29,16 @@ module _ {T : Type 0} (m : Underway T) where
   abbrev pub now : Channel T
   now = sound.state
 
-  -- what holds, by the events of the state, which are those of the run
+  -- what holds between two turns holds in the machine
   pub holds_now : HoldsNow slots queue now t.world.latest now.events t.world.turns
   holds_now = grind arith
 
+  -- the invariant of the frame, before the step
   pub inv_now : frame.Inv any now t.world.latest now.events t.world.changes
   inv_now = grind arith
 
-  -- what is done by this party with this operation, after which it goes on so, has written this and leaves this book
+  -- a step of the party `p` with the operation `ask`, after which the call is `after`, that writes `wrote`
+  -- and leaves the book `book`, leaves a machine with the invariant
   abbrev pub ComesWith : ℕ → LoanStart → Option Ask → Bool → After LoanFlight (Answer T) → List (Event T) → Book → Type 0
   ComesWith p start ask back after wrote book =
       frame.Comes any t p (registries.Loan book) (words_after (words_in now) ask)
@@ -44,13 +46,14 @@ module _ {T : Type 0} (m : Underway T) where
       (record { after = any_call after; back = back; wrote = wrote; kept = registries.Loan book }))
       (wrote ++ ending_of p (starts.Loan start) (answer_in (any_call after))) (t.world.changes + change_of (words_in now) ask)
 
-  -- the party comes on so with this effect
+  -- a step of the party's call with this effect leaves a machine with the invariant
   abbrev pub ComesBy : ℕ → LoanStart → Option Ask → Bool → After LoanFlight (Answer T) → Effect → Type 0
   ComesBy p start ask back after effect =
       ComesWith p start ask back after (effects_of p effect (answer_in after))
       (ended_book {T = T} p start (answer_in after) (fold (book_after {T = T}) now.book (effects_of p effect (answer_in after))))
 
-  -- any step that shows this and owes this
+  -- a step with the fields of `Shows` (Turns) that gives the frame what it asks of a turn leaves a machine
+  -- with the invariant
   pub comes : (p : ℕ) (start : LoanStart) (ask : Option Ask) (back : Bool) (after : After LoanFlight (Answer T))
       (es : List (Event T)) (book : Book) (s' : Channel T)
       → book ≡ s'.book → words_after (words_in now) ask ≡ words_in s'
@@ -73,12 +76,12 @@ module _ {T : Type 0} (m : Underway T) where
             sound.holds.same owes;
       }
 
-  -- a step that shows this and owes this comes on, by this effect, which leaves this book
+  -- a step with this effect that has the fields of `Steps` leaves a machine with the invariant
   pub step_comes : (p : ℕ) (start : LoanStart) (ask : Option Ask) (back : Bool) (after : After LoanFlight (Answer T))
       (effect : Effect) (s' : Channel T) (from : Span T) → span_of p now.events ≡ from
       → StepBy scene p s' from start ask back after effect
       → ComesBy p start ask back after effect
-  step_comes p start ask back after effect s' from is step =
+  step_comes p start ask back after effect s' from span_is step =
       comes p start ask back after (told_by scene p start after effect)
       (ended_book {T = T} p start (answer_in after) (fold (book_after {T = T}) now.book (effects_of p effect (answer_in after))))
-      s' step.1 step.0.words step.0.shows (step_owes scene p s' from start ask back after (told_by scene p start after effect) step.0 is inv_now)
+      s' step.1 step.0.words step.0.shows (step_owes scene p s' from start ask back after (told_by scene p start after effect) step.0 span_is inv_now)

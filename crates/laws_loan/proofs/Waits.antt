@@ -1,4 +1,5 @@
--- What waits in the two queues by the words is what waits in them, and these are the indices that are there by the events.
+-- The indices that wait in the two queues by the words are those that wait in them by the state, and these
+-- are the ones whose spot by the events is the queue.
 use Rattle.laws_loan.proofs.Names.{◌≡◌, ◌≢◌, ℕ, zero, suc, ◌+◌, ◌-◌, ◌*◌, ◌%◌, ◌<◌, ◌≤◌, ◌==◌, ⊎_elim, Bool, true}
 use Rattle.laws_loan.proofs.Names.{Some, Contains, AllPairs, List, [], ◌∷◌, ◌++◌, length, get_or, map, slice_get}
 use Rattle.laws_loan.proofs.Names.{refl, sym, ap, ◌∙◌, append_assoc, append-nil, drop_at, cases_eq}
@@ -24,7 +25,8 @@ cell_place = grind arith
 module _ {T : Type 0} (code : Coding T) (kd : QueueKind)
     (reads : (words : List ℕ) (cell : ℕ) → item_at code kd words cell ≡ Index (get_or words cell 0))
     (one : words_of_cell code.size kd ≡ 1) where
-  -- where each cell from a position on has the index of a list, what is stored there is the indices of that list
+  -- where each cell from a position on has the next index of a list, what is stored in
+  -- these cells is that list
   stored_is : (c : ℕ) (words : List ℕ) (position : ℕ) (xs : List ℕ)
       → ((i v : ℕ) → slice_get xs i ≡ Some v → get_or words (cell_of code kd c (position + i)) 0 ≡ v)
       → stored code kd c words position (length xs) ≡ map Index xs
@@ -35,7 +37,7 @@ module _ {T : Type 0} (code : Coding T) (kd : QueueKind)
       let rest = stored_is c words (position + 1) xs (λ i v e. let same : position + 1 + i ≡ position + suc i = omega arith in rw same (held (suc i) v e)) in
       rw (first, rest) refl
 
-  -- in a queue whose words have others behind them
+  -- a queue whose words have others behind them holds the indices that wait in it
   waits_in : (c : ℕ) (k : Core ℕ) (zs : List ℕ) → Good 1 words_of_index (cells_of kd c) k → waiting_in code kd c (layout no_roles k ++ zs) ≡ map Index k.waiting
   waits_in c k zs good =
       let write = good.write in
@@ -47,8 +49,8 @@ module _ {T : Type 0} (code : Coding T) (kd : QueueKind)
 
       -- the cell of the read position plus `i` has the index that is the `i`th to wait
       held : (i v : ℕ) → slice_get k.waiting i ≡ Some v → get_or (layout no_roles k ++ zs) (cell_of code kd c (k.read + i)) 0 ≡ v
-      held i v e =
-          let below = at_below 1 words_of_index n k.waiting i v e in
+      held i v element_is =
+          let below = at_below 1 words_of_index n k.waiting i v element_is in
           let few = good.few in
           let some : 0 < n = omega arith in
           let first : cell_of code kd c (k.read + i) ≡ 4 + 1 * ((k.read + i) % n) = ap (λ m. cell_word n m (k.read + i)) one ∙ cell_place n (k.read + i) some in
@@ -57,9 +59,11 @@ module _ {T : Type 0} (code : Coding T) (kd : QueueKind)
           ap (λ m. get_or (layout no_roles k ++ zs) m 0) first
           ∙ (get_or_append_left (layout no_roles k) zs 0 (4 + 1 * ((k.read + i) % n)) (omega arith)
           ∙ (word_at k.write k.read 1 1 k.cells (4 + 1 * ((k.read + i) % n)) (1 * ((k.read + i) % n) + 0) (omega arith)
-          ∙ good.held i v e 0 (omega arith)))
+          ∙ good.held i v element_is 0 (omega arith)))
 
-module _ {T : Type 0} (code : Coding T) (slots queue : ℕ) (s : Channel T) (busy : ℕ) (h : Holds slots queue s busy) where
+-- the submission queue of the channel holds, by the words, the indices that wait in it
+module _ {T : Type 0} (code : Coding T) (slots queue : ℕ) (s : Channel T) (busy : ℕ) (holds : Holds slots queue s busy) where
+  -- the words have the indices that wait in the submission queue
   pub sent_is : sent_in code slots queue (words_in s) ≡ map Index s.submission.waiting
   sent_is = grind (arith, drop_at, layout, set_long, waits_in)
 
@@ -71,67 +75,71 @@ module _ {T : Type 0} (code : Coding T) (slots queue : ℕ) (s : Channel T) (bus
       ap (given_back_in code slots queue) one
       ∙ (ap (waiting_in code IndexQueue slots)
       (drop_at (s.set ++ layout no_roles s.submission) (layout no_roles s.completion) (completion_word slots queue)
-      (both_long slots queue s busy h))
+      (both_long slots queue s busy holds))
       ∙ (ap (waiting_in code IndexQueue slots) (sym (append-nil (layout no_roles s.completion)))
-      ∙ waits_in code IndexQueue (λ words cell. refl) refl slots s.completion [] h.completion))
+      ∙ waits_in code IndexQueue (λ words cell. refl) refl slots s.completion [] holds.completion))
 
 -- ---- by the events
 
--- one that stands at two places stands there twice
+-- an index that is at some place of a list is in it once at least
 stands_once : (i : ℕ) (xs : List ℕ) (k : ℕ) → k < length xs → get_or xs k 0 ≡ i → 1 ≤ times i xs
-stands_once i [] k below e = absurd (omega arith)
-stands_once i (x ∷ xs) zero below e =
-    let one : one_if (x == i) ≡ 1 = ap (λ n. one_if (n == i)) e ∙ same_one i in
+stands_once i [] k below element_is = absurd (omega arith)
+stands_once i (x ∷ xs) zero below element_is =
+    let one : one_if (x == i) ≡ 1 = ap (λ n. one_if (n == i)) element_is ∙ same_one i in
     omega arith
-stands_once i (x ∷ xs) (suc k) below e = let rest = stands_once i xs k (omega arith) e in omega arith
+stands_once i (x ∷ xs) (suc k) below element_is = let rest = stands_once i xs k (omega arith) element_is in omega arith
 
--- so an index that stands at two places of a list is in it twice at least
+-- an index that is at two places of a list is in it twice at least
 stands_twice : (i : ℕ) (xs : List ℕ) (a b : ℕ) → a < b → b < length xs → get_or xs a 0 ≡ i → get_or xs b 0 ≡ i → 2 ≤ times i xs
-stands_twice i [] a b less below e f = absurd (omega arith)
-stands_twice i (x ∷ xs) a zero less below e f = absurd (omega arith)
-stands_twice i (x ∷ xs) zero (suc b) less below e f =
-    let one : one_if (x == i) ≡ 1 = ap (λ n. one_if (n == i)) e ∙ same_one i in
-    let rest = stands_once i xs b (omega arith) f in
+stands_twice i [] a b less below at_a at_b = absurd (omega arith)
+stands_twice i (x ∷ xs) a zero less below at_a at_b = absurd (omega arith)
+stands_twice i (x ∷ xs) zero (suc b) less below at_a at_b =
+    let one : one_if (x == i) ≡ 1 = ap (λ n. one_if (n == i)) at_a ∙ same_one i in
+    let rest = stands_once i xs b (omega arith) at_b in
     omega arith
-stands_twice i (x ∷ xs) (suc a) (suc b) less below e f = let rest = stands_twice i xs a b (omega arith) (omega arith) e f in omega arith
+stands_twice i (x ∷ xs) (suc a) (suc b) less below at_a at_b = let rest = stands_twice i xs a b (omega arith) (omega arith) at_a at_b in omega arith
 
 module _ {T : Type 0} where
   abbrev items : List ℕ → List (Item T)
   items xs = map Index xs
 
-  -- an index that stands in a list is one of its items
+  -- an index that is in a list is one of its items
   there : (i : ℕ) (xs : List ℕ) → 1 ≤ times i xs → Contains (items xs) (Index i)
   there i [] times_at_least = absurd (omega arith)
   there i (x ∷ xs) times_at_least = ⊎_elim here (later (there i xs)) (cases_eq x i)
     where
+      -- the first index of a list is one of its items
       here : x ≡ i → Contains (items (x ∷ xs)) (Index i)
-      here e = (0, omega arith, ap (λ (n : ℕ). Index n) e)
+      here same_index = (0, omega arith, ap (λ (n : ℕ). Index n) same_index)
 
+      -- an index that is in the rest of the list is in the list
       later : (1 ≤ times i xs → Contains (items xs) (Index i)) → x ≢ i → Contains (items (x ∷ xs)) (Index i)
       later rest ne =
           let none = other_none x i ne in
           let found = rest (omega arith) in
           (suc found.0, (let below = found.1 in omega arith), found.2)
 
-  -- an index that stands at a place of the items is in the list once at least
+  -- an index that is one of the items of a list is in it once at least
   stands : (i : ℕ) (xs : List ℕ) (k : ℕ) → k < length (items xs) → get_or (items xs) k (Index i) ≡ Index i → 1 ≤ times i xs
-  stands i [] k below e = absurd (omega arith)
-  stands i (x ∷ xs) zero below e =
-      let head : ◌≡◌ {A = Item T} (Index x) (Index i) = e in
+  stands i [] k below element_is = absurd (omega arith)
+  stands i (x ∷ xs) zero below element_is =
+      let head : ◌≡◌ {A = Item T} (Index x) (Index i) = element_is in
       let same : x ≡ i = cc in
       let one : one_if (x == i) ≡ 1 = ap (λ n. one_if (n == i)) same ∙ same_one i in
       omega arith
-  stands i (x ∷ xs) (suc k) below e = let rest = stands i xs k (omega arith) e in omega arith
+  stands i (x ∷ xs) (suc k) below element_is = let rest = stands i xs k (omega arith) element_is in omega arith
 
-  -- the indices at a spot, of which a test tells which it is
+  -- the items of a list of the indices at a spot, where `is` tests for the spot, are those whose spot it is
   pub are_those : (spot : Spot) (is : Spot → Bool) → is spot ≡ true
       → ((other : Spot) → is other ≡ true → other ≡ spot) → (xs : List ℕ) (events : List (Event T)) → Lists is xs events
       → AreThose spot (items xs) events
   are_those spot is self only xs events all = record { each = λ i. (from i, to i); once = once }
     where
+      -- each of the items is at the spot
       from : (i : ℕ) → Contains (items xs) (Index i) → spot_of i events ≡ spot
       from = grind (arith, stands, true_if_one)
 
+      -- an index at the spot is one of the items
       to : (i : ℕ) → spot_of i events ≡ spot → Contains (items xs) (Index i)
       to = grind (arith, there)
 

@@ -1,4 +1,4 @@
--- Where a party's call stands before a turn, and where it stands after it.
+-- Which call a party has under way before a turn, and which after it.
 use Rattle.std.proofs.Common.{arith}
 use Rattle.laws_machine.proofs.Names.{◌≡◌, ℕ, Bool, Option, Some, None, refl, ap, ◌∙◌, After, GoOn, Done}
 use Rattle.laws_machine.proofs.Names.{Answer, Flight, Doing, Going, Over, Party, Next, Decide, want_of, ask_of, goes_of}
@@ -9,47 +9,55 @@ use Rattle.model.proofs.Frame.{Family, Sound}
 module _ {T : Type 0} where
   -- ---- after a turn
 
-  -- the call that is under way then
+  -- the call that is under way afterwards, if it goes on
   abbrev pub left_by : After (Flight T) (Answer T) → Option (Flight T)
   left_by (GoOn flight) = Some flight
   left_by (Done answer) = None
 
+  -- a party that stands as `a` says has the call that `a` leaves
   stands_left : (w : World T) (p : ℕ) (a : After (Flight T) (Answer T)) → StandsAt w p a → flight_in w p ≡ left_by a
   stands_left w p (GoOn flight) standing = standing
   stands_left w p (Done answer) standing = standing
 
   module _ (old new : World T) (p : ℕ) (flight : Flight T) (here : flight_in old p ≡ Some flight) where
+    -- after a step, the party has the call that the table of steps leaves
     pub next_left : GoesOn old (Next p) new
         → flight_in new p ≡ left_by (goes_of old.coding p flight (old_of old.words (ask_of (want_of old.coding flight))) old.kept)
     next_left = grind (arith, stands_left)
 
+    -- after a decision, the party has the call that the table of steps leaves for that answer
     pub decision_left : (said : Bool) → GoesOn old (Decide p said) new → flight_in new p ≡ left_by (goes_of old.coding p flight (number_of said) old.kept)
     decision_left = grind (arith, stands_left, number_of)
 
--- ---- before it
+-- ---- before a turn
 
-module _ {T : Type 0} (F : Family T) (t : Trace T) (s : Sound F t) (p : ℕ) where
-  -- a call of a party that is found so
+module _ {T : Type 0} (F : Family T) (t : Trace T) (sound : Sound F t) (p : ℕ) where
+  -- the party has this call under way, and the call stands in the machine as its family says
   pub record IsUnderWay (flight : Flight T) : Type 0 where
+    -- the party, as the machine has it, and when its call began
     pub party : Party T
     pub since : ℕ
     pub found : party_of p t.world.latest ≡ Some party
+    -- it is in this call, which stands as its family says
     pub doing : party.doing ≡ Going flight since
-    pub there : StandsThere F t s p party since party.start flight
+    pub there : StandsThere F t sound p party since party.start flight
 
+  -- two calls that are present and equal as options are equal
   some_flight : (a b : Flight T) → ◌≡◌ {A = Option (Flight T)} (Some a) (Some b) → a ≡ b
   some_flight a b e = cc
 
-  -- a call that is found at a party stands there, by the family, with what it is known to know
+  -- a call that the machine has for a party is under way as `IsUnderWay` says
   pub under_way : (flight : Flight T) → flight_in t.world p ≡ Some flight → IsUnderWay flight
   under_way flight here = go (party_of p t.world.latest) refl here
     where
+      -- the cases are what the party is doing
       by : (x : Party T) → party_of p t.world.latest ≡ Some x → (doing : Doing T) → x.doing ≡ doing → flight_of (Some doing) ≡ Some flight → IsUnderWay flight
-      by x found (Over others) same_doing e = absurd (cc)
-      by x found (Going f since) same_doing e =
-          let same = same_doing ∙ ap (λ g. Going g since) (some_flight f flight e) in
-          record { party = x; since = since; found = found; doing = same; there = stands_there F t s p x since flight found same }
+      by x found (Over others) same_doing flight_is = absurd (cc)
+      by x found (Going f since) same_doing flight_is =
+          let same = same_doing ∙ ap (λ g. Going g since) (some_flight f flight flight_is) in
+          record { party = x; since = since; found = found; doing = same; there = stands_there F t sound p x since flight found same }
 
+      -- the cases are whether the party has made a call
       go : (o : Option (Party T)) → party_of p t.world.latest ≡ o → flight_of (doing_of o) ≡ Some flight → IsUnderWay flight
-      go None found e = absurd (cc)
-      go (Some x) found e = by x found x.doing refl e
+      go None found flight_is = absurd (cc)
+      go (Some x) found flight_is = by x found x.doing refl flight_is

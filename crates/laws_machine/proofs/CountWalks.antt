@@ -1,4 +1,5 @@
--- Each step of a call of a container, and the changes that it counts.
+-- Each step of a container's call raises the number of changes by just what its end counts for: by 1 in the
+-- step that ends an add, remove, replace or recovery that has changed the container, and else by 0.
 use Rattle.laws_machine.proofs.Names.{◌≡◌, ◌≢◌, ℕ, ◌+◌, ◌==◌, nat_lt, if◌then◌else◌, Bool, true, false, Option, Some}
 use Rattle.laws_machine.proofs.Names.{List, refl, sym, ap, subst, ◌∙◌, arith, get_or, Ok, Err, After, GoOn, Done}
 use Rattle.laws_machine.proofs.Names.{AddStage, LookStage, RemoveStage, ReplaceStage, Replacement, ContainerState}
@@ -41,14 +42,17 @@ use Rattle.laws_machine.proofs.CountSteps.{update_none, ends_count}
 
 -- ---- steps
 module _ {T : Type 0} (code : Coding T) (c : ℕ) (ws : List ℕ) (state : Option (ContainerState T)) (p : ℕ) where
-  -- a step of a call of this name that is handed this
+  -- the step of this call raises the number of changes by what the call's end then counts for; `old` is the
+  -- value of the word that it asks for
   abbrev pub StepCounts : ContainerStart T → ContainerFlight T → ℕ → Type 0
   StepCounts start flight old =
       change_at c (words_after ws (ask_of (want code flight))) ≡ change_at c ws + ends_count p start (answer_in (after code state flight old))
 
+  -- the step's end, if it ends the call, counts for no change
   abbrev EndsNone : ContainerStart T → ContainerFlight T → ℕ → Type 0
   EndsNone start flight old = ends_count p start (answer_in (after code state flight old)) ≡ 0
 
+  -- a step that leaves the number of changes, and whose end counts for none
   calmly : (start : ContainerStart T) (flight : ContainerFlight T) (old : ℕ)
       → IsCalm c ws (ask_of (want code flight)) → EndsNone start flight old → StepCounts start flight old
   calmly start flight old calm none = omega arith
@@ -56,6 +60,8 @@ module _ {T : Type 0} (code : Coding T) (c : ℕ) (ws : List ℕ) (state : Optio
   -- ---- an add
 
   module _ (value : T) (owner : ℕ) where
+    -- how many changes the end of an add counts, where `a` is how the add has gone on or ended;
+    -- 0 if it has not ended
     abbrev adds_to : After (add_calls.Add T) Added → ℕ
     adds_to a =
         ends_count {T = T} p (starts.Add value owner)
@@ -64,19 +70,22 @@ module _ {T : Type 0} (code : Coding T) (c : ℕ) (ws : List ℕ) (state : Optio
     abbrev add_call : AddStage → add_calls.Add T
     add_call stage = record { capacity = c; stage = stage; of = record {} }
 
+    -- after a step of its acquire an add has no change to count
     acquired_ends : (stage : AddStage) (r : After Acquire Acquired) → adds_to (add_acquired (add_call stage) r) ≡ 0
     acquired_ends = grind arith
 
+    -- an add that goes on, to whichever of two stages, counts for no change
     add_either : (b : Bool) (x y : AddStage) → adds_to (if b then GoOn (add_call x) else GoOn (add_call y)) ≡ 0
     add_either true x y = refl
     add_either false x y = refl
 
+    -- at each stage but the one that adds 1 to the number of changes, the add's end counts for none
     add_ends : (stage : AddStage) (old : ℕ) → ((index : ℕ) → stage ≢ adds.AddsChange index)
         → EndsNone (starts.Add value owner) (add_at c value owner stage) old
     add_ends = grind (arith, acquired_ends, add_either)
 
     module _ (all : List SetAct) (done : List (Act T)) where
-      -- no operation of an add changes the number of changes, but that of the stage which adds 1 to it
+      -- at each stage but that one, no operation of an add changes the number of changes
       add_calm : (stage : AddStage) → AddAt c code.size all done owner stage
           → ((index : ℕ) → stage ≢ adds.AddsChange index)
           → IsCalm c ws (ask_of (want code (add_at c value owner stage)))
@@ -89,6 +98,7 @@ module _ {T : Type 0} (code : Coding T) (c : ℕ) (ws : List ℕ) (state : Optio
       add_calm (adds.AddsCount index) at other = calm_apart c ws (adds_one (count_word c index)) (λ e. absurd (omega arith))
       add_calm (adds.AddsChange index) at other = absurd (other index refl)
 
+      -- each step of an add raises the number of changes by what its end counts for
       add_counts : (raised : change_at c (words_after ws (Some (adds_one (change_word c)))) ≡ change_at c ws + 1) (stage : AddStage)
           → AddAt c code.size all done owner stage → (old : ℕ)
           → StepCounts (starts.Add value owner) (add_at c value owner stage) old
@@ -97,12 +107,15 @@ module _ {T : Type 0} (code : Coding T) (c : ℕ) (ws : List ℕ) (state : Optio
   -- ---- a remove
 
   module _ (index owner : ℕ) (mode : ReleaseMode) where
+    -- the place of the index among the indices of the set
     abbrev place : ℕ
     place = place_of c index
 
     abbrev give : GiveBack
     give = record { index = place; owner = owner; mode = mode }
 
+    -- how many changes the end of a remove counts, where `a` is how the remove has gone on or ended; 0 if it
+    -- has not ended
     abbrev removes_to : After remove_calls.Remove Removed → ℕ
     removes_to a =
         ends_count {T = T} p (starts.Remove index owner mode)
@@ -124,7 +137,7 @@ module _ {T : Type 0} (code : Coding T) (c : ℕ) (ws : List ℕ) (state : Optio
         go false = refl
     released_ends stage count (Done (Err failure)) = refl
 
-    -- each step of a remove adds to the number of changes what the remove's end counts, and none where it goes on
+    -- each step of a remove raises the number of changes by what its end counts for
     remove_counts : (all : List SetAct) (done : List (Act T))
         (raised : change_at c (words_after ws (Some (adds_one (change_word c)))) ≡ change_at c ws + 1)
         (stage : RemoveStage)
@@ -151,12 +164,15 @@ module _ {T : Type 0} (code : Coding T) (c : ℕ) (ws : List ℕ) (state : Optio
   -- ---- a replace
 
   module _ (index : ℕ) (value : T) (owner : ℕ) where
+    -- the place of the index among the indices of the set
     abbrev put_at : ℕ
     put_at = place_of c index
 
     abbrev new_value : Replacement T
     new_value = record { index = put_at; owner = owner; value = value }
 
+    -- how many changes the end of a replace counts, where `a` is how the replace has gone on or ended; 0 if
+    -- it has not ended
     abbrev replaces_to : After (replace_calls.Replace T) Replaced → ℕ
     replaces_to a =
         ends_count {T = T} p (starts.Replace index value owner)
@@ -168,19 +184,22 @@ module _ {T : Type 0} (code : Coding T) (c : ℕ) (ws : List ℕ) (state : Optio
     abbrev replaces_at : ReplaceStage → ContainerFlight T
     replaces_at stage = replace_at c put_at value owner stage
 
+    -- the step of the replace at this stage raises the number of changes by what its end counts for
     abbrev Replaces : ReplaceStage → ℕ → Type 0
     Replaces stage old = StepCounts (starts.Replace index value owner) (replaces_at stage) old
 
+    -- a replace that goes on, to whichever of two stages, counts for no change
     replace_either : (b : Bool) (x y : ReplaceStage) → replaces_to (if b then GoOn (replace_call x) else GoOn (replace_call y)) ≡ 0
     replace_either true x y = refl
     replace_either false x y = refl
 
+    -- a replace that goes on or is refused counts for no change
     replace_refused : (b : Bool)
         → replaces_to (if b then GoOn (replace_call replaces.LoadsCount) else Done (Err ContainerHandleNotOwnedByContainer)) ≡ 0
     replace_refused true = refl
     replace_refused false = refl
 
-    -- each step of a replace adds what the replace's end counts
+    -- each step of a replace raises the number of changes by what its end counts for
     replace_counts : (raised : change_at c (words_after ws (Some (adds_one (change_word c)))) ≡ change_at c ws + 1)
         (stage : ReplaceStage) (old : ℕ)
         → Replaces stage old
@@ -217,7 +236,7 @@ module _ {T : Type 0} (code : Coding T) (c : ℕ) (ws : List ℕ) (state : Optio
     abbrev recovers_at : RecoverStage → ContainerFlight T
     recovers_at stage = recover_at c owner mode room stage
 
-    -- whatever room it has then
+    -- where `a` is how a recovery goes on or ends, it has no change to count, whatever its room has
     abbrev Quiet : After (recover_calls.Recover T (buffers.Buffer 128)) ReleaseState → Type 0
     Quiet a =
         (kept : buffers.Buffer 128)
@@ -225,23 +244,27 @@ module _ {T : Type 0} (code : Coding T) (c : ℕ) (ws : List ℕ) (state : Optio
         (answer_in (as_call calls.Recover State (went_on as_it_is dead_owner kept a)))
         ≡ 0
 
+    -- a recovery that goes on to either of two quiet stages is quiet
     either_quiet : (b : Bool) (x y : After (recover_calls.Recover T (buffers.Buffer 128)) ReleaseState) → Quiet x → Quiet y → Quiet (if b then x else y)
     either_quiet true x y first_quiet second_quiet = first_quiet
     either_quiet false x y first_quiet second_quiet = second_quiet
 
+    -- after a step of its raise a recovery has no change to count
     raised_quiet : (stage : RecoverStage) (i : ℕ) (m : ReleaseMode) (r : After Raise ReleaseState) → Quiet (recover_raised (recover_call stage) i m r)
     raised_quiet = grind arith
 
+    -- after a step of its lock a recovery has no change to count
     locked_quiet : (stage : RecoverStage) (i : ℕ) (r : After Lock ReleaseState) → Quiet (recover_locked (recover_call stage) i r)
     locked_quiet stage i (GoOn lock) kept = refl
     locked_quiet stage i (Done lock) kept = refl
 
+    -- at each stage but the one that adds 1 to the number of changes, a recovery has no change to count
     recover_quiet : (stage : RecoverStage) (old : ℕ)
         → ((lock : ReleaseState) → stage ≢ recovers.AddsChange lock)
         → Quiet (recover_takes code.size (recover_call stage) stage dead_owner old)
     recover_quiet = grind (arith, either_quiet, locked, raised_quiet, locked_quiet)
 
-    -- each step of a recovery adds what the recovery's end counts
+    -- each step of a recovery raises the number of changes by what its end counts for
     recover_counts : (all : List SetAct) (done : List (Act T))
         (raised : change_at c (words_after ws (Some (adds_one (change_word c)))) ≡ change_at c ws + 1)
         (stage : RecoverStage)
@@ -249,12 +272,14 @@ module _ {T : Type 0} (code : Coding T) (c : ℕ) (ws : List ℕ) (state : Optio
         → StepCounts (starts.Recover owner mode) (recovers_at stage) old
     recover_counts all done raised stage at old = go stage at
       where
+        -- a step whose operation leaves the number of changes counts as `StepCounts` asks, at any stage but
+        -- the one that adds the recovery's change
         calm_so : (stage : RecoverStage) → IsCalm c ws (ask_of (recover_asks code.size c stage owner))
             → ((lock : ReleaseState) → stage ≢ recovers.AddsChange lock)
             → StepCounts (starts.Recover owner mode) (recovers_at stage) old
         calm_so = grind (arith, calmly, recover_quiet, recover_keeps, kept_at)
 
-        -- so it is by the stage at which the recovery stands
+        -- the cases are the stages of a recovery
         go : (stage : RecoverStage) → RecoverAt c code.size all done owner mode stage
             → StepCounts (starts.Recover owner mode) (recovers_at stage) old
         go recovers.LoadsCounter at = calm_so recovers.LoadsCounter (calm_load c ws 0) (λ lock e. absurd (cc))
@@ -281,19 +306,21 @@ module _ {T : Type 0} (code : Coding T) (c : ℕ) (ws : List ℕ) (state : Optio
         go recovers.LoadsCounterAgain at = calm_so recovers.LoadsCounterAgain (calm_load c ws 0) (λ lock e. absurd (cc))
         go (recovers.AddsChange lock) at = raised
 
-  -- ---- the calls that change nothing
+  -- ---- finds and looks change nothing
 
+  -- no step of a find changes the word of changes
   find_calm : (stage : FindStage) → IsCalm c ws (ask_of (find_asks code.size c stage))
   find_calm = grind (arith, calm_load, calm_apart, exchanges)
 
+  -- no step of a look changes the word of changes
   look_calm : (stage : LookStage) → IsCalm c ws (ask_of (look_asks code.size c stage))
   look_calm = grind (arith, calm_load, calm_apart, exchanges)
 
   -- ---- any call
 
   module _ (all : List SetAct) (done : List (Act T)) where
-    -- each step of any call adds to the number of changes what the call's end counts, where the
-    -- call stands as it should
+    -- each step of any call raises the number of changes by what the call's end counts for, where the call
+    -- stands at its stage
     pub step_counts : (start : ContainerStart T) (flight : ContainerFlight T) → At c code.size all done start flight
         → change_at c (words_after ws (Some (adds_one (change_word c)))) ≡ change_at c ws + 1 → (old : ℕ)
         → StepCounts start flight old
@@ -322,15 +349,15 @@ module _ {T : Type 0} (code : Coding T) (c : ℕ) (ws : List ℕ) (state : Optio
         (λ raised old. recover_counts owner mode run.room all done raised run.call.stage at.3 old)
     step_counts (starts.Find owner) (calls.Find run) at = λ raised old.
         calmly (starts.Find owner) (calls.Find run) old
-        (subst (λ n. IsCalm c ws (ask_of (find_asks code.size n run.call.stage))) (sym at.0) (find_calm run.call.stage))
+        (rw at.0 (find_calm run.call.stage))
         (find_none p owner _)
     step_counts starts.GetState (calls.Look which call) at = λ raised old.
         calmly starts.GetState (calls.Look which call) old
-        (subst (λ n. IsCalm c ws (ask_of (look_asks code.size n call.stage))) (sym at.0) (look_calm call.stage))
+        (rw at.0 (look_calm call.stage))
         (get_none p _)
     step_counts starts.UpdateState (calls.Look which call) at = λ raised old.
         calmly starts.UpdateState (calls.Look which call) old
-        (subst (λ n. IsCalm c ws (ask_of (look_asks code.size n call.stage))) (sym at.0) (look_calm call.stage))
+        (rw at.0 (look_calm call.stage))
         (update_none p _)
     step_counts starts.Len (calls.Count which run) at =
         λ raised old. calmly starts.Len (calls.Count which run) old (count_calm c ws run.call.count) (len_none p _)
@@ -359,7 +386,7 @@ module _ {T : Type 0} (code : Coding T) (state : Option (ContainerState T)) (p a
       (replace_asks_none code run.call.capacity run.call.stage run.given) due
   decision_counts (starts.Recover owner mode) (calls.Recover run) c z all done at due = go run.call.stage due
     where
-      -- so it is of a recovery, by its stage
+      -- the cases are the stages of a recovery
       go : (stage : RecoverStage)
           → is_question (recover_asks code.size run.call.capacity stage run.given.owner) ≡ true
           → ends_count p (starts.Recover owner mode)

@@ -1,4 +1,5 @@
--- What any call of the robust set leaves, of which a recovery in mode LockIfLastIndex is one.
+-- What a step of any call of the robust set leaves known of the indices that its recoveries have freed; a
+-- recovery in mode LockIfLastIndex is such a call.
 use Rattle.std.proofs.Common.{arith}
 use Rattle.laws_machine.proofs.Names.{◌≡◌, ◌≢◌, ℕ, ◌-◌, ◌^◌, ◌<◌, true, Option, Some, None, List, [], ◌∷◌, ◌++◌, refl}
 use Rattle.laws_machine.proofs.Names.{sym, ap, subst, ◌∙◌, append_assoc, append-nil, AllByRecursion, After}
@@ -28,55 +29,63 @@ use Rattle.laws_machine.proofs.LockKnows.{CallKnows, FlightKnows}
 use Rattle.laws_machine.proofs.LockSteps.{Tells, steps, decided}
 use Rattle.laws_machine.proofs.CallTransition.{left_by}
 
--- ---- what is right of the events of a turn
+-- ---- of each event that a turn writes, `LocksRight` holds
 
 module _ {T : Type 0} where
+  -- where each event of two lists, one behind the other, is right by `P`, each event of both together is
   pub right_append : (P : List (Event T) → Event T → Type 0) (before xs ys : List (Event T)) → AreRight P before xs
       → AreRight P (before ++ xs) ys → AreRight P before (xs ++ ys)
-  right_append P before [] ys first_right second_right = subst (λ b. AreRight P b ys) (append-nil before) second_right
+  right_append P before [] ys first_right second_right = rw (← append-nil before) second_right
   right_append P before (x ∷ xs) ys first_right second_right =
-      (first_right.0, right_append P (before ++ x ∷ []) xs ys first_right.1 (subst (λ b. AreRight P b ys) (sym (append_assoc before (x ∷ []) xs)) second_right))
+      (first_right.0, right_append P (before ++ x ∷ []) xs ys first_right.1 (rw (append_assoc before (x ∷ []) xs) second_right))
 
-  -- an event of which it is so whatever stands before it
+  -- `LocksRight` holds of the event, whatever events stand before it
   abbrev pub IsFree : Event T → Type 0
   IsFree e = (before : List (Event T)) → LocksRight before e
 
+  -- if `IsFree` holds of each event, they are right together
   free_right : (before es : List (Event T)) → AllByRecursion IsFree es → AreRight LocksRight before es
-  free_right before [] h = tt
-  free_right before (e ∷ es) h = (h.0 before, free_right (before ++ e ∷ []) es h.1)
+  free_right before [] all_free = tt
+  free_right before (e ∷ es) all_free = (all_free.0 before, free_right (before ++ e ∷ []) es all_free.1)
 
+  -- the event is one of the party
   abbrev pub IsOf : ℕ → Event T → Type 0
   IsOf p e = whose e ≡ Some p
 
+  -- where the events are of the party, they are its own with the end of its call
   pub all_own : (p : ℕ) (es : List (Event T)) (start : Start T) (outcome : Option (Answer T))
       → AllByRecursion (IsOf p) es → AreOwn p (es ++ ending_of p start outcome)
-  all_own p [] start None h = tt
-  all_own p [] start (Some answer) h = (refl, tt)
-  all_own p (e ∷ es) start outcome h = (h.0, all_own p es start outcome h.1)
+  all_own p [] start None all_of_party = tt
+  all_own p [] start (Some answer) all_of_party = (refl, tt)
+  all_own p (e ∷ es) start outcome all_of_party = (all_of_party.0, all_own p es start outcome all_of_party.1)
 
 module _ (T : Type 0) where
+  -- `LocksRight` holds of each event that is no end, whatever stands before it
   pub effects_free : (p : ℕ) (call : RobustFlight) (old : ℕ) → AllByRecursion (IsFree {T = T}) (effects {T = T} p call old)
   effects_free = grind (arith, effects_hold)
 
+  -- what a call writes are events of its party
   pub effects_own : (p : ℕ) (call : RobustFlight) (old : ℕ) → AllByRecursion (IsOf {T = T} p) (effects {T = T} p call old)
   effects_own = grind (arith, effects_hold)
 
 -- ---- a step of a call
 
 module _ {T : Type 0} (c p : ℕ) (events : List (Event T)) where
-  -- what a call writes that is handed this answer, with its end if it is done
+  -- what the call writes for this answer, with its end if it is done
   abbrev pub wrote_by : RobustStart → RobustFlight → ℕ → List (Event T)
   wrote_by start call answer =
       effects p call answer ++ ending_of p (Robust start) (answer_in (any_call (after {T = T} call answer)))
 
-  -- what a call leaves that is handed this answer
+  -- what the step of a call leaves for this answer: the call knows what its stage says, and
+  -- the events are right
   pub record Leaves (start : RobustStart) (call : RobustFlight) (answer : ℕ) : Type 0 where
     pub knows : FlightKnows c p (left_by (any_call (after {T = T} call answer))) (events ++ wrote_by start call answer)
     pub right : AreRight LocksRight events (wrote_by start call answer)
 
-  -- a call of which nothing is to be known
+  -- ---- a call of which nothing is to be known
   module _ (call : RobustFlight) (answer : ℕ) where
-    -- what its call then knows is all that is to be shown, where its end is right whatever stands before it
+    -- where the end of a call is right whatever stands before it, the step need only show
+    -- what the call then knows
     freely : (start : RobustStart)
         → FlightKnows c p (left_by (any_call (after {T = T} call answer))) (events ++ wrote_by start call answer)
         → ((a : Answer T) → IsFree (Finished p (Robust start) a)) → Leaves start call answer
@@ -90,46 +99,55 @@ module _ {T : Type 0} (c p : ℕ) (events : List (Event T)) where
               (ends (answer_in (any_call (after {T = T} call answer))));
         }
       where
+        -- the end of the call locks nothing, so it is right
         ends : (o : Option (Answer T)) → AreRight LocksRight (events ++ effects p call answer) (ending_of p (Robust start) o)
         ends None = tt
         ends (Some a) = (free a (events ++ effects p call answer), tt)
 
-  -- a recovery
+  -- ---- a recovery
   module _ (mode : ReleaseMode) (stage : RecoverStage) (answer : ℕ) where
+    -- what the step leaves of the recovery
     abbrev outcome : After recover_calls.Recover ReleaseState
     outcome = recover_takes (record { capacity = c; stage = stage }) stage mode answer
 
+    -- the events of the step
     abbrev did : List (Event T)
     did = recover_effects p stage answer
 
     abbrev as_any : After recover_calls.Recover ReleaseState → After (Flight T) (Answer T)
     as_any a = any_call (as_call calls.Recover State (went_on as_it_is mode tt a))
 
+    -- the event of the recovery's end, if the step ends it
     abbrev ends : After recover_calls.Recover ReleaseState → List (Event T)
     ends a = ending_of p (Robust (starts.Recover mode)) (answer_in (as_any a))
 
+    -- a recovery that goes on knows what its stage says; one that has ended has nothing to know
     knows : (a : After recover_calls.Recover ReleaseState) → Tells c mode p (events ++ did) a → FlightKnows c p (left_by (as_any a)) (events ++ (did ++ ends a))
     knows = grind (arith, append-nil)
 
+    -- the end of a recovery is right
     ends_right : (m : ReleaseMode) (a : After recover_calls.Recover ReleaseState) → Tells c m p (events ++ did) a
         → AreRight LocksRight (events ++ did)
         (ending_of p (Robust (starts.Recover m))
         (answer_in (any_call {T = T} (as_call calls.Recover State (went_on as_it_is m tt a)))))
     ends_right = grind arith
 
+    -- where a step of a recovery tells what `Tells` asks, it leaves what `Leaves` asks
     pub recovered : Tells c mode p (events ++ did) outcome → Leaves (starts.Recover mode) (recover_at c mode stage) answer
     recovered = grind (arith, knows, right_append, ends, free_right, effects_free, ends_right)
 
 -- ---- a step of any call
 
 module _ {T : Type 0} where
+  -- a call goes on knowing what its stage says, where each call of its kind does
   goes_known : {C G M E A : Type 0} (c p : ℕ) (es : List (Event T)) (f : Running C G M → RobustFlight)
       (g : A → Answer T) (h : E → G → M → A) (given : G) (room : M) (a : After C E)
       → ((r : Running C G M) → CallKnows c p (f r) es)
       → FlightKnows c p (left_by (any_call (as_call f g (went_on h given room a)))) es
   goes_known = grind arith
 
-module _ {T : Type 0} (t : Trace T) (is : t.world.kind ≡ kinds.Robust) (r : IsReached t) where
+-- in a machine of the robust set that turns have reached
+module _ {T : Type 0} (t : Trace T) (kind_is : t.world.kind ≡ kinds.Robust) (reached : IsReached t) where
   abbrev c : ℕ
   c = t.world.capacity
 
@@ -137,32 +155,37 @@ module _ {T : Type 0} (t : Trace T) (is : t.world.kind ≡ kinds.Robust) (r : Is
   sound = frame.Sound (family t.world.coding t.world.capacity) t
 
   abbrev s : sound
-  s = reached_sound t is r
+  s = reached_sound t kind_is reached
 
   module _ (p : ℕ) (x : Party T) (since : ℕ) (small : t.world.turns < 2 ^ 64 - 2) (found : party_of p t.world.latest ≡ Some x) where
     abbrev scene : Scene T
     scene = scene_of Death t.world.coding t.world.capacity t s p x since
 
+    -- the invariant of the set holds before the step
     inv : Inv scene
     inv = inv_of Death t.world.coding t.world.capacity t s p x since found small
 
+    -- what the call of `p` knows of the events so far
     abbrev KnowsNow : RobustFlight → Type 0
     KnowsNow call = CallKnows c p call t.events
 
-    -- handed the old value of its word
+    -- the step of a call that knows what its stage says leaves what `Leaves` asks
     abbrev StepLeaves : RobustStart → RobustFlight → Type 0
     StepLeaves start call = Knows c call (now scene) → KnowsNow call → Leaves c p t.events start call (old_of s.state.words (ask_of (want call)))
 
+    -- a step of a recovery leaves what `Leaves` asks
     recover_leaves : (mode : ReleaseMode) → IsHere scene (starts.Recover mode) → (stage : RecoverStage)
         → RecoverAt c mode (all scene) stage → StepLeaves (starts.Recover mode) (recover_at c mode stage)
     recover_leaves mode here stage at k h =
-        recovered c p t.events mode stage (old_of s.state.words (ask_of (recover_asks stage))) (steps scene inv mode here refl stage at k h)
+        recovered c p t.events mode stage (old_of s.state.words (ask_of (recover_asks stage))) (steps inv mode here refl stage at k h)
 
+    -- a step of any other call leaves what `Leaves` asks
     others_leave : (start : RobustStart) (call : RobustFlight) (answer : ℕ) → At c (all scene) start call
         → ((mode : ReleaseMode) → start ≢ starts.Recover mode) → Leaves c p t.events start call answer
     others_leave = grind (arith, freely, goes_known, as_it_is)
 
-    -- a step leaves of any call what is asked, where the call stands and knows what it should
+    -- a step of any call leaves what `Leaves` asks, where the call stands at its stage and
+    -- knows what the stage says
     pub step_leaves : (start : RobustStart) (call : RobustFlight) → IsHere scene start → At c (all scene) start call → StepLeaves start call
     step_leaves (starts.Recover mode) (calls.Recover run) here at =
         subst (StepLeaves (starts.Recover mode))
@@ -181,23 +204,23 @@ module _ {T : Type 0} (t : Trace T) (is : t.world.kind ≡ kinds.Robust) (r : Is
         λ k h. others_leave starts.IsLocked call (old_of s.state.words (ask_of (want call))) at (λ mode e. absurd (cc))
     step_leaves start call here at = absurd at
 
-    -- handed a decision
+    -- a decision for a call that waits for one leaves what `Leaves` asks
     abbrev DecisionLeaves : ℕ → RobustStart → RobustFlight → Type 0
     DecisionLeaves answer start call = is_question (want call) ≡ true → KnowsNow call → Leaves c p t.events start call answer
 
-    -- a decision leaves of a recovery what is asked
+    -- a decision for a recovery leaves what `Leaves` asks
     recover_decides : (answer : ℕ) (mode : ReleaseMode) → IsHere scene (starts.Recover mode)
         → (stage : RecoverStage) → DecisionLeaves answer (starts.Recover mode) (recover_at c mode stage)
     recover_decides answer mode here recovers.LoadsCounter due h = absurd (cc)
     recover_decides answer mode here (recovers.LoadsCell index) due h = absurd (cc)
     recover_decides answer mode here (recovers.Asks index owner) due h =
-        recovered c p t.events mode (recovers.Asks index owner) answer (decided scene inv mode here refl index owner answer h)
+        recovered c p t.events mode (recovers.Asks index owner) answer (decided inv mode here refl index owner answer h)
     recover_decides answer mode here (recovers.EmptiesCell index owner) due h = absurd (cc)
     recover_decides answer mode here (recovers.Raises index raise) due h = both_ways (is_question (raise_want raise)) (raise_asks_none raise) due
     recover_decides answer mode here (recovers.Locks index lock) due h = both_ways (is_question (lock_want lock)) (lock_asks_none lock) due
     recover_decides answer mode here recovers.LoadsCounterAgain due h = absurd (cc)
 
-    -- so it does of any call
+    -- a decision for any call leaves what `Leaves` asks
     pub decision_leaves : (answer : ℕ) (start : RobustStart) (call : RobustFlight) → IsHere scene start
         → At c (all scene) start call → DecisionLeaves answer start call
     decision_leaves answer (starts.Recover mode) (calls.Recover run) here at =

@@ -1,4 +1,5 @@
--- What a step of any call of a container leaves known of the changes, and what its end has met.
+-- What a step of any call of a container leaves known of the number of changes, and that the end of an
+-- update has met the changes that it tells.
 use Rattle.laws_machine.proofs.Names.{◌≡◌, ℕ, ◌+◌, ◌<◌, ◌==◌, Bool, true, false, Option, Some, None, List, [], ◌∷◌}
 use Rattle.laws_machine.proofs.Names.{◌++◌, if◌then◌else◌, refl, sym, ap, subst, ◌∙◌, append_assoc, append-nil, arith}
 use Rattle.laws_machine.proofs.Names.{eq-eqb, AllByRecursion, After, GoOn, Done, Look, ContainerState, Running}
@@ -26,23 +27,26 @@ use Rattle.laws_machine.proofs.LockCalls.{right_append}
 use Rattle.laws_machine.proofs.CallTransition.{left_by}
 
 module _ {T : Type 0} where
-  -- ---- of what a step did, nothing is to be shown
+  -- ---- effects of a turn and ends of other calls than looks are right
 
+  -- an effect of a turn tells nothing of changes, so `MeetsChanges` holds of it
   effect_free : (turn : Turn T) (before : List (Event T)) (e : Event T) → IsEffectOf turn e → MeetsChanges before e
   effect_free = grind arith
 
+  -- the effects of a turn are right in what they say of changes
   effects_right : (turn : Turn T) (before es : List (Event T)) → AllByRecursion (IsEffectOf turn) es → AreRight MeetsChanges before es
-  effects_right turn before [] h = tt
-  effects_right turn before (e ∷ es) h = (effect_free turn before e h.0, effects_right turn (before ++ e ∷ []) es h.1)
+  effects_right turn before [] effects_hold = tt
+  effects_right turn before (e ∷ es) effects_hold = (effect_free turn before e effects_hold.0, effects_right turn (before ++ e ∷ []) es effects_hold.1)
 
+  -- the end of a call that is no look tells nothing of changes
   end_free : (p : ℕ) (start : ContainerStart T) (answer : Answer T) → IsNoLook start → (before : List (Event T))
       → MeetsChanges before (Finished p (Container start) answer)
   end_free = grind arith
 
-  -- ---- a call that is no look goes on as none
+  -- ---- a call that is no look
 
-  -- a call goes on with what it should know of the changes, where each call of its kind knows it;
-  -- its end knows what the state has seen
+  -- a call that goes on knows what its stage says, where each call of its kind does; once it has ended,
+  -- what its state has seen is what a look has met
   goes_sees : {C G M E A : Type 0} (s : Seen) (state : Option (ContainerState T))
       (f : Running C G M → ContainerFlight T) (g : A → Answer T) (h : E → G → M → A) (given : G) (room : M)
       (a : After C E)
@@ -51,28 +55,34 @@ module _ {T : Type 0} where
   goes_sees = grind arith
 
 module _ {T : Type 0} (code : Coding T) (p : ℕ) (events : List (Event T)) (state : Option (ContainerState T)) (turn : Turn T) (mine : IsParty turn p) where
+  -- what the step writes before the end of the call
   abbrev did : ContainerFlight T → ℕ → List (Event T)
   did flight answer = effects code p state flight answer ++ questions p flight answer
 
+  -- what the step writes, with the end of the call if it is done
   abbrev pub wrote_by : ContainerStart T → ContainerFlight T → ℕ → List (Event T)
   wrote_by start flight answer = did flight answer ++ ending_of p (Container start) (answer_in (any_call (after code state flight answer)))
 
-  -- what a call leaves that is handed this answer, and its party's state
+  -- what the step of a call leaves for this answer, with the party's state `state'`: what its call knows
+  -- holds, and the events are right
   pub record Leaves (state' : Option (ContainerState T)) (start : ContainerStart T) (flight : ContainerFlight T) (answer : ℕ) : Type 0 where
     pub sees : FlightSees (left_by (any_call (after code state flight answer))) (seen_by p (events ++ wrote_by start flight answer)) state'
     pub right : AreRight MeetsChanges events (wrote_by start flight answer)
 
+  -- what the step writes before the end changes nothing of what the party has seen
   seen_did : (flight : ContainerFlight T) (answer : ℕ) → seen_by p (events ++ did flight answer) ≡ seen_by p events
   seen_did flight answer = effects_same turn p events (did flight answer) (all_effects turn p mine code state flight answer)
 
-  -- the same behind what it ends with
+  -- the step's events and the end may be added one after another
   seen_end : (flight : ContainerFlight T) (answer : ℕ) (ends : List (Event T))
       → seen_by p (events ++ (did flight answer ++ ends)) ≡ seen_by p ((events ++ did flight answer) ++ ends)
   seen_end flight answer ends = ap (seen_by p) (sym (append_assoc events (did flight answer) ends))
 
+  -- a step that does not end its call leaves what the party has seen
   seen_none : (flight : ContainerFlight T) (answer : ℕ) → seen_by p (events ++ (did flight answer ++ [])) ≡ seen_by p events
   seen_none flight answer = ap (λ es. seen_by p (events ++ es)) (append-nil (did flight answer)) ∙ seen_did flight answer
 
+  -- what the party has seen at the end of its step is what its last event says
   seen_last : (flight : ContainerFlight T) (answer : ℕ) (e : Event T) → seen_by p (events ++ (did flight answer ++ e ∷ [])) ≡ seen_after p (seen_by p events) e
   seen_last = grind (arith, seen_end, one_more, seen_after, seen_did)
 
@@ -80,17 +90,20 @@ module _ {T : Type 0} (code : Coding T) (p : ℕ) (events : List (Event T)) (sta
 
   module _ (start : ContainerStart T) (flight : ContainerFlight T) (answer : ℕ) (other : IsNoLook start)
       (within : Within (seen_by p events) (seen_number state)) where
+    -- once a call that is no look has ended, what its state has seen is still what a look has met
     within_then : (o : Option (Answer T)) → Within (seen_by p (events ++ (did flight answer ++ ending_of p (Container start) o))) (seen_number state)
     within_then = grind (arith, seen_none, seen_last, within_later, seen_by, seen_after, ended_grows)
 
+    -- the end of the call is right in what it says of changes
     ends_right : (o : Option (Answer T)) → AreRight MeetsChanges (events ++ did flight answer) (ending_of p (Container start) o)
     ends_right = grind (arith, end_free)
 
+    -- a call that is no look leaves what `Leaves` asks, where it knows what its stage says
     freely : ((s : Seen) → Within s (seen_number state) → FlightSees (left_by (any_call (after code state flight answer))) s state)
         → Leaves state start flight answer
     freely flight_sees = grind (arith, seen_by, within_then, after, right_append, effects_right, all_effects, ends_right)
 
-  -- a call that is no look leaves what is asked, and its party's state as it was
+  -- a call that is no look leaves what `Leaves` asks, and its party's state as it was
   pub others_leave : (c z : ℕ) (all : List SetAct) (done : List (Act T)) (start : ContainerStart T)
       (flight : ContainerFlight T) (answer : ℕ)
       → At c z all done start flight → IsNoLook start → Within (seen_by p events) (seen_number state)
@@ -135,23 +148,28 @@ module _ {T : Type 0} (code : Coding T) (p : ℕ) (events : List (Event T)) (st 
   abbrev look : ContainerFlight T
   look = calls.Look which call
 
+  -- what the party's looks have met so far
   abbrev now : Seen
   now = seen_by p events
 
+  -- the party's state once this step has loaded `old`
   abbrev shown_then : ContainerState T
   shown_then = look_shows code call st old
 
+  -- what the step writes before the end of the look
   abbrev look_wrote : List (Event T)
   look_wrote = did code p events (Some st) turn mine look old
 
-  -- the party's own end
+  -- what an end of the party's own call makes of `s`
   own_end : (s s' : Seen) → (if p == p then s' else s) ≡ s'
   own_end s s' = ap (λ b. if b then s' else s) (eq-eqb p p refl)
 
+  -- the number of changes so far is the one that the party has seen
   changes_now : changes_of (events ++ look_wrote) ≡ now.changes
   changes_now = sym (changes_are p (events ++ look_wrote)) ∙ ap (λ (s : Seen). s.changes) (seen_did code p events (Some st) turn mine look old)
 
-  -- a look that comes to this knows what it has seen, and what it writes meets the changes
+  -- what is to be shown of a step with which the look comes to `r`: it knows what its stage says, and what
+  -- the step writes is right
   abbrev LooksSo : ContainerStart T → After (Look T) Bool → Type 0
   LooksSo start r =
       FlightSees (left_by (any_call (look_came which shown_then r)))
@@ -159,41 +177,49 @@ module _ {T : Type 0} (code : Coding T) (p : ℕ) (events : List (Event T)) (st 
       (Some (settled_if r shown_then))
       × AreRight MeetsChanges events (look_wrote ++ ending_of p (Container start) (answer_in (any_call (look_came which shown_then r))))
 
+  -- the events of the look's step are right in what they say of changes
   did_right : AreRight MeetsChanges events look_wrote
   did_right = effects_right turn events look_wrote (all_effects turn p mine code (Some st) look old)
 
+  -- the events of a look that goes on are right in what they say of changes
   on_right : AreRight MeetsChanges events (look_wrote ++ [])
   on_right = right_append MeetsChanges events look_wrote [] did_right tt
 
+  -- the events of the step with its end are right, where the end is
   with_end : (e : Event T) → MeetsChanges (events ++ look_wrote) e → AreRight MeetsChanges events (look_wrote ++ e ∷ [])
   with_end e right = right_append MeetsChanges events look_wrote (e ∷ []) did_right (right, tt)
 
+  -- a look that goes on, and knows what its stage says
   goes_on : (start : ContainerStart T) (next : Look T) → Out now shown_then which (GoOn next) → LooksSo start (GoOn next)
   goes_on start next out = (
-    subst (λ s. LookSees which next.stage s (Some shown_then)) (sym (seen_none code p events (Some st) turn mine look old)) out,
+    rw (seen_none code p events (Some st) turn mine look old) out,
     on_right,
   )
 
-  sees_end : (e : Event T) (s' : Seen) (number : ℕ) → seen_after p now e ≡ s' → Within s' number → Within (seen_by p (events ++ (look_wrote ++ e ∷ []))) number
-  sees_end e s' number is within = subst (λ s. Within s number) (sym (seen_last code p events (Some st) turn mine look old e ∙ is)) within
+  -- if a look has met the number by what is seen after the end `e`, it has met it by the events with `e` last
+  sees_end : (e : Event T) {s' : Seen} {number : ℕ} → seen_after p now e ≡ s' → Within s' number → Within (seen_by p (events ++ (look_wrote ++ e ∷ []))) number
+  sees_end e {number = number} seen_is within = subst (λ s. Within s number) (sym (seen_last code p events (Some st) turn mine look old e ∙ seen_is)) within
 
 module _ {T : Type 0} (code : Coding T) (p : ℕ) (events : List (Event T)) (st : ContainerState T) (turn : Turn T)
     (mine : IsParty turn p) (call : Look T) (old : ℕ) where
+  -- the party's state after the step
   abbrev after_it : ContainerState T
   after_it = look_shows code call st old
 
+  -- what the party's looks have met so far
   abbrev seen_now : Seen
   seen_now = seen_by p events
 
+  -- what `LooksSo` asks, of a look of this kind
   abbrev So : LookOf → After (Look T) Bool → Type 0
   So which r = LooksSo code p events st turn mine which call old (looks_as which) r
 
-  -- a look whose step comes out as it should leaves what is asked
+  -- where a step of a look has the result that `Out` (SeenLooks) asks for, it leaves what `Leaves` asks
   looks_so : (which : LookOf) (r : After (Look T) Bool) → Out seen_now after_it which r → So which r
   looks_so which (GoOn next) out = goes_on code p events st turn mine which call old (looks_as which) next out
   looks_so kinds.GetState (Done changed) out =
       let end_event : Event T = Finished p (Container starts.GetState) (looked kinds.GetState after_it changed) in (
-        sees_end code p events st turn mine kinds.GetState call old end_event (up_to_date seen_now) _
+        sees_end code p events st turn mine kinds.GetState call old end_event
             (own_end code p events st turn mine kinds.GetState call old seen_now (up_to_date seen_now)) out,
         with_end code p events st turn mine kinds.GetState call old end_event tt,
       )
@@ -201,19 +227,16 @@ module _ {T : Type 0} (code : Coding T) (p : ℕ) (events : List (Event T)) (st 
       let end_event : Event T = Finished p (Container starts.UpdateState) (Truth true) in
       let same = changes_now code p events st turn mine kinds.UpdateState call old in
       let less = out.0 in (
-        sees_end code p events st turn mine kinds.UpdateState call old end_event (up_to_date seen_now) _
+        sees_end code p events st turn mine kinds.UpdateState call old end_event
             (own_end code p events st turn mine kinds.UpdateState call old seen_now (up_to_date seen_now))
             out.1,
         with_end code p events st turn mine kinds.UpdateState call old end_event
-            (subst (λ (s : Seen). s.least
-            < changes_of (events ++ look_wrote code p events st turn mine kinds.UpdateState call old))
-            (sym (seen_did code p events (Some st) turn mine (calls.Look kinds.UpdateState call) old))
-            (omega arith)),
+            (rw (seen_did code p events (Some st) turn mine (calls.Look kinds.UpdateState call) old) (omega arith)),
       )
   looks_so kinds.UpdateState (Done false) out =
       let end_event : Event T = Finished p (Container starts.UpdateState) (Truth false) in
       let same = changes_now code p events st turn mine kinds.UpdateState call old in (
-        sees_end code p events st turn mine kinds.UpdateState call old end_event (record seen_now { changes = seen_now.changes + 0 }) _ refl
+        sees_end code p events st turn mine kinds.UpdateState call old end_event refl
             (within_later seen_now (record seen_now { changes = seen_now.changes + 0 })
             (record { begun = refl; least = refl; most = refl; changes = omega arith }) _ out.1),
         with_end code p events st turn mine kinds.UpdateState call old end_event
@@ -221,7 +244,7 @@ module _ {T : Type 0} (code : Coding T) (p : ℕ) (events : List (Event T)) (st 
             (sym (seen_did code p events (Some st) turn mine (calls.Look kinds.UpdateState call) old)))),
       )
 
-  -- a step of a look, which loads the number of changes first
+  -- each step of a look leaves what `Leaves` asks, where its first load finds the number of changes
   pub look_leaves : (which : LookOf) → LookSees which call.stage seen_now (Some st) → (call.stage ≡ stages.LoadsChange → old ≡ seen_now.changes)
       → Leaves code p events (Some st) turn mine
       (Some (settled_if (look_steps.look_after code.size call st.seen old) after_it)) (looks_as which)
@@ -232,9 +255,10 @@ module _ {T : Type 0} (code : Coding T) (p : ℕ) (events : List (Event T)) (st 
       (step_out code.value_of code.size seen_now call call.stage st which old sees loads) in
       record { sees = h.0; right = h.1 }
 
--- without a state it stands still
+-- a look of a party that has no state leaves what `Leaves` asks, and changes nothing
 module _ {T : Type 0} (code : Coding T) (p : ℕ) (events : List (Event T)) (turn : Turn T) (mine : IsParty turn p)
     (call : Look T) (old : ℕ) (which : LookOf) where
+  -- a look that goes on leaves what is to be shown of its step
   pub look_stays : (start : ContainerStart T) → LookSees {T = T} which call.stage (seen_by p events) None
       → Leaves code p events None turn mine None start (calls.Look which call) old
   look_stays = grind (arith, seen_by, append-nil)

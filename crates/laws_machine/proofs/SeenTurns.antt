@@ -1,4 +1,5 @@
--- What the turns of a call under way leave known of the changes of a container, whatever it is by that an owner is gone.
+-- The turns of a call under way keep what the parties know of the number of changes of a container. `terms`
+-- says what makes an owner gone.
 use Rattle.std.proofs.Common.{arith}
 use Rattle.laws_machine.proofs.Names.{◌≡◌, ◌≢◌, ⊎_elim, ℕ, ◌==◌, ◌&&◌, Bool, true, false, Option, Some, None, is_some}
 use Rattle.laws_machine.proofs.Names.{IfSome, List, [], ◌∷◌, ◌++◌, refl, sym, ap, subst, ◌∙◌, ne_eqb, eq-eqb, cases_eq}
@@ -38,40 +39,48 @@ use Rattle.laws_machine.proofs.CallTransition.{left_by, under_way}
 use Rattle.laws_machine.proofs.Taken.{decides}
 use Rattle.laws_container.proofs.Moves.{look_asks_none}
 
--- what each party's state and look know of the changes, and that the updates that have ended met them
+-- what every turn keeps: what each party's state and look know of the number of changes, and that each
+-- update that has ended met the changes that it tells
 module _ {T : Type 0} where
   pub record Extra (t : Trace T) : Type 0 where
     pub known : (p : ℕ) → FlightSees (flight_in t.world p) (seen_by p t.events) (state_in t.world.kept p)
     pub right : Each MeetsChanges t.events
 
-module _ {T : Type 0} (terms : Terms) (t : Trace T) (s : frame.Sound (family_by terms t.world.coding t.world.capacity) t)
-    (may : MayGoOn terms t) (counts : CountsChanges t) (h : Extra t) where
+module _ {T : Type 0} {terms : Terms} {t : Trace T} (s : frame.Sound (family_by terms t.world.coding t.world.capacity) t)
+    (may : MayGoOn terms t) (counts : CountsChanges t) (extra : Extra t) where
   abbrev fam : frame.Family T
   fam = family_by terms t.world.coding t.world.capacity
 
+  -- the registry: the owners that are dead, and the parties' states
   abbrev pub now_kept : Registry T
   now_kept = registries.Container s.state.dead s.state.states
 
+  -- the words of the machine are those of the container
   same_words : t.world.words ≡ s.state.words
   same_words = s.fit.words
 
+  -- the machine keeps the owners that died and the parties' states
   pub same_kept : t.world.kept ≡ now_kept
   same_kept = s.fit.kept
 
-  -- ---- the other parties
+  -- ---- the parties that do not take the turn
 
   module _ (turn : Turn T) (free : IsAllowed t.world turn) where
+    -- a turn that is no look of `q` leaves the state of `q` as it was
     moves : (q : ℕ) → is_look_of t.world q turn ≡ false → state_in (world_after t.world turn).kept q ≡ state_in t.world.kept q
     moves = (keeps_states shown terms t.world.coding t turn free s may).moves
 
+    -- after the turn, with the events `es`, the party `q` knows what its call says
     abbrev pub SeesThen : List (Event T) → ℕ → Type 0
     SeesThen es q = FlightSees (flight_in (world_after t.world turn) q) (seen_by q (t.events ++ es)) (state_in (world_after t.world turn).kept q)
 
+    -- a party that does not take the turn knows what it knew, where the events let what it
+    -- has seen grow at most
     pub other_known : (es : List (Event T)) (q : ℕ) → ¬ IsParty turn q → is_look_of t.world q turn ≡ false
         → Grows (seen_by q t.events) (seen_by q (t.events ++ es)) → SeesThen es q
     other_known = grind (arith, seen_by, state_in, others_stay, moves, sees_later)
 
-    -- a turn whose events are all the party's own keeps what is known
+    -- a turn whose events are all of the party `p` keeps what each party knows, if `p` itself does
     pub known_by : (p : ℕ) (es : List (Event T)) → ((q : ℕ) → IsParty turn q → q ≡ p)
         → ((q : ℕ) → q ≢ p → is_look_of t.world q turn ≡ false) → AreOwn p es → SeesThen es p → (q : ℕ) → SeesThen es q
     known_by p es mine still own here q =
@@ -79,23 +88,25 @@ module _ {T : Type 0} (terms : Terms) (t : Trace T) (s : frame.Sound (family_by 
         (λ ne. other_known es q (λ its. ne (mine q its)) (still q ne) (others_grow q p t.events es (λ e. ne (sym e)) own))
         (cases_eq q p)
 
+    -- a turn keeps `Extra` where each party then knows what its call says, and the events are right
     pub after_it : ((q : ℕ) → SeesThen (events_of t.world turn) q) → AreRight MeetsChanges t.events (events_of t.world turn) → Extra (after_turn t turn)
-    after_it known right = record { known = known; right = Each-append MeetsChanges t.events (events_of t.world turn) h.right right }
+    after_it known right = record { known = known; right = Each-append MeetsChanges t.events (events_of t.world turn) extra.right right }
 
-  -- a turn of another party is no look of this one
+  -- a turn of the party `p` is no look of another party
   not_its : (p q : ℕ) (b : Bool) → q ≢ p → ((p == q) && b) ≡ false
   not_its p q b ne = ap (λ a. a && b) (ne_eqb p q (λ e. ne (sym e)))
 
   -- ---- a turn of a call under way
 
-  -- the effects of a turn and the end of its call are events of its party alone
+  -- the effects of a turn, and the end of its call, are events of its party alone
   all_own : (p : ℕ) (turn : Turn T) (es : List (Event T)) (start : Start T) (outcome : Option (Answer T))
       → ((q : ℕ) → IsParty turn q → q ≡ p) → AllByRecursion (IsEffectOf turn) es
       → AreOwn p (es ++ ending_of p start outcome)
-  all_own p turn [] start None mine h = tt
-  all_own p turn [] start (Some answer) mine h = (refl, tt)
-  all_own p turn (e ∷ es) start outcome mine h = (effect_own e h.0, all_own p turn es start outcome mine h.1)
+  all_own p turn [] start None mine effects_hold = tt
+  all_own p turn [] start (Some answer) mine effects_hold = (refl, tt)
+  all_own p turn (e ∷ es) start outcome mine effects_hold = (effect_own e effects_hold.0, all_own p turn es start outcome mine effects_hold.1)
     where
+      -- the party that a turn names is the party of the turn
       by_whose : (o : Option ℕ) → IfSome o (IsParty turn) → is_some o ≡ true → o ≡ Some p
       by_whose None its some = absurd (cc)
       by_whose (Some q) its some = ap Some (mine q its)
@@ -108,12 +119,13 @@ module _ {T : Type 0} (terms : Terms) (t : Trace T) (s : frame.Sound (family_by 
       effect_own (Died o) is_effect = absurd is_effect
       effect_own e is_effect = by_whose (whose e) is_effect refl
 
+  -- the turn is of the party `p` alone, and no look of another party
   module _ (turn : Turn T) (free : IsAllowed t.world turn) (p : ℕ) (its : IsParty turn p)
       (mine : (q : ℕ) → IsParty turn q → q ≡ p) (still : (q : ℕ) → q ≢ p → is_look_of t.world q turn ≡ false)
       (answer : ℕ) where
-    -- what the turn leaves the party's call, and what it writes, are as that call's step says
-    abbrev Comes : Registry T → Start T → Flight T → Type 0
-    Comes kept start flight =
+    -- what the turn leaves of the party's call, and what it writes, are as that call's step says
+    abbrev TurnIsStep : Registry T → Start T → Flight T → Type 0
+    TurnIsStep kept start flight =
         (flight_in (world_after t.world turn) p ≡ left_by (goes_of t.world.coding p flight answer kept))
         × (events_of t.world turn
         ≡ events_of_step p start
@@ -121,39 +133,38 @@ module _ {T : Type 0} (terms : Terms) (t : Trace T) (s : frame.Sound (family_by 
         × ((world_after t.world turn).kept
         ≡ (step_of t.world.coding t.world.words (beside_of t.world.words kept t.world.latest p) p start flight answer kept).kept)
 
+    -- the state of the party before the turn
     abbrev state : Option (ContainerState T)
     state = state_of p s.state.states
 
-    -- where the call leaves this and the party's state is the one then kept, the turn keeps what is known
-    leaves_it : (start : ContainerStart T) (flight : ContainerFlight T) (new : Option (ContainerState T))
+    -- where the step leaves what `Leaves` asks, with the state that the registry then has,
+    -- the turn keeps `Extra`
+    leaves_it : {start : ContainerStart T} {flight : ContainerFlight T} {new : Option (ContainerState T)}
         → Leaves t.world.coding p t.events state turn its new start flight answer
         → state_in (world_after t.world turn).kept p ≡ new
-        → Comes now_kept (Container start) (flights.Container flight) → Extra (after_turn t turn)
-    leaves_it start flight new leaves new_is comes =
+        → TurnIsStep now_kept (Container start) (flights.Container flight) → Extra (after_turn t turn)
+    leaves_it {start} {flight} leaves new_is comes =
         let es = wrote_by t.world.coding p t.events state turn its start flight answer in
         let outcome = answer_in (any_call (after t.world.coding state flight answer)) in
         after_it turn free
-        (subst (λ ys. (q : ℕ) → SeesThen turn free ys q) (sym comes.1)
-        (known_by turn free p es mine still
+        (rw comes.1 (known_by turn free p es mine still
         (all_own p turn (effects t.world.coding p state flight answer ++ questions p flight answer)
         (Container start) outcome mine (all_effects turn p its t.world.coding state flight answer))
-        (subst (λ o. FlightSees o (seen_by p (t.events ++ es)) (state_in (world_after t.world turn).kept p))
-        (sym comes.0)
-        (subst (FlightSees (left_by (any_call (after t.world.coding state flight answer))) (seen_by p (t.events ++ es)))
+        (rw comes.0 (subst (FlightSees (left_by (any_call (after t.world.coding state flight answer))) (seen_by p (t.events ++ es)))
         (sym new_is) leaves.sees))))
         (subst (AreRight MeetsChanges t.events) (sym comes.1) leaves.right)
 
-    -- the state is what it was
+    -- the registry has this state for the party
     state_is : state_in t.world.kept p ≡ state
     state_is = ap (λ kept. state_in kept p) same_kept
 
-    -- a call that is no look leaves so much that the turn keeps what is known
+    -- a turn of a call that is no look keeps `Extra`
     other_call : (start : ContainerStart T) (flight : ContainerFlight T) (all : List SetAct) (done : List (Act T))
         → At t.world.capacity t.world.coding.size all done start flight → IsNoLook start
         → is_look_of t.world p turn ≡ false → Within (seen_by p t.events) (seen_number state)
-        → Comes now_kept (Container start) (flights.Container flight) → Extra (after_turn t turn)
+        → TurnIsStep now_kept (Container start) (flights.Container flight) → Extra (after_turn t turn)
     other_call start flight all done at other rests within comes =
-        leaves_it start flight state
+        leaves_it {start = start} {flight = flight} {new = state}
         (others_leave t.world.coding p t.events state turn its t.world.capacity t.world.coding.size all done start
         flight answer at other within)
         (moves turn free p rests ∙ state_is) comes
@@ -161,39 +172,42 @@ module _ {T : Type 0} (terms : Terms) (t : Trace T) (s : frame.Sound (family_by 
     -- ---- a look
 
     module _ (which : LookOf) (call : Look T) where
+      -- the state of the party after the step
       abbrev left : Option (ContainerState T) → Option (ContainerState T)
       left None = None
       left (Some st) = Some (settled_if (look_steps.look_after t.world.coding.size call st.seen answer) (look_shows t.world.coding call st answer))
 
+      -- each step of a look leaves what `Leaves` asks, whether or not the party has a state
       look_leaves_so : (o : Option (ContainerState T)) → LookSees which call.stage (seen_by p t.events) o
           → (call.stage ≡ stages.LoadsChange → answer ≡ (seen_by p t.events).changes)
           → Leaves t.world.coding p t.events o turn its (left o) (looks_as which) (calls.Look which call) answer
       look_leaves_so None sees loads = look_stays t.world.coding p t.events turn its call answer which (looks_as which) sees
       look_leaves_so (Some st) sees loads = look_leaves t.world.coding p t.events st turn its call answer which sees loads
 
+      -- the registry then has this state for the party
       writes_so : (o : Option (ContainerState T)) → state_of p s.state.states ≡ o
           → state_of p (writes_state t.world.coding p call answer o s.state.states) ≡ left o
       writes_so None found = found
       writes_so (Some st) found = written_same p _ st s.state.states found
 
-      -- a look keeps what is known
+      -- a turn of a look keeps `Extra`
       look_call : (start : ContainerStart T) → start ≡ looks_as which
           → LookSees which call.stage (seen_by p t.events) state
           → (call.stage ≡ stages.LoadsChange → answer ≡ (seen_by p t.events).changes)
-          → Comes now_kept (Container start) (flights.Container (calls.Look which call)) → Extra (after_turn t turn)
+          → TurnIsStep now_kept (Container start) (flights.Container (calls.Look which call)) → Extra (after_turn t turn)
       look_call start name sees loads comes =
-          leaves_it start (calls.Look which call) (left state)
-          (subst (λ a. Leaves t.world.coding p t.events state turn its (left state) a (calls.Look which call) answer)
-          (sym name) (look_leaves_so state sees loads))
+          leaves_it {start = start} {flight = (calls.Look which call)} {new = (left state)}
+          (rw name (look_leaves_so state sees loads))
           (ap (λ kept. state_in kept p) comes.2 ∙ writes_so state refl) comes
 
-  -- a call that is no look
+  -- of a call that is no look, the number that the party's state has seen is one that a look has met
   rests_within : (start : ContainerStart T) (flight : ContainerFlight T) (all : List SetAct) (done : List (Act T))
       (seen : Seen) (o : Option (ContainerState T))
       → At t.world.capacity t.world.coding.size all done start flight → IsNoLook start → CallSees flight seen o
       → Within seen (seen_number o)
   rests_within = grind arith
 
+  -- a call that is no look is not told to look
   not_looking : (start : ContainerStart T) (flight : ContainerFlight T) (all : List SetAct) (done : List (Act T))
       → At t.world.capacity t.world.coding.size all done start flight → IsNoLook start
       → is_looking {T = T} (Some (flights.Container flight)) ≡ false
@@ -205,18 +219,19 @@ module _ {T : Type 0} (terms : Terms) (t : Trace T) (s : frame.Sound (family_by 
     abbrev on_next : (q : ℕ) → q ≢ p → is_look_of t.world q (Next p) ≡ false
     on_next q ne = not_its p q (is_looking (flight_in t.world p)) ne
 
+    -- what the step of this call leaves and writes is as the table of steps says
     abbrev StepComes : ContainerStart T → ContainerFlight T → Type 0
     StepComes start flight =
-        Comes (Next p) free p refl (λ q its. its) on_next (old_of s.state.words (ask_of (want t.world.coding flight)))
+        TurnIsStep (Next p) free p refl (λ q its. its) on_next (old_of s.state.words (ask_of (want t.world.coding flight)))
         now_kept (Container start) (flights.Container flight)
 
-    -- a look loads the number of changes
+    -- the first load of a look finds the number of changes, as the word counts the changes
     loads_changes : (which : LookOf) (call : Look T) → call.capacity ≡ t.world.capacity
         → call.stage ≡ stages.LoadsChange
         → old_of s.state.words (ask_of (want t.world.coding (calls.Look which call))) ≡ (seen_by p t.events).changes
     loads_changes = grind (arith, same_words, counts, changes_are)
 
-    -- a step of a call that is no look keeps what is known
+    -- a step of a call that is no look keeps `Extra`
     step_other : (start : ContainerStart T) (flight : ContainerFlight T) (all : List SetAct) (done : List (Act T))
         → At t.world.capacity t.world.coding.size all done start flight
         → flight_in t.world p ≡ Some (flights.Container flight)
@@ -227,7 +242,7 @@ module _ {T : Type 0} (terms : Terms) (t : Trace T) (s : frame.Sound (family_by 
         ∙ (ap (λ b. (p == p) && b) (not_looking start flight all done at other) ∙ ap (λ a. a && false) (eq-eqb p p refl)))
         (rests_within start flight all done (seen_by p t.events) (state_of p s.state.states) at other sees) comes
 
-    -- a step of any call of the container keeps what is known
+    -- a step of any call of the container keeps `Extra`
     step_by : (start : ContainerStart T) (flight : ContainerFlight T) (all : List SetAct) (done : List (Act T))
         → At t.world.capacity t.world.coding.size all done start flight
         → flight_in t.world p ≡ Some (flights.Container flight)
@@ -254,21 +269,21 @@ module _ {T : Type 0} (terms : Terms) (t : Trace T) (s : frame.Sound (family_by 
     step_by starts.IsEmpty flight all done at flies sees comes = step_other starts.IsEmpty flight all done at flies tt sees comes
     step_by starts.IsLocked flight all done at flies sees comes = step_other starts.IsLocked flight all done at flies tt sees comes
 
-    -- a step of any call that stands there keeps what is known
+    -- a step of any call that stands in the machine keeps `Extra`
     by_step : (x : Party T) (since : ℕ) → party_of p t.world.latest ≡ Some x → (start : Start T) (flight : Flight T)
         → StandsThere fam t s p x since start flight → flight_in t.world p ≡ Some flight
-        → Comes (Next p) free p refl (λ q its. its) on_next
+        → TurnIsStep (Next p) free p refl (λ q its. its) on_next
         (old_of s.state.words (ask_of (want_of t.world.coding flight))) now_kept start flight
         → Extra (after_turn t (Next p))
     by_step = grind (arith, is_there, shown, step_by, seen_by, state_in, same_kept)
 
-    -- any step keeps what is known
+    -- any step keeps `Extra`
     pub next_kept : Extra (after_turn t (Next p))
     next_kept =
         let flies = may_next t.world p free in
         let call = under_way fam t s p flies.flight flies.is in
         let caller = call.party in
-        let left = next_leaves terms t s p flies.flight call in
+        let left = next_leaves terms s p call in
         let wrote : events_of t.world (Next p)
         ≡ events_of_step p caller.start
         (step_in t.world p caller flies.flight (old_of t.world.words (ask_of (want_of t.world.coding flies.flight)))) =
@@ -283,20 +298,21 @@ module _ {T : Type 0} (terms : Terms) (t : Trace T) (s : frame.Sound (family_by 
         call.doing
         in
         by_step caller call.since call.found caller.start flies.flight call.there flies.is
-        (subst (λ k. Comes (Next p) free p refl (λ q its. its) on_next
+        (subst (λ k. TurnIsStep (Next p) free p refl (λ q its. its) on_next
         (old_of s.state.words (ask_of (want_of t.world.coding flies.flight))) k caller.start flies.flight)
         same_kept
-        (subst (λ ws. Comes (Next p) free p refl (λ q its. its) on_next
+        (subst (λ ws. TurnIsStep (Next p) free p refl (λ q its. its) on_next
         (old_of ws (ask_of (want_of t.world.coding flies.flight))) t.world.kept caller.start flies.flight)
         same_words (left, wrote, kept)))
 
   -- ---- a decision
 
   module _ (p : ℕ) (said : Bool) (free : IsAllowed t.world (Decide p said)) where
+    -- what the decision for this call leaves and writes is as the table of steps says
     abbrev DecisionComes : Registry T → Start T → Flight T → Type 0
-    DecisionComes kept start flight = Comes (Decide p said) free p refl (λ q its. its) (λ q ne. refl) (number_of said) kept start flight
+    DecisionComes kept start flight = TurnIsStep (Decide p said) free p refl (λ q its. its) (λ q ne. refl) (number_of said) kept start flight
 
-    -- a decision of a call that is no look keeps what is known
+    -- a decision for a call that is no look keeps `Extra`
     decided_other : (start : ContainerStart T) (flight : ContainerFlight T) (all : List SetAct) (done : List (Act T))
         → At t.world.capacity t.world.coding.size all done start flight → IsNoLook start
         → CallSees flight (seen_by p t.events) (state_of p s.state.states)
@@ -307,7 +323,7 @@ module _ {T : Type 0} (terms : Terms) (t : Trace T) (s : frame.Sound (family_by 
         at other refl
         (rests_within start flight all done (seen_by p t.events) (state_of p s.state.states) at other sees) comes
 
-    -- and one of any call of the container that waits for it
+    -- a decision for any call of the container that waits for one keeps `Extra`
     decided_by : (start : ContainerStart T) (flight : ContainerFlight T) (all : List SetAct) (done : List (Act T))
         → At t.world.capacity t.world.coding.size all done start flight
         → is_question (want t.world.coding flight) ≡ true
@@ -316,19 +332,20 @@ module _ {T : Type 0} (terms : Terms) (t : Trace T) (s : frame.Sound (family_by 
         → Extra (after_turn t (Decide p said))
     decided_by = grind (arith, both_ways, look_asks_none, decided_other)
 
+    -- a decision for any call that stands in the machine keeps `Extra`
     by_decision : (x : Party T) (since : ℕ) → party_of p t.world.latest ≡ Some x
         → (start : Start T) (flight : Flight T) → StandsThere fam t s p x since start flight
         → flight_in t.world p ≡ Some flight → is_question (want_of t.world.coding flight) ≡ true
         → DecisionComes now_kept start flight → Extra (after_turn t (Decide p said))
     by_decision = grind (arith, is_there, shown, decided_by, seen_by, state_in, same_kept)
 
-    -- any decision keeps what is known
+    -- any decision keeps `Extra`
     pub decision_kept : Extra (after_turn t (Decide p said))
     decision_kept =
-        let flies = decides t.world p free in
+        let flies = decides {w = t.world} {p = p} free in
         let call = under_way fam t s p flies.flight flies.is in
         let caller = call.party in
-        let left = decision_leaves terms t s p said flies.flight call in
+        let left = decision_leaves terms {t = t} s p said {flight = flies.flight} call in
         let wrote : events_of t.world (Decide p said) ≡ events_of_step p caller.start (step_in t.world p caller flies.flight (number_of said)) =
         ap (events_of_decision t.world p said) call.found ∙ ap (events_of_answer t.world p caller (number_of said)) call.doing
         in

@@ -8,14 +8,14 @@ use Rattle.model.specs.declared.event.Start.TheVariants.{Container}
 use Rattle.model.specs.declared.families.container.ContainerStart.TheVariants.{Add, Remove, Replace, Recover, GetState, UpdateState}
 use Rattle.model.specs.World.{Trace}
 
--- Numbers of changes that a party's looks can have met.
+-- The numbers of changes of a container that a party's looks can have met, by the events so far.
 pub record Seen : Type 0 where
-  pub changes : ℕ  -- so far
-  pub begun : ℕ  -- when its latest look began
-  pub least : ℕ  -- when the look began that last brought its state up to date
-  pub most : ℕ  -- when that look ended
+  pub changes : ℕ  -- the number so far
+  pub begun : ℕ  -- the number when the party's latest look began
+  pub least : ℕ  -- the number when the look began that last brought the party's state up to date
+  pub most : ℕ  -- the number when that look ended
 
--- what a party's looks have met once one has brought its state up to date
+-- what a party's looks have met once its look has brought its state up to date
 abbrev pub up_to_date : Seen → Seen
 up_to_date s = record s { least = s.begun; most = s.changes }
 
@@ -51,13 +51,14 @@ module _ {T : Type 0} where
       if q == p then up_to_date s else s
   seen_after p s e = record s { changes = s.changes + change_in e }
 
-  -- what the party's looks have met in these events
+  -- the numbers of changes that the party's looks can have met in these events
   abbrev pub seen_by : ℕ → List (Event T) → Seen
   seen_by p events =
       fold (seen_after p) (record { changes = 0; begun = 0; least = 0; most = 0 }) events
 
-  -- The look meant is the party's last that brought its state up to date. An update that answers true has met a change
-  -- that ended after that look began. Where one answers false, no change has ended since that look did.
+  -- The answer of an update tells the truth about changes. Here the look is the party's last that brought
+  -- its state up to date. An update that answers true has met a change that ended after that look began.
+  -- Where one answers false, no change has ended since that look did.
   abbrev pub MeetsChanges : List (Event T) → Event T → Type 0
   MeetsChanges before (Finished p (Container UpdateState) (Truth true)) =
       (seen_by p before).least < changes_of before

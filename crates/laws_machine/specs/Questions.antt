@@ -1,4 +1,4 @@
--- Which questions are put, and what becomes of one.
+-- Which questions a call of the robust set or of a container puts, and that one question is put once.
 use Rattle.std.specs.Prelude.{◌≡◌, ℕ, ◌==◌, Bool, false, Option, Some, None, is_some, List, ◌++◌, if◌then◌else◌}
 use Rattle.std.specs.List.{AllByRecursion}
 use Rattle.steps.specs.declared.ask.Ask.{Ask}
@@ -17,7 +17,7 @@ use Rattle.model.specs.Promises.Turns.{ask_in}
 use Rattle.model.specs.Refusals.{is_due}
 use Rattle.model.specs.World.{World, Trace, flight_in}
 
--- the index, where it is filled with this owner
+-- the index, where the option says that it is filled with this owner, else none
 abbrev pub index_if : (owner index : ℕ) → Option ℕ → Option ℕ
 index_if owner index None = None
 index_if owner index (Some other) = if other == owner then Some index else None
@@ -35,23 +35,24 @@ module _ {T : Type 0} where
   abbrev pub WaitsForAnswers : Trace T → Type 0
   WaitsForAnswers t = (p : ℕ) → waits_at t p ≡ is_some (question_at t p)
 
-  -- a decision is the last word: the call waits for no other
+  -- once a decision is taken for a party, its call waits for no other
   abbrev pub IsAnswered : Turn T → Trace T → Type 0
   IsAnswered turn new = (p : ℕ) (said : Bool) → turn ≡ Decide p said → waits_at new p ≡ false
 
-  -- what a recovery of the robust set writes that it asks, it asks: it waits for the answer to just that
+  -- a recovery of the robust set that writes `Asked` waits for the answer about just that index and owner
   abbrev pub AsksIt : World T → Event T → Type 0
   AsksIt new (Asked p index owner) =
       owned_of new.coding (flight_in new p) ≡ Some (index, owner)
   AsksIt new e = Unit {0}
 
-  -- what a turn writes that a party asks, it asks on the machine that the turn leaves
+  -- each `Asked` that a turn writes is what the party asks in the machine that the turn leaves
   abbrev pub AsksAtOnce : (old new : Trace T) → Type 0
   AsksAtOnce old new =
       (wrote : List (Event T)) → new.events ≡ old.events ++ wrote
       → AllByRecursion (AsksIt new.world) wrote
 
-  -- a find of the robust set that loads the cell of an index asks about it just where it is filled with its owner
+  -- a find of the robust set that loads the cell of an index asks about that index just where it is filled
+  -- with the find's owner
   abbrev pub FindsAsking : Trace T → Turn T → Trace T → Type 0
   FindsAsking old turn new =
       (p owner index : ℕ) → turn ≡ Next p → IsIn p (Robust (Find owner)) old

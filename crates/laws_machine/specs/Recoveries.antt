@@ -1,4 +1,4 @@
--- When a recovery of the robust set answers that it is not locked, in the mode that locks.
+-- What a recovery of the robust set in mode LockIfLastIndex has met where it answers Unlocked.
 use Rattle.std.specs.Prelude.{ℕ, List}
 use Rattle.steps.specs.declared.indices.enums.ReleaseMode.TheVariants.{LockIfLastIndex}
 use Rattle.steps.specs.declared.indices.enums.ReleaseState.TheVariants.{Unlocked}

@@ -26,7 +26,8 @@ pub fn keeps_queue<T>()
     ensures { (w : World T) (turn : Turn T) → KeepsQueue w (world_after w turn) }
 {}
 
-/// So it is as long as the number that the channel was made with. The lemma is `queue_is` there.
+/// In every reached machine the submission queue of a loan channel is as long as the machine was opened with. The lemma is
+/// `queue_is` of `proofs/Queue.antt`.
 pub fn queue_is<T>()
     ensures { (t : Trace T) → t.world.kind ≡ Loan → (r : IsReached t) → queue_in t.world.kept ≡ Some r.queue }
 {}

@@ -57,13 +57,13 @@ module _ {T : Type 0} where
       → IsFreshCall (old_of t.world.words (ask_of (want_of t.world.coding flight))) flight
   IsFreshTurn t turn = Unit {0}
 
-  -- each of these turns that is not refused, from here on, is such a turn
+  -- each of these turns, taken one after another from the run `t`, is refused or satisfies `May`
   abbrev pub AllMay : (Trace T → Turn T → Type 0) → List (Turn T) → Trace T → Type 0
   AllMay May [] t = Unit {0}
   AllMay May (turn ∷ turns) t =
       (call_refusal t.world turn ≡ None → May t turn) × AllMay May turns (attempt_on t turn)
 
--- turns of which none finds the last position or the last version lead here from the opening
+-- the run is from the opening by the turns `turns`, of which none finds the last position or the last version
 pub record IsFreshRun {T : Type 0} (t : Trace T) : Type 0 where
   pub turns : List (Turn T)
   pub is : t

@@ -1,4 +1,5 @@
--- The steps of an acquire.
+-- Each step of an acquire of the robust index set keeps the invariant: it keeps the
+-- invariant (`Shows`, Invariant).
 use Rattle.laws_robust.proofs.Names.{sym, subst, inr, inl, ⊎_elim, ◌≡◌, ℕ, ◌<◌, ◌≤◌, Bool, false, Option, List, []}
 use Rattle.laws_robust.proofs.Names.{◌∷◌, ◌++◌, refl, ap, ◌∙◌, arith, Err, flat_map-append, Ask, After, Done}
 use Rattle.laws_robust.proofs.Names.{AcquireStage, Acquired, empty, went_on, Index, NoIndex, Event, Filled, Granted}
@@ -19,52 +20,56 @@ use Rattle.laws_robust.proofs.Knows.{Knows, IsPaid}
 use Rattle.laws_robust.proofs.CallProgress.{acquire_at, acquire_number, AcquireAt}
 use Rattle.laws_robust.proofs.Stages.{IsHere, all, now, sees, StepOf, Leads, goes_on, ends, goes_quietly, ends_quietly}
 
-module _ {T : Type 0} (scene : Scene T) (inv : Inv scene) (owner : ℕ) (fits : owner < empty)
+-- The party `p` has an acquire for the owner `owner` under way, who is alive. `c` is the capacity, `ws` the
+-- words before the step.
+module _ {T : Type 0} {scene : Scene T} (inv : Inv scene) (owner : ℕ) (fits : owner < empty)
     (alive : is_dead owner scene.events ≡ false) (here : IsHere scene (Acquire owner)) where
   open scene use {capacity as c, party as p, steps as steps, backs as backs, events as events}
 
+  -- the words of the set before the step
   abbrev ws : List ℕ
   ws = scene.set.words
 
-  -- what a step leads to that did this, by how the call goes on
+  -- a step that wrote `did`, after which the acquire is as `a` says, keeps the invariant (`Shows`)
   abbrev Lead : Option Ask → Bool → List (Event T) → After calls.Acquire Acquired → Type 0
   Lead ask back did a =
       Leads scene (Acquire owner) ask back did (as_call flights.Acquire acquire_answer (went_on as_it_is owner tt a))
 
-  -- an acquire that fails ends with that failure
+  -- an acquire that fails ends with this failure
   refuses : (failure : UniqueIndexSetAcquireFailure) (ask : Option Ask) (back : Bool)
       → words_after ws ask ≡ ws → WhyNot scene inv owner fits alive 0 failure → IsPaid (sees scene ask back)
       → FewEnd scene inv owner fits alive 0 ask back → Lead ask back [] (Done (Err failure))
   refuses failures.IsLocked ask back same why paid few =
-      ends_quietly scene inv (Acquire owner) (NoIndex failures.IsLocked) ask back here
+      ends_quietly scene inv ask back here
       (stays_same scene inv (words_after ws ask) same) (λ i o. refl) (λ i r. refl) why.0 why.1 (omega arith) paid
   refuses failures.OutOfIndices ask back same why paid few =
-      ends_quietly scene inv (Acquire owner) (NoIndex failures.OutOfIndices) ask back here
+      ends_quietly scene inv ask back here
       (stays_same scene inv (words_after ws ask) same) (λ i o. refl) (λ i r. refl)
       (why.0, ⊎_elim (λ worn. inl (subst (IsWorn scene.by) (sym same) worn)) (λ all_filled. inr all_filled) why.1) why.2 (omega arith) paid
 
-  -- what the steps of an acquire lead to in a call that is nothing else: each step that goes
-  -- on, the fill, each failure, and the grant
+  -- `Held` asks the caller of an acquire for this: what a step leads to that goes on, fills, fails, or is
+  -- granted an index
   caller : Caller scene inv owner fits alive 0 Lead
   caller =
       record {
         quiet =
-            λ next ask back same at known few. goes_quietly scene inv (Acquire owner) (acquire_at c owner next) ask back
+            λ next ask back same at known few. goes_quietly scene inv ask back
             here (stays_same scene inv (words_after ws ask) same) (omega arith) (refl, refl, fits, at) known;
         filled = λ i ask new does below none known few.
-            goes_on scene (Acquire owner)
-            (acquire_at c owner (acquires.Raises i raises.LoadsCounter)) ask false
+            goes_on scene ask false
             (Filled p i owner ∷ []) here (λ start w. refl) does
             ((refl, none), tt) (tt, tt) (omega arith) (refl, refl, fits, (below, ap (λ d. d ++ Fills i owner ∷ []) none)) known;
         fails = refuses;
         grants = λ i ask back below done mine raised paid few.
             let all_done : set_acts (wrote_of p events ++ Granted p i owner ∷ []) ≡ Fills i owner ∷ Grants i owner ∷ [] =
             flat_map-append set_act (wrote_of p events) (Granted p i owner ∷ []) ∙ ap (λ d. d ++ Grants i owner ∷ []) done in
-            ends scene (Acquire owner) (Index i) ask back (Granted p i owner ∷ []) here (λ start w. refl)
+            ends scene (Index i) ask back (Granted p i owner ∷ []) here (λ start w. refl)
             (grants scene inv (words_after ws ask) i owner mine alive raised)
             ((refl, done), ((refl, all_done), tt)) (tt, (tt, tt)) (omega arith) paid;
       }
 
+  -- any step of an acquire keeps the invariant (`Shows`), where the acquire stands at its stage and knows
+  -- what the stage says
   pub acquire_step : (stage : AcquireStage) → AcquireAt c owner (all scene) stage
       → Knows c (acquire_at c owner stage) (now scene) → steps ≤ acquire_number c stage backs
       → StepOf scene (Acquire owner) (acquire_at c owner stage)

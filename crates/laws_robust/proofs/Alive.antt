@@ -1,4 +1,5 @@
--- No turn of an open run is a death. So where what the calls under way write leaves alive who lives, all live on.
+-- No turn of an open run is a death. So where nothing that calls under way write kills an owner,
+-- all owners stay alive.
 use Rattle.std.proofs.Common.{arith}
 use Rattle.laws_robust.proofs.Names.{◌≡◌, ℕ, Bool, false, Option, Some, None, List, [], ◌∷◌, fold, refl, ap, ◌∙◌}
 use Rattle.laws_robust.proofs.Names.{AllByRecursion, fold-append, Answer, Event, Start, Flight, Doing, Going, Over}
@@ -8,14 +9,16 @@ use Rattle.laws_robust.proofs.Names.{events_of_next, events_of_decision, events_
 use Rattle.laws_robust.specs.Open.{open_refusal}
 
 module _ {T : Type 0} where
-  -- who lives, lives on past it
+  -- the event changes no owner from alive to dead or back
   abbrev pub Leaves : Event T → Type 0
   Leaves e = (owner : ℕ) (dead : Bool) → dead_after owner dead e ≡ dead
 
+  -- events none of which changes who is dead do not change it together
   all_leave : (owner : ℕ) (es : List (Event T)) (dead : Bool) → AllByRecursion Leaves es → fold (dead_after owner) dead es ≡ dead
-  all_leave owner [] dead h = refl
-  all_leave owner (e ∷ es) dead h = ap (λ b. fold (dead_after owner) b es) (h.0 owner dead) ∙ all_leave owner es dead h.1
+  all_leave owner [] dead leave_all = refl
+  all_leave owner (e ∷ es) dead leave_all = ap (λ b. fold (dead_after owner) b es) (leave_all.0 owner dead) ∙ all_leave owner es dead leave_all.1
 
+  -- the end of a call does not change who is dead
   pub end_leaves : (p : ℕ) (start : Start T) (outcome : Option (Answer T)) → AllByRecursion Leaves (ending_of p start outcome)
   end_leaves p start None = tt
   end_leaves p start (Some answer) = (λ owner dead. refl, tt)
@@ -25,35 +28,39 @@ module _ {T : Type 0} where
   AllLive events = (owner : ℕ) → is_dead owner events ≡ false
 
 module _ {T : Type 0} (t : Trace T) where
-  -- what a call under way writes, however it goes on, leaves alive who lives
+  -- whatever the next step or decision of a call under way writes leaves it as it was which owners are dead
   abbrev pub StepsLeave : Type 0
   StepsLeave =
       (p : ℕ) (x : Party T) (since : ℕ) (flight : Flight T) (answer : ℕ) → party_of p t.world.latest ≡ Some x → x.doing ≡ Going flight since
       → AllByRecursion Leaves (events_of_step p x.start (step_in t.world p x flight answer))
 
   module _ (steps : StepsLeave) where
-    -- what a step writes leaves alive who lives
+    -- what a step writes leaves the owners alive
     next_leaves : (p : ℕ) (o : Option (Party T)) → party_of p t.world.latest ≡ o → AllByRecursion Leaves (events_of_next t.world p o)
     next_leaves p None found = tt
     next_leaves p (Some x) found = go x.doing refl
       where
+        -- the cases are whether the party's call is over or under way
         go : (doing : Doing T) → x.doing ≡ doing
             → AllByRecursion Leaves (events_of_answer t.world p x (old_of t.world.words (ask_of_doing t.world.coding doing)) doing)
         go (Over others) same_doing = tt
         go (Going flight since) same_doing = steps p x since flight (old_of t.world.words (ask_of_doing t.world.coding (Going flight since))) found same_doing
 
-    -- what a decision writes leaves alive who lives
+    -- what a decision writes leaves the owners alive
     decision_leaves : (p : ℕ) (said : Bool) (o : Option (Party T)) → party_of p t.world.latest ≡ o
         → AllByRecursion Leaves (events_of_decision t.world p said o)
     decision_leaves p said None found = tt
     decision_leaves p said (Some x) found = go x.doing refl
       where
+        -- the cases are whether the party's call is over or under way
         go : (doing : Doing T) → x.doing ≡ doing → AllByRecursion Leaves (events_of_answer t.world p x (number_of said) doing)
         go (Over others) same_doing = tt
         go (Going flight since) same_doing = steps p x since flight (number_of said) found same_doing
 
+    -- what any turn of an open run writes leaves the owners alive
     turn_leaves : (turn : Turn T) → open_refusal t.world turn ≡ None → AllByRecursion Leaves (events_of t.world turn)
     turn_leaves = grind (arith, next_leaves, decision_leaves)
 
+    -- after a turn of an open run all owners are alive, if all were before
     pub all_live_on : (turn : Turn T) → open_refusal t.world turn ≡ None → AllLive t.events → AllLive (after_turn t turn).events
     all_live_on = grind (arith, fold-append, false, all_leave, turn_leaves)

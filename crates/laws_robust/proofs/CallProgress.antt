@@ -17,6 +17,7 @@ use Rattle.model.specs.declared.families.indices.robust.calls.RobustFlight.TheVa
 
 -- ---- the calls by their stages
 
+-- an acquire at a stage
 abbrev pub acquire_at : ℕ → ℕ → AcquireStage → RobustFlight
 acquire_at c owner stage =
     Acquire (record { call = record { capacity = c; stage = stage }; given = owner; room = tt })
@@ -31,14 +32,17 @@ release_at c index owner mode stage =
       room = tt;
     })
 
+-- a find at a stage
 abbrev pub find_at : ℕ → ℕ → FindStage → RobustFlight
 find_at c owner stage =
     Find (record { call = record { capacity = c; stage = stage }; given = owner; room = tt })
 
+-- a recovery at a stage
 abbrev pub recover_at : ℕ → ReleaseMode → RecoverStage → RobustFlight
 recover_at c mode stage =
     Recover (record { call = record { capacity = c; stage = stage }; given = mode; room = tt })
 
+-- a count of borrowed indices at a stage
 abbrev pub borrowed_at : ℕ → Count → RobustFlight
 borrowed_at c count =
     BorrowedIndices (record { call = record { capacity = c; count = count }; given = tt; room = tt })
@@ -48,20 +52,23 @@ looking = IsLocked (record { call = record {}; given = tt; room = tt })
 
 -- ---- how many steps they have taken at most
 
+-- how many steps a raise of the counter has taken at most
 abbrev pub raise_number : Raise → ℕ
 raise_number raises.LoadsCounter = 0
 raise_number (raises.ExchangesCounter counter) = 1
 
+-- how many steps a count of filled cells has taken at most
 abbrev pub count_number : ℕ → Count → ℕ
 count_number c counts.LoadsCounter = 0
 count_number c (counts.LoadsCell counter index filled) = 1 + index
 count_number c (counts.ExchangesCounter counter filled) = 1 + c
 
+-- how many steps a lock has taken at most
 abbrev pub lock_number : ℕ → Lock → ℕ
 lock_number c (locks.Counts count) = count_number c count
 lock_number c (locks.ExchangesCounter counter) = 2 + c
 
--- an acquire, after so many turns back
+-- how many steps an acquire has taken at most at its stage, where it has turned back `backs` times
 abbrev pub acquire_number : ℕ → AcquireStage → ℕ → ℕ
 acquire_number c acquires.LoadsCounter backs = 0
 acquire_number c (acquires.FillsCell counter index) backs =
@@ -70,24 +77,27 @@ acquire_number c (acquires.ChecksCounter counter) backs = 1 + c + backs * (c + 1
 acquire_number c (acquires.Raises index raise) backs =
     1 + c + raise_number raise + backs * (c + 1)
 
--- what a turn back takes, and an index of a recovery
+-- how many steps a turn back costs, and how many an index of a recovery
 abbrev pub for_back : ℕ → ReleaseMode → ℕ
 for_back c Default = 1
 for_back c LockIfLastIndex = c + 3
 
+-- how many steps a recovery takes at most for each index
 abbrev pub for_index : ℕ → ReleaseMode → ℕ
 for_index c Default = 4
 for_index c LockIfLastIndex = c + 7
 
+-- in either mode a recovery takes at least one step for each turn back
 pub at_least_one : (c : ℕ) (mode : ReleaseMode) → 1 ≤ for_back c mode
 at_least_one c Default = omega arith
 at_least_one c LockIfLastIndex = omega arith
 
+-- in either mode a recovery takes at least four steps for each index
 pub at_least_four : (c : ℕ) (mode : ReleaseMode) → 4 ≤ for_index c mode
 at_least_four c Default = omega arith
 at_least_four c LockIfLastIndex = omega arith
 
--- a release, after so many turns back
+-- how many steps a release has taken at most at its stage, where it has turned back `backs` times
 abbrev pub release_number : ℕ → ReleaseMode → ReleaseStage → ℕ → ℕ
 release_number c mode releases.EmptiesCell backs = 0
 release_number c mode (releases.Raises raise) backs =
@@ -95,7 +105,7 @@ release_number c mode (releases.Raises raise) backs =
 release_number c mode (releases.Locks lock) backs =
     3 + lock_number c lock + backs * for_back c mode
 
--- a recovery, after so many turns back
+-- how many steps a recovery has taken at most at its stage, where it has turned back `backs` times
 abbrev pub recover_number : ℕ → ReleaseMode → RecoverStage → ℕ → ℕ
 recover_number c mode recovers.LoadsCounter backs = 0
 recover_number c mode (recovers.LoadsCell index) backs =
@@ -111,11 +121,12 @@ recover_number c mode (recovers.Locks index lock) backs =
 recover_number c mode recovers.LoadsCounterAgain backs =
     1 + c * for_index c mode + backs * for_back c mode
 
+-- how many steps a find has taken at most at its stage
 abbrev pub find_number : FindStage → ℕ
 find_number (finds.LoadsCell index found) = index
 find_number (finds.Asks index found) = index + 1
 
--- any call at its stage, after so many turns back
+-- how many steps a call has taken at most at its stage, where it has turned back `backs` times
 abbrev pub number_of : ℕ → RobustFlight → ℕ → ℕ
 number_of c (Acquire run) backs = acquire_number c run.call.stage backs
 number_of c (Release run) backs = release_number c run.given.mode run.call.stage backs
@@ -134,11 +145,13 @@ AcquireAt c owner all (acquires.ChecksCounter counter) = all ≡ []
 AcquireAt c owner all (acquires.Raises index raise) =
     (index < c) × (all ≡ Fills index owner ∷ [])
 
+-- a count has come to a cell of the set, and has found at most the cells before it filled
 abbrev pub CountAt : ℕ → Count → Type 0
 CountAt c counts.LoadsCounter = Unit {0}
 CountAt c (counts.LoadsCell counter index filled) = (index < c) × (filled ≤ index)
 CountAt c (counts.ExchangesCounter counter filled) = filled ≤ c
 
+-- where a lock stands: its count stands, or its count is done
 abbrev pub LockAt : ℕ → Lock → Type 0
 LockAt c (locks.Counts count) = CountAt c count
 LockAt c (locks.ExchangesCounter counter) = Unit {0}
@@ -177,7 +190,7 @@ RecoverAt c mode all (recovers.Locks index lock) =
 RecoverAt c mode all recovers.LoadsCounterAgain =
     (i owner : ℕ) → IsOneOf (Frees i owner) all → IsOneOf (Asks i owner) all
 
--- where a call of this name stands in a set of this capacity, where it has done all this
+-- where the call of a begin stands, in a set of capacity `c`, where it has done `all` to the set
 abbrev pub At : ℕ → List SetAct → RobustStart → RobustFlight → Type 0
 At c all (starts.Acquire owner) (Acquire run) =
     (run.call.capacity ≡ c) × (run.given ≡ owner) × (owner < empty)

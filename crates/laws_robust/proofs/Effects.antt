@@ -1,4 +1,5 @@
--- What each kind of step does to a robust index set and to the other parties.
+-- What each kind of step does to a robust index set and to the other parties: it does what a turn may do
+-- (`Does`, Invariant).
 use Rattle.laws_robust.proofs.Names.{◌⊎◌, ◌≡◌, ◌≢◌, ℕ, ◌+◌, ◌<◌, ◌≤◌, ◌==◌, ⊎_elim, if◌then◌else◌, Bool, true, false}
 use Rattle.laws_robust.proofs.Names.{Option, Some, None, List, [], ◌∷◌, ◌++◌, length, get_or, set, get_or-set_other}
 use Rattle.laws_robust.proofs.Names.{fold, refl, sym, ap, ◌∙◌, append_assoc, arith, eq-eqb, ne_eqb, length-set}
@@ -17,35 +18,45 @@ use Rattle.laws_robust.proofs.Rights.{Right, By, right_after, right_of, IsBy, Ar
 -- ---- readings of one index
 
 module _ {A : Type 0} (i j : ℕ) (x y : A) where
+  -- where the indices are equal, the choice is the first
   pub at_same : j ≡ i → (if i == j then x else y) ≡ x
-  at_same e = ap (λ b. if b then x else y) (eq-eqb i j (sym e))
+  at_same same_index = ap (λ b. if b then x else y) (eq-eqb i j (sym same_index))
 
+  -- where the indices differ, the choice is the second
   pub at_other : j ≢ i → (if i == j then x else y) ≡ y
   at_other ne = ap (λ b. if b then x else y) (ne_eqb i j (λ e. ne (sym e)))
 
+-- an option is not both None and present
 pub some_none : {A B : Type 0} (o : Option B) (x : B) → o ≡ None → o ≡ Some x → A
-some_none o x a b = let same : None ≡ Some x = sym a ∙ b in absurd (cc)
+some_none o x is_none b = let same : None ≡ Some x = sym is_none ∙ b in absurd (cc)
 
+-- an option names one owner
 pub one_owner : (o : Option ℕ) (x y : ℕ) → o ≡ Some x → o ≡ Some y → x ≡ y
-one_owner o x y a b = let same : Some x ≡ Some y = sym a ∙ b in cc
+one_owner o x y first_some second_some = let same : Some x ≡ Some y = sym first_some ∙ second_some in cc
 
-pub one_party : (r : Right) (p q : ℕ) → r ≡ By p → r ≡ By q → q ≡ p
-one_party r p q a b = let same : By q ≡ By p = sym b ∙ a in cc
+-- a right names one party
+pub one_party : {r : Right} (p q : ℕ) → r ≡ By p → r ≡ By q → q ≡ p
+one_party p q a b = let same : By q ≡ By p = sym b ∙ a in cc
 
+-- a test does not come out both ways
 pub both_ways : {A : Type 0} (b : Bool) → b ≡ false → b ≡ true → A
 both_ways b f t = let same : true ≡ false = sym t ∙ f in absurd (cc)
 
 module _ {T : Type 0} where
   -- ---- events that change nothing of the set
 
-  -- whatever stood before, these events leave who fills, holds and settled each index, its right, the lock and the dead
+  -- Events that leave, whatever stood before them, who fills, holds and settled each index, who has the
+  -- right to it, the lock and the dead.
   pub record Quiet (es : List (Event T)) : Type 0 where
+    -- who fills, holds and settled each index, and who has the right to it
     pub filled : (i : ℕ) (o : Option ℕ) → fold (filled_after i) o es ≡ o
     pub holder : (i : ℕ) (o : Option ℕ) → fold (holder_after i) o es ≡ o
     pub settled : (i : ℕ) (o : Option ℕ) → fold (settled_after i) o es ≡ o
     pub right : (i : ℕ) (r : Right) → fold (right_after i) r es ≡ r
+    -- whether the set is locked, and who is dead
     pub locked : (b : Bool) → fold locked_after b es ≡ b
     pub dead : (owner : ℕ) (b : Bool) → fold (dead_after owner) b es ≡ b
+    -- an event that grants an index, or locks the set, finds nobody who holds it
     pub holds : (before : List (Event T)) → AreRight HoldsRight before es
 
   -- events by which no index is filled or freed, nothing is locked and nobody dies
@@ -54,26 +65,32 @@ module _ {T : Type 0} where
     pub locked : (b : Bool) → fold locked_after b es ≡ b
     pub dead : (owner : ℕ) (b : Bool) → fold (dead_after owner) b es ≡ b
 
+  -- the empty list of events changes nothing of the set
   pub quiet_none : Quiet []
   quiet_none = grind arith
 
-  pub quiet_asked : (p index owner : ℕ) → Quiet (Asked p index owner ∷ [])
-  quiet_asked p index owner = grind arith
+  -- a question changes nothing of the set
+  pub quiet_asked : {p index owner : ℕ} → Quiet (Asked p index owner ∷ [])
+  quiet_asked = grind arith
 
-  pub quiet_told : (p index owner : ℕ) → Quiet (Told p index owner ∷ [])
-  quiet_told p index owner = grind arith
+  -- the answer to a question changes nothing of the set
+  pub quiet_told : {p index owner : ℕ} → Quiet (Told p index owner ∷ [])
+  quiet_told = grind arith
 
-  -- an end, but that of an acquire or an add with an index
+  -- where the end of a call settles no index and leaves each right (as any does but that of an acquire or an
+  -- add with an index), it changes nothing of the set
   pub quiet_end : (p : ℕ) (start : Start T) (answer : Answer T) → ((i : ℕ) (o : Option ℕ) → settled_after i o (Finished p start answer) ≡ o)
       → ((i : ℕ) (r : Right) → right_after i r (Finished p start answer) ≡ r) → Quiet (Finished p start answer ∷ [])
   quiet_end p start answer settles rights = grind arith
 
+  -- the first part of a well-formed history is well-formed
   pub well_formed_less : (events es : List (Event T)) → IsWellFormed (events ++ es) → IsWellFormed events
   well_formed_less = grind (arith, append_assoc)
 
 module _ {T : Type 0} (scene : Scene T) where
   open scene use {by as by, capacity as c, party as p, turns as turns, events as events}
 
+  -- the words of the set before the step
   abbrev ws : List ℕ
   ws = scene.set.words
 
@@ -81,13 +98,16 @@ module _ {T : Type 0} (scene : Scene T) where
   abbrev dead : List ℕ
   dead = scene.set.dead
 
-  -- ---- what becomes of the words where no cell changes
+  -- ---- words in which no cell has changed
 
-  -- these words have the same cells and the same lock, and a counter that is no less
+  -- these words have the same cells and the same lock, and a counter that is no less and no
+  -- greater than it may be
   pub record Leaves (words' : List ℕ) : Type 0 where
+    -- the cells and the lock are as before
     pub wide : length words' ≡ length ws
     pub cells : (i : ℕ) → i < c → cell words' i ≡ cell ws i
     pub lock : (counter_of words' == locked) ≡ (counter_of ws == locked)
+    -- how far the counter may go
     pub low : (counter_of ws == locked) ≡ false → counter_of words' ≤ turns
     pub grows : counter_of ws ≤ counter_of words'
     pub bound : counter_of words' ≤ locked
@@ -104,12 +124,16 @@ module _ {T : Type 0} (scene : Scene T) where
       ((counter_of ws < greatest) × (words' ≡ set ws 0 (counter_of ws + 1)))
       ⊎ (IsWorn by ws × (counter_of ws ≡ greatest) × (words' ≡ ws))
 
-  -- ---- a step that leaves the cells and the lock, fills and frees nothing, and by which nobody dies
+  -- ---- a step that leaves the cells and the lock, with events by which nothing is filled or freed and
+  -- nobody dies
 
-  -- who holds an index, who may give it back, and who has the right to it
+  -- where the run stays well-formed and honest: indices are held, may be given back and are settled rightly
+  -- after the events, and other parties keep their rights
   pub record Hands (es : List (Event T)) : Type 0 where
+    -- indices are held and settled rightly after the events
     pub owned : IsCalm by (events ++ es) → AreOwned events → AreOwned (events ++ es)
     pub holds : IsCalm by (events ++ es) → AreRight HoldsRight events es
+    -- other parties keep their rights, and owners the indices that are settled with them
     pub right : IsCalm by (events ++ es) → (q : ℕ) → q ≢ p → (i owner : ℕ) → IsBy q i owner events
         → right_of i (events ++ es) ≡ right_of i events
     pub holder : IsCalm by (events ++ es) → (q : ℕ) → q ≢ p → (i owner : ℕ) → IsBy q i owner events
@@ -117,23 +141,28 @@ module _ {T : Type 0} (scene : Scene T) where
     pub settled : IsCalm by (events ++ es) → (i owner : ℕ) → settled_of i events ≡ Some owner → NoneTakes i owner es
         → settled_of i (events ++ es) ≡ Some owner
 
+  -- the step leaves the cells and the lock (`stays`), and its events fill and free nothing (`keeps`)
   module _ (good : Good by c ws dead events turns) (words' : List ℕ) (es : List (Event T)) (stays : Leaves words') (keeps : Keeps es) where
+    -- the events leave what each index is filled with
     pub same_filled : (i : ℕ) → filled_of i (events ++ es) ≡ filled_of i events
     same_filled i = fold-append (filled_after i) None events es ∙ keeps.filled i (filled_of i events)
 
+    -- the events leave the set unlocked, or locked
     same_lock : is_locked (events ++ es) ≡ is_locked events
     same_lock = fold-append locked_after false events es ∙ keeps.locked (is_locked events)
 
+    -- the events leave each owner dead or alive as he was
     same_dead : (owner : ℕ) → is_dead owner (events ++ es) ≡ is_dead owner events
     same_dead owner = fold-append (dead_after owner) false events es ∙ keeps.dead owner (is_dead owner events)
 
-    -- a step that leaves the cells and the lock, and hands indices on as it may, does to the set what it may
+    -- a step that leaves the cells and the lock does what a turn may do, where `Hands` holds of its events
     pub hands_on : AreOwn p es → AreRight (SetDoes c) events es → AreRight (AnswersBy by (IsWorn by words') c) events es → Hands es
         → (counter_of words' ≡ counter_of ws → counter_of ws < greatest → (i : ℕ) → holder_of i events ≡ None → holder_of i (events ++ es) ≡ None)
         → Does scene words' es
     hands_on own right answers hands grants =
         record {
           own = own;
+          -- what holds of the set before the turn holds after it
           good =
               record {
                 some = good.some;
@@ -153,7 +182,9 @@ module _ {T : Type 0} (scene : Scene T) where
                 owned = λ calm. hands.owned calm (good.owned (calm_less by events es calm));
                 holds = λ calm. Each-append HoldsRight events es (good.holds (calm_less by events es calm)) (hands.holds calm);
               };
+          -- the turn does to any party no more than a turn may do
           goes = let filled = same_filled in let dead = same_dead in let less = well_formed_less events es in grind arith;
+          -- each other party keeps its right to an index, and what it has done
           spares = λ q ne.
               record {
                 none = others_begin_none q p es ne own;
@@ -165,76 +196,92 @@ module _ {T : Type 0} (scene : Scene T) where
               };
         }
 
+  -- facts from the invariant about the words before the step
   module _ (inv : Inv scene) where
-    g : Good by c ws dead events turns
-    g = inv.good
+    good_before : Good by c ws dead events turns
+    good_before = inv.good
 
-    -- where the counter is before its end the set is not locked
+    -- a counter before its end is not that of the lock
     pub not_shut : counter_of ws < greatest → counter_of ws ≢ locked
     not_shut less shut = absurd (omega arith)
 
+    -- where the counter is not that of a locked set, the events say that it is unlocked
     pub unlocked : counter_of ws ≢ locked → is_locked events ≡ false
-    unlocked open_now = sym g.lock ∙ ne_eqb (counter_of ws) locked open_now
+    unlocked open_now = sym good_before.lock ∙ ne_eqb (counter_of ws) locked open_now
 
+    -- where the counter is the one of a locked set, the events say that it is locked
     pub is_shut : counter_of ws ≡ locked → is_locked events ≡ true
-    is_shut shut = sym g.lock ∙ eq-eqb (counter_of ws) locked shut
+    is_shut shut = sym good_before.lock ∙ eq-eqb (counter_of ws) locked shut
 
+    -- words that are the same differ at most in the counter
     pub stays_same : (words' : List ℕ) → words' ≡ ws → Stays words'
     stays_same words' same = grind arith
 
+    -- a step that only raises the counter, below its end, leaves what `Stays` says
     pub stays_raised : (words' : List ℕ) → counter_of ws < greatest → words' ≡ set ws 0 (counter_of ws + 1) → Stays words'
     stays_raised = grind (arith, counter_set, length, length-set, cell, cells_stay, ne_eqb, locked, not_shut, get_or-set_other)
 
+    -- the step has raised the counter, or left it at its end
     module _ (words' : List ℕ) (raised : IsRaised words') where
+      -- a counter that is raised is not that of a locked set
       pub raised_open : counter_of ws ≢ locked
       raised_open = grind (arith, not_shut)
 
+      -- the step leaves what `Stays` says
       pub raised_stays : Stays words'
       raised_stays = ⊎_elim (λ h. stays_raised words' h.0 h.1) (λ h. stays_same words' h.2) raised
 
+      -- below its end the counter is one more after the step
       pub raised_more : counter_of ws < greatest → counter_of words' ≡ counter_of ws + 1
       raised_more = grind (arith, counter_set)
 
-    -- a cell tells with whom its index is filled
+    -- the cell of an index tells with which owner it is filled
     module _ (i : ℕ) (below : i < c) where
+      -- a cell with an owner is filled with him by the events
       pub filled_by : (owner : ℕ) → owner < empty → cell ws i ≡ owner → filled_of i events ≡ Some owner
-      filled_by owner fits here = grind (arith, g.cells i below)
+      filled_by owner fits here = grind (arith, good_before.cells i below)
 
+      -- by the events an index with an empty cell is not filled
       pub filled_none : cell ws i ≡ empty → filled_of i events ≡ None
-      filled_none here = let fits = g.filled i in grind (arith, g.cells i below)
+      filled_none here = let fits = good_before.filled i in grind (arith, good_before.cells i below)
 
       -- a cell that is not empty holds an owner
       pub filled_some : cell ws i ≢ empty → (cell ws i < empty) × (filled_of i events ≡ Some (cell ws i))
-      filled_some other = let fits = g.filled i in grind (arith, g.cells i below)
+      filled_some other = let fits = good_before.filled i in grind (arith, good_before.cells i below)
 
-    -- ---- a step that is quiet
+    -- ---- a step whose events are quiet
 
     module _ (words' : List ℕ) (es : List (Event T)) (stays : Leaves words') (quiet : Quiet es) (own : AreOwn p es)
         (right : AreRight (SetDoes c) events es)
         (answers : AreRight (AnswersBy by (IsWorn by words') c) events es) where
+      -- quiet events fill and free nothing
       keeps : Keeps es
       keeps = record { filled = quiet.filled; locked = quiet.locked; dead = quiet.dead }
 
+      -- quiet events leave what each index is filled with
       filled_more : (i : ℕ) → filled_of i (events ++ es) ≡ filled_of i events
-      filled_more i = same_filled g words' es stays keeps i
+      filled_more i = same_filled good_before words' es stays keeps i
 
+      -- quiet events leave the holder of each index
       holder_more : (i : ℕ) → holder_of i (events ++ es) ≡ holder_of i events
       holder_more i = fold-append (holder_after i) None events es ∙ quiet.holder i (holder_of i events)
 
+      -- quiet events leave with whom each index is settled
       settled_more : (i : ℕ) → settled_of i (events ++ es) ≡ settled_of i events
       settled_more i = fold-append (settled_after i) None events es ∙ quiet.settled i (settled_of i events)
 
+      -- quiet events leave the right to each index
       right_more : (i : ℕ) → right_of i (events ++ es) ≡ right_of i events
       right_more i = fold-append (right_after i) _ events es ∙ quiet.right i (right_of i events)
 
+      -- each filled index has its owner after the events, if it had him before
       still_owned : AreOwned events → AreOwned (events ++ es)
       still_owned = grind (arith, filled_more, holder_more, settled_more, right_more)
 
-      -- a step that leaves the cells and the lock, and writes what changes nothing of the set,
-      -- does to the set what it may
+      -- a step that leaves the cells and the lock, and whose events are quiet, does what a turn may do
       pub quietly : Does scene words' es
       quietly =
-          hands_on g words' es stays keeps own right answers
+          hands_on good_before words' es stays keeps own right answers
           (record {
             owned = λ calm. still_owned;
             holds = λ calm. quiet.holds events;
@@ -246,80 +293,97 @@ module _ {T : Type 0} (scene : Scene T) where
 
     -- ---- an index is filled
 
+    -- the step stores the owner into the empty cell of `i`, while the set was open at a moment of the call
     module _ (words' : List ℕ) (i owner : ℕ) (below : i < c) (fits : owner < empty)
         (none : filled_of i events ≡ None) (alive : is_dead owner events ≡ false)
         (was_open : HeldSometime p IsUnlocked events)
         (new : words' ≡ set ws (cell_word i) owner) where
+      -- the event of a fill: the index `i` has the owner
       abbrev fill : List (Event T)
       fill = Filled p i owner ∷ []
 
+      -- after the fill the index is filled with the owner, and any other index as before
       filled_then : (j : ℕ) → filled_of j (events ++ fill) ≡ (if i == j then Some owner else filled_of j events)
       filled_then j = fold-append (filled_after j) None events fill
 
+      -- after the fill the right to the index is the party's, and to any other index as before
       fill_right : (j : ℕ) → right_of j (events ++ fill) ≡ (if i == j then By p else right_of j events)
       fill_right j = fold-append (right_after j) _ events fill
 
+      -- the fill leaves the holder of each index
       fill_holder : (j : ℕ) → holder_of j (events ++ fill) ≡ holder_of j events
       fill_holder j = fold-append (holder_after j) None events fill
 
+      -- the fill leaves with whom each index is settled
       fill_settled : (j : ℕ) → settled_of j (events ++ fill) ≡ settled_of j events
       fill_settled j = fold-append (settled_after j) None events fill
 
+      -- the fill leaves the set unlocked, or locked
       fill_locked : is_locked (events ++ fill) ≡ is_locked events
       fill_locked = fold-append locked_after false events fill
 
+      -- the fill leaves each owner dead or alive
       fill_dead : (o : ℕ) → is_dead o (events ++ fill) ≡ is_dead o events
       fill_dead o = fold-append (dead_after o) false events fill
 
+      -- the word of the cell is one of the set's
       within_words : cell_word i < length ws
-      within_words = let wide = g.wide in omega arith
+      within_words = let wide = good_before.wide in omega arith
 
+      -- each cell has after the fill what the events say
       fill_cells : (j : ℕ) → j < c → cell words' j ≡ cell_of (filled_of j (events ++ fill))
       fill_cells = grind (arith, filled_then, cell_set, within_words, cell_stays)
 
+      -- after the fill each filled index is one of the set, and its owner a number that an owner may have
       fill_filled : (j o : ℕ) → filled_of j (events ++ fill) ≡ Some o → (j < c) × (o < empty)
-      fill_filled j o e = let was = g.filled j o in grind (arith, filled_then j)
+      fill_filled j o filled_is = let was = good_before.filled j o in grind (arith, filled_then j)
 
+      -- each filled index has its owner after the fill, if it had him before
       fill_owned : AreOwned events → AreOwned (events ++ fill)
       fill_owned = grind (arith, filled_then, fill_holder, fill_settled, fill_right)
 
+      -- the fill leaves the counter
       fill_counter : counter_of words' ≡ counter_of ws
       fill_counter = ap counter_of new ∙ counter_stays ws i owner
 
+      -- an index that is filled with a dead owner after the fill was so before
       fill_dead_out : (j o : ℕ) → is_dead o events ≡ true → filled_of j (events ++ fill) ≡ Some o → filled_of j events ≡ Some o
-      fill_dead_out j o is_gone e = grind (arith, filled_then j)
+      fill_dead_out j o is_gone filled_is = grind (arith, filled_then j)
 
-      fill_by : (q j o : ℕ) → IsBy q j o events → IsBy q j o (events ++ fill)
-      fill_by q j o by_party = let filled = filled_then j in let right = fill_right j in grind arith
+      -- an index with its owner by the events before the fill has him after it
+      fill_by : {q j o : ℕ} → IsBy q j o events → IsBy q j o (events ++ fill)
+      fill_by {j = j} by_party = let filled = filled_then j in let right = fill_right j in grind arith
 
-      -- a step that fills an empty cell with an owner who may fill it does to the set what it may
+      -- a step that fills an empty cell with a living owner does what a turn may do
       pub fills : Does scene words' fill
       fills =
           record {
             own = (refl, tt);
+            -- what holds of the set before the turn holds after it
             good =
                 record {
-                  some = g.some;
-                  few = g.few;
-                  wide = let same = ap length new ∙ length-set ws (cell_word i) owner in let wide = g.wide in omega arith;
+                  some = good_before.some;
+                  few = good_before.few;
+                  wide = let same = ap length new ∙ length-set ws (cell_word i) owner in let wide = good_before.wide in omega arith;
                   cells = fill_cells;
                   filled = fill_filled;
-                  lock = ap (λ w. counter_of w == locked) new ∙ (ap (λ n. n == locked) (counter_stays ws i owner) ∙ (g.lock ∙ sym fill_locked));
+                  lock = ap (λ w. counter_of w == locked) new ∙ (ap (λ n. n == locked) (counter_stays ws i owner) ∙ (good_before.lock ∙ sym fill_locked));
                   low =
-                      λ t. let low = g.low (sym fill_locked ∙ t) in
+                      λ t. let low = good_before.low (sym fill_locked ∙ t) in
                       let is : counter_of words' ≡ counter_of ws = ap counter_of new ∙ counter_stays ws i owner in
                       omega arith;
-                  bound = let bound = g.bound in omega (arith, fill_counter);
-                  died = λ o. g.died o ∙ sym (fill_dead o);
-                  does = Each-append (SetDoes c) events fill g.does ((below, none, alive, was_open), tt);
+                  bound = let bound = good_before.bound in omega (arith, fill_counter);
+                  died = λ o. good_before.died o ∙ sym (fill_dead o);
+                  does = Each-append (SetDoes c) events fill good_before.does ((below, none, alive, was_open), tt);
                   answers =
                       Each-append (AnswersBy by (IsWorn by words') c) events fill
                       (answers_on (IsWorn by ws) (IsWorn by words') (worn_on by ws words' (λ end. fill_counter ∙ end))
-                      by c events g.answers)
+                      by c events good_before.answers)
                       (tt, tt);
-                  owned = λ calm. fill_owned (g.owned (calm_less by events fill calm));
-                  holds = λ calm. Each-append HoldsRight events fill (g.holds (calm_less by events fill calm)) (tt, tt);
+                  owned = λ calm. fill_owned (good_before.owned (calm_less by events fill calm));
+                  holds = λ calm. Each-append HoldsRight events fill (good_before.holds (calm_less by events fill calm)) (tt, tt);
                 };
+            -- the turn does to any party no more than a turn may do
             goes =
                 let same = fill_counter in
                 let holder = fill_holder in
@@ -327,11 +391,12 @@ module _ {T : Type 0} (scene : Scene T) where
                 let dead = fill_dead in
                 let less = well_formed_less events fill in
                 grind arith;
+            -- each other party keeps its right to an index, and what it has done
             spares = λ q ne.
                 record {
                   none = tt;
                   set_acts = ap (λ s. set_acts (wrote_in s)) (span_of-other p q events fill ne (refl, tt));
-                  owned = λ calm j o lives h. fill_by q j o h;
+                  owned = λ calm j o lives h. fill_by h;
                   unheld = λ calm j o lives h unheld. fill_holder j ∙ unheld;
                   held = λ calm j o lives h here. fill_holder j ∙ here;
                   settled = λ calm j o lives h none. fill_settled j ∙ h;

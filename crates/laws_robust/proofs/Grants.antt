@@ -1,5 +1,5 @@
--- What a step does by which an index is granted, by which a call that was granted one ends, or both at once. The right to the
--- index stays with the party until its call is done.
+-- A step by which an index is granted, by which a call that was granted one ends, or both at once, does what
+-- a turn may do (`Does`, Invariant). The right to the index stays with the party until its call has ended.
 use Rattle.laws_robust.proofs.Names.{◌<◌, ◌≡◌, ◌≢◌, ℕ, ◌==◌, ◌&&◌, if◌then◌else◌, Bool, true, false, Option, Some}
 use Rattle.laws_robust.proofs.Names.{None, List, [], ◌∷◌, ◌++◌, fold, refl, sym, subst, ◌∙◌, append_assoc, arith}
 use Rattle.laws_robust.proofs.Names.{fold-append, greatest, Index, Event, Granted, Finished, Robust, SetDoes}
@@ -14,102 +14,116 @@ use Rattle.laws_robust.proofs.Gone.{calm_less}
 use Rattle.laws_robust.proofs.Invariant.{IsWorn, Scene, Inv, Good, Does}
 use Rattle.laws_robust.proofs.Rights.{Right, Settled, right_after, right_of, IsBy, AreOwned}
 
--- what an event may set at one index it leaves at another
+-- what an event sets at the index `i` it leaves at another index
 other_stays : {A : Type 0} (sets : Bool) (i j : ℕ) (x y : A) → j ≢ i → (if sets && (i == j) then x else y) ≡ y
 other_stays sets i j x y ne = grind arith
 
 module _ {T : Type 0} (scene : Scene T) (inv : Inv scene) where
   open scene use {by as by, capacity as c, party as p, turns as turns, events as events}
 
+  -- the words of the set before the step
   abbrev ws : List ℕ
   ws = scene.set.words
 
-  g : Good by c ws scene.set.dead events turns
-  g = inv.good
+  good_before : Good by c ws scene.set.dead events turns
+  good_before = inv.good
 
-  -- ---- the index is granted, or the call that was granted it is done
+  -- ---- the index is granted, or the call that was granted it ends
 
+  -- the events grant the index `i` to the owner (`granted`), or end the call that was granted it (`done`),
+  -- and leave the other indices
   module _ (words' : List ℕ) (es : List (Event T)) (granted done : Bool) (i owner : ℕ) (stays : Leaves scene words') (keeps : Keeps es)
       (holders : (j : ℕ) (o : Option ℕ) → fold (holder_after j) o es ≡ (if granted && (i == j) then Some owner else o))
       (settled : (j : ℕ) (o : Option ℕ) → fold (settled_after j) o es ≡ (if done && (i == j) then Some owner else o))
       (rights : (j : ℕ) (r : Right) → fold (right_after j) r es ≡ (if done && (i == j) then Settled owner else r))
       (mine : IsCalm by (events ++ es) → IsBy p i owner events) where
+    -- the events leave what each index is filled with
     same : (j : ℕ) → filled_of j (events ++ es) ≡ filled_of j events
-    same j = same_filled scene g words' es stays keeps j
+    same j = same_filled scene good_before words' es stays keeps j
 
+    -- after a grant the owner holds the index, and any other index is held as before
     holder_then : (j : ℕ) → holder_of j (events ++ es) ≡ (if granted && (i == j) then Some owner else holder_of j events)
     holder_then j = fold-append (holder_after j) None events es ∙ holders j (holder_of j events)
 
+    -- at the end the index is settled with the owner, and any other index as before
     settled_then : (j : ℕ) → settled_of j (events ++ es) ≡ (if done && (i == j) then Some owner else settled_of j events)
     settled_then j = fold-append (settled_after j) None events es ∙ settled j (settled_of j events)
 
+    -- at the end the right to the index is settled, and to any other index it is as before
     right_then : (j : ℕ) → right_of j (events ++ es) ≡ (if done && (i == j) then Settled owner else right_of j events)
     right_then j = fold-append (right_after j) _ events es ∙ rights j (right_of j events)
 
     module _ (calm : IsCalm by (events ++ es)) where
+      -- each filled index has its owner after the grant, if it had him before
       still_owned : AreOwned events → AreOwned (events ++ es)
       still_owned = grind (arith, same, holder_then, settled_then, right_then)
 
       -- no other party has a right to it
-      other_index : (q : ℕ) → q ≢ p → (j o : ℕ) → IsBy q j o events → j ≢ i
-      other_index q ne j o h is = let ours = (mine calm).right in grind arith
+      other_index : {q : ℕ} → q ≢ p → {j o : ℕ} → IsBy q j o events → j ≢ i
+      other_index ne is_by is = let ours = (mine calm).right in grind arith
 
-      -- an index that may be given back is another one than this
+      -- an index that may be given back is another than `i`
       unsettled : (j o : ℕ) → settled_of j events ≡ Some o → j ≢ i
       unsettled = grind (arith, calm_less)
 
-    -- a step by which the index is granted, or its call is done, does to the set what it may
+    -- a step by which the index is granted, or its call ends, does what a turn may do
     pub gives : AreOwn p es → AreRight (SetDoes c) events es → AreRight (AnswersBy by (IsWorn by words') c) events es
         → (IsCalm by (events ++ es) → AreRight HoldsRight events es)
         → (counter_of words' ≡ counter_of ws → counter_of ws < greatest → (j : ℕ) → holder_of j events ≡ None → holder_of j (events ++ es) ≡ None)
         → Does scene words' es
     gives own right answers holds grants =
-        hands_on scene g words' es stays keeps own right answers
+        hands_on scene good_before words' es stays keeps own right answers
         (record {
           owned = still_owned;
           holds = holds;
-          right = λ calm q ne j o h. right_then j ∙ other_stays done i j (Settled owner) (right_of j events) (other_index calm q ne j o h);
-          holder = λ calm q ne j o h. holder_then j ∙ other_stays granted i j (Some owner) (holder_of j events) (other_index calm q ne j o h);
+          right = λ calm q ne j o h. right_then j ∙ other_stays done i j (Settled owner) (right_of j events) (other_index calm ne h);
+          holder = λ calm q ne j o h. holder_then j ∙ other_stays granted i j (Some owner) (holder_of j events) (other_index calm ne h);
           settled = λ calm j o h none. settled_then j ∙ (other_stays done i j (Some owner) (settled_of j events) (unsettled calm j o h) ∙ h);
         })
         grants
 
-  -- ---- the counter is raised for it
+  -- ---- the step raises the counter as it grants the index
 
   module _ (words' : List ℕ) (i owner : ℕ)
       (mine : IsCalm by (events ++ Granted p i owner ∷ []) → IsBy p i owner events × (holder_of i events ≡ None))
       (alive : is_dead owner events ≡ false) (raised : IsRaised scene words') where
+    -- the event of a grant: the party `p` gets the index `i` for the owner
     abbrev granting : List (Event T)
     granting = Granted p i owner ∷ []
 
+    -- the end of the acquire, with the index as its answer
     abbrev ending : List (Event T)
     ending = Finished p (Robust (Acquire owner)) (Index i) ∷ []
 
+    -- the step leaves the cells and the lock
     stays : Leaves scene words'
     stays = (raised_stays scene inv words' raised).leaves
 
+    -- the grant fills and frees nothing
     keeps : Keeps granting
     keeps = grind arith
 
+    -- what is asked of steps that leave the counter below its end: this step does not, since it raises it
     raises : (es : List (Event T)) → counter_of words' ≡ counter_of ws → counter_of ws < greatest → (j : ℕ) → holder_of j events ≡ None
         → holder_of j (events ++ es) ≡ None
     raises es still less j none = absurd (omega (arith, raised_more scene inv words' raised less))
 
-    -- the call goes on: the party has the right to it, and its owner holds it
+    -- where the call goes on, the party still has the right to the index, and the owner holds it
     pub owns_then : IsCalm by (events ++ Granted p i owner ∷ [])
         → IsBy p i owner (events ++ Granted p i owner ∷ []) × (holder_of i (events ++ Granted p i owner ∷ []) ≡ Some owner)
-    owns_then = grind (arith, fold-append, same_filled, g, stays, keeps, at_same)
+    owns_then = grind (arith, fold-append, same_filled, good_before, stays, keeps, at_same)
 
+    -- the grant without the call's end does what a turn may do
     pub grants_alone : Does scene words' (Granted p i owner ∷ [])
     grants_alone =
         gives words' granting true false i owner stays keeps (λ j o. refl) (λ j o. refl) (λ j r. refl) (λ calm. (mine calm).0)
         (refl, tt) ((unlocked scene inv (raised_open scene inv words' raised), alive), tt) (tt, tt) (λ calm. ((mine calm).1, tt)) (raises granting)
 
-    -- it was calm where the index was granted
+    -- the run was well-formed and honest as the index was granted
     by_then : IsCalm by (events ++ (granting ++ ending)) → IsCalm by (events ++ granting)
     by_then calm = calm_less by (events ++ granting) ending (subst (IsCalm by) (sym (append_assoc events granting ending)) calm)
 
-    -- the call is done at once
+    -- the grant with the call's end does what a turn may do
     pub grants : Does scene words' (Granted p i owner ∷ Finished p (Robust (Acquire owner)) (Index i) ∷ [])
     grants =
         gives words' (granting ++ ending) true true i owner stays (record { filled = λ j o. refl; locked = λ b. refl; dead = λ o b. refl })

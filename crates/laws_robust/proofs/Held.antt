@@ -1,4 +1,5 @@
--- The steps of an acquire, in any call that holds it. What a step leads to is what the caller makes of it.
+-- The steps of an acquire, in any call of which an acquire is a part. `Lead` is what the call has to show of
+-- a step; `Caller` says what it shows of each form of a step, and the lemmas that each step then shows it.
 use Rattle.laws_robust.proofs.Names.{◌≡◌, ◌≢◌, ℕ, ◌+◌, ◌*◌, ◌<◌, ◌≤◌, ◌==◌, ◌⊎◌, inl, inr, if◌then◌else◌}
 use Rattle.laws_robust.proofs.Names.{nat_lt, Bool, true, false, not, Option, Some, None, is_some, List, [], ◌∷◌, ◌++◌}
 use Rattle.laws_robust.proofs.Names.{set, refl, sym, ap, ◌∙◌, arith, Ok, Err, nat_tests, set-get_or}
@@ -27,35 +28,43 @@ use Rattle.laws_robust.proofs.Stages.{all, now, sees, then_sees, backs_then, loa
 use Rattle.laws_robust.proofs.Stages.{exchange_sets, paid_of, paid_back, holds_on}
 use Rattle.laws_robust.proofs.Cases.{on_bool}
 
+-- what equals `Some` is present
 pub some_is : (o : Option ℕ) (owner : ℕ) → o ≡ Some owner → is_some o ≡ true
 some_is o owner e = ap is_some e
 
+-- The party `p` is in an acquire for the owner, who is alive. `c` is the capacity, `ws` the words before
+-- the step; the call has taken at most `extra` steps beside the acquire.
 module _ {T : Type 0} (scene : Scene T) (inv : Inv scene) (owner : ℕ) (fits : owner < empty) (alive : is_dead owner scene.events ≡ false) (extra : ℕ) where
   open scene use {by as by, capacity as c, party as p, steps as steps, backs as backs, events as events}
 
+  -- the words of the set before the step
   abbrev ws : List ℕ
   ws = scene.set.words
 
-  g : Good by c ws scene.set.dead events scene.turns
-  g = inv.good
+  good_before : Good by c ws scene.set.dead events scene.turns
+  good_before = inv.good
 
+  -- the acquire at a stage
   abbrev pub call_at : AcquireStage → calls.Acquire
   call_at stage = record { capacity = c; stage = stage }
 
-  -- ---- what the caller shows, of what a step leads to that did this, by how the part goes on
+  -- ---- what the call shows of a step of its acquire
 
+  -- the steps of the call up to this stage of the acquire are within their bound
   abbrev pub Few : AcquireStage → Option Ask → Bool → Type 0
   Few stage ask back = steps + step_count ask ≤ extra + acquire_number c stage (backs_then scene back)
 
+  -- the steps of the call up to the end of the acquire are within their bound
   abbrev pub FewEnd : Option Ask → Bool → Type 0
   FewEnd ask back = steps + step_count ask ≤ extra + (c + 3 + backs_then scene back * (c + 1))
 
-  -- why no index was granted
+  -- why no index was granted: the set is locked, or no index was free, or the counter may be at its end
   abbrev pub WhyNot : UniqueIndexSetAcquireFailure → Type 0
   WhyNot failures.IsLocked = (is_locked events ≡ true) × ((all scene ≡ []) ⊎ FilledLate owner (all scene))
   WhyNot failures.OutOfIndices = (is_locked events ≡ false) × (IsWorn by ws ⊎ AllOnce c (now scene)) × (all scene ≡ [])
 
-  -- what the caller of an acquire shows: of each step that goes on, of the fill, of each failure, and of the grant
+  -- What the call shows of a step of its acquire: of one that goes on, of the fill, of a
+  -- failure, and of the grant.
   pub record Caller (Lead : Option Ask → Bool → List (Event T) → After calls.Acquire Acquired → Type 0) : Type 0 where
     pub quiet : (next : AcquireStage) (ask : Option Ask) (back : Bool) → words_after ws ask ≡ ws
         → AcquireAt c owner (all scene) next → Knows c (acquire_at c owner next) (sees scene ask back)
@@ -74,20 +83,23 @@ module _ {T : Type 0} (scene : Scene T) (inv : Inv scene) (owner : ℕ) (fits : 
         → IsRaised scene (words_after ws ask)
         → IsPaid (sees scene ask back) → FewEnd ask back → Lead ask back (Granted p i owner ∷ []) (Done (Ok i))
 
+  -- each step of the acquire is as `Lead` asks
   module _ (Lead : Option Ask → Bool → List (Event T) → After calls.Acquire Acquired → Type 0) (caller : Caller Lead) where
-    -- ---- a counter was found, by a load or by an exchange that failed
+    -- ---- the acquire has found a counter, by a load or by an exchange that failed
 
     module _ (stage : AcquireStage) (ask : Option Ask) (back : Bool) (same : words_after ws ask ≡ ws)
         (none : all scene ≡ []) (low : steps + step_count ask ≤ extra + (1 + backs_then scene back * (c + 1)))
         (paid : IsPaid (sees scene ask back)) where
+      -- a locked counter ends the acquire with `IsLocked`
       finds_locked : counter_of ws ≡ locked → Lead ask back [] (Done (Err failures.IsLocked))
       finds_locked = grind (arith, is_shut, inl)
 
+      -- a counter that is open and before its end leads to the first cell
       begins_cells : counter_of ws ≢ locked → counter_of ws ≢ greatest
           → Lead ask back [] (GoOn (at_acquire (call_at stage) (acquires.FillsCell (counter_of ws) 0)))
       begins_cells = grind (arith, finds_counter, held_now, unlocked)
 
-      -- an acquire that sees the counter fails if that is locked or at its end, and else goes to the first cell
+      -- an acquire fails where the counter is locked or at its end, and else goes to the first cell
       finds : Lead ask back [] (acquire_sees (call_at stage) (counter_of ws))
       finds =
           by_eq (Lead ask back []) (counter_of ws) locked (Done (Err failures.IsLocked)) _ finds_locked
@@ -97,32 +109,37 @@ module _ {T : Type 0} (scene : Scene T) (inv : Inv scene) (owner : ℕ) (fits : 
           (λ less. by_test (λ s. Lead ask back [] (GoOn (at_acquire (call_at stage) s))) (nat_lt 0 c)
           (acquires.FillsCell (counter_of ws) 0) (acquires.ChecksCounter (counter_of ws))
           (λ t. begins_cells open_now less)
-          (λ t. let some = g.some in let nothing : c ≤ 0 = grind (arith, nat_tests) in absurd (omega arith))))
+          (λ t. let some = good_before.some in let nothing : c ≤ 0 = grind (arith, nat_tests) in absurd (omega arith))))
 
     -- ---- the exchange of a cell
 
-    -- the acquire has come to cell `i` with this counter; `s` bounds its steps, and `k` is what it knows
-    module _ (number i : ℕ) (below : i < c) (none : all scene ≡ []) (s : steps ≤ extra + (1 + i + backs * (c + 1)))
-        (k : Knows c (acquire_at c owner (acquires.FillsCell number i)) (now scene)) where
+    -- the acquire has come to cell `i` with the counter `number`; `few_steps` bounds its steps, and
+    -- `knows` is what it knows
+    module _ (number i : ℕ) (below : i < c) (none : all scene ≡ []) (few_steps : steps ≤ extra + (1 + i + backs * (c + 1)))
+        (knows : Knows c (acquire_at c owner (acquires.FillsCell number i)) (now scene)) where
+      -- the stage at which the acquire tries to fill the cell `i`
       abbrev filling : AcquireStage
       filling = acquires.FillsCell number i
 
+      -- the exchange that fills the cell `i` with the owner
       abbrev exchange : Option Ask
       exchange = Some (exchanges (cell_word i) empty owner)
 
+      -- the event of the fill
       abbrev fill : List (Event T)
       fill = Filled p i owner ∷ []
 
+      -- the turn-backs so far are paid for by changes by others
       paid_now : IsPaid (now scene)
-      paid_now = paid_of scene (counter_of ws ≡ number) k.paid.paid
+      paid_now = paid_of scene (counter_of ws ≡ number) knows.paid.paid
 
-      -- an acquire that finds its cell empty fills it, and goes on to raise the counter
+      -- where the cell is empty, the acquire fills it, and goes on to raise the counter
       fills_cell : cell ws i ≡ empty
           → Lead exchange false fill (GoOn (at_acquire (call_at filling) (acquires.Raises i raises.LoadsCounter)))
-      fills_cell is =
-          let free = filled_none scene inv i below is in
-          let new : words_after ws exchange ≡ set ws (cell_word i) owner = exchange_sets ws (cell_word i) empty owner is in
-          caller.filled i exchange new (fills scene inv (words_after ws exchange) i owner below fits free alive k.says.0 new) below none
+      fills_cell cell_empty =
+          let free = filled_none scene inv i below cell_empty in
+          let new : words_after ws exchange ≡ set ws (cell_word i) owner = exchange_sets ws (cell_word i) empty owner cell_empty in
+          caller.filled i exchange new (fills scene inv (words_after ws exchange) i owner below fits free alive knows.says.0 new) below none
           (record {
             paid = omega arith;
             scanned = tt;
@@ -138,13 +155,15 @@ module _ {T : Type 0} (scene : Scene T) (inv : Inv scene) (owner : ℕ) (fits : 
           })
           (omega arith)
 
+      -- where the cell was filled, each index up to it was filled at a moment of the call
       was_filled : cell ws i ≢ empty → (j : ℕ) → j < i + 1 → HeldSometime p (IsFilled j) events
       was_filled = grind (arith, held_now, some_is, cell, filled_some)
 
+      -- where the cell was filled, the acquire goes on to the next cell, or to check the counter
       passes : cell ws i ≢ empty → Lead exchange false [] (acquire_tries (call_at filling) number (i + 1))
       passes = grind (arith, fails_same, empty, holds_on, by_test, false, was_filled, nat_tests)
 
-      -- the step in which an acquire tries a cell leads to what the caller makes of it
+      -- the exchange of a cell is as `Lead` asks
       fills_step : Lead exchange false (acquire_effects p owner filling (cell ws i)) (acquire_takes (call_at filling) filling (cell ws i))
       fills_step =
           on_bool (λ b. Lead (Some (exchanges (cell_word i) empty owner)) false (if b then Filled p i owner ∷ [] else [])
@@ -156,14 +175,14 @@ module _ {T : Type 0} (scene : Scene T) (inv : Inv scene) (owner : ℕ) (fits : 
 
     -- ---- the exchange of the counter for itself
 
-    -- the step in which an acquire exchanges the counter for itself leads to what the caller makes of it
+    -- the exchange of the counter for itself is as `Lead` asks
     checks_step : (number : ℕ) → all scene ≡ [] → steps ≤ extra + (1 + c + backs * (c + 1))
         → Knows c (acquire_at c owner (acquires.ChecksCounter number)) (now scene)
         → Lead (Some (exchanges 0 number number))
         (acquire_goes_back (acquires.ChecksCounter number) (counter_of ws)) []
         (acquire_takes (call_at (acquires.ChecksCounter number))
         (acquires.ChecksCounter number) (counter_of ws))
-    checks_step number none s knows =
+    checks_step number none few_steps knows =
         on_bool (λ b. Lead (Some (exchanges 0 number number)) (not b) []
         (if b then Done (Err failures.OutOfIndices) else acquire_sees (call_at (acquires.ChecksCounter number)) (counter_of ws)))
         (counter_of ws == number)
@@ -182,23 +201,25 @@ module _ {T : Type 0} (scene : Scene T) (inv : Inv scene) (owner : ℕ) (fits : 
 
     -- ---- the raise of the counter
 
+    -- the acquire has filled the index `i` and raises the counter
     module _ (i : ℕ) (raise : Raise) (below : i < c) (done : all scene ≡ Fills i owner ∷ [])
-        (s : steps ≤ extra + (1 + c + raise_number raise + backs * (c + 1)))
-        (k : Knows c (acquire_at c owner (acquires.Raises i raise)) (now scene)) where
+        (few_steps : steps ≤ extra + (1 + c + raise_number raise + backs * (c + 1)))
+        (knows : Knows c (acquire_at c owner (acquires.Raises i raise)) (now scene)) where
       abbrev raising : AcquireStage
       raising = acquires.Raises i raise
 
+      -- what `Lead` asks of the acquire, where `r` is how its raise goes on or ends
       abbrev raises_to : Option Ask → Bool → After Raise ReleaseState → Type 0
       raises_to ask back r = Lead ask back (granted p i owner r) (acquire_raised (call_at raising) i r)
 
-      -- the step in which an acquire raises the counter leads to what the caller makes of it
+      -- a step of the raise is as `Lead` asks
       raises_step : raises_to (Some (raise_ask raise)) (raise_goes_back raise (counter_of ws)) (raise_after raise (counter_of ws))
       raises_step =
-          raise_step scene inv raises_to raise k.paid
+          raise_step scene inv raises_to raise knows.paid
           (λ number ask back same held few.
           let low = few (extra + 1 + c) (c + 1) (omega arith) (omega arith) in
           caller.quiet (acquires.Raises i (raises.ExchangesCounter number)) ask back same (below, done)
-          (record { paid = held; scanned = tt; owns = k.owns; says = tt; gone = tt }) (omega arith))
+          (record { paid = held; scanned = tt; owns = knows.owns; says = tt; gone = tt }) (omega arith))
           (λ ask back same shut paid few.
           let low = few (extra + 1 + c) (c + 1) (omega arith) (omega arith) in
           caller.fails failures.IsLocked ask back same (is_shut scene inv shut, inr (record { index = i; is = done })) paid (omega arith))
@@ -209,12 +230,14 @@ module _ {T : Type 0} (scene : Scene T) (inv : Inv scene) (owner : ℕ) (fits : 
           let low = few (extra + 1 + c) (c + 1) (omega arith) (omega arith) in
           caller.grants i ask false below done owns_it (inl (less, new)) paid (omega arith))
         where
+          -- where the run is well-formed and honest, the party has the right to the index,
+          -- and nobody holds it
           owns_it : IsCalm by (events ++ Granted p i owner ∷ []) → IsBy p i owner events × (holder_of i events ≡ None)
-          owns_it calm = k.owns (calm_less by events (Granted p i owner ∷ []) calm) (lives_granted by p i owner events alive calm.1)
+          owns_it calm = knows.owns (calm_less by events (Granted p i owner ∷ []) calm) (lives_granted by p i owner events alive calm.1)
 
     -- ---- any step
 
-    -- a step of an acquire at the stage leads to what the caller makes of it
+    -- the step of an acquire at this stage is as `Lead` asks
     abbrev pub StepAt : AcquireStage → Type 0
     StepAt stage =
         Lead (ask_of (acquire_asks stage owner))
@@ -222,13 +245,14 @@ module _ {T : Type 0} (scene : Scene T) (inv : Inv scene) (owner : ℕ) (fits : 
         (acquire_effects p owner stage (old_of ws (ask_of (acquire_asks stage owner))))
         (acquire_takes (call_at stage) stage (old_of ws (ask_of (acquire_asks stage owner))))
 
-    -- any step of an acquire that stands at its stage leads to what the caller makes of it
+    -- any step of an acquire is as `Lead` asks, where the acquire stands at its stage and
+    -- knows what the stage says
     pub held_step : (stage : AcquireStage) → AcquireAt c owner (all scene) stage
         → Knows c (acquire_at c owner stage) (now scene) → steps ≤ extra + acquire_number c stage backs → StepAt stage
-    held_step acquires.LoadsCounter at knows s =
+    held_step acquires.LoadsCounter at knows few_steps =
         finds acquires.LoadsCounter (Some (loads 0)) false (loads_same ws 0) at (omega arith) (let paid = knows.paid in omega arith)
-    held_step (acquires.FillsCell number i) at knows s = fills_step number i at.0 at.1 s knows
-    held_step (acquires.ChecksCounter number) at knows s = checks_step number at s knows
-    held_step (acquires.Raises i raises.LoadsCounter) at knows s = raises_step i raises.LoadsCounter at.0 at.1 s knows
-    held_step (acquires.Raises i (raises.ExchangesCounter number)) at knows s =
-        raises_step i (raises.ExchangesCounter number) at.0 at.1 s knows
+    held_step (acquires.FillsCell number i) at knows few_steps = fills_step number i at.0 at.1 few_steps knows
+    held_step (acquires.ChecksCounter number) at knows few_steps = checks_step number at few_steps knows
+    held_step (acquires.Raises i raises.LoadsCounter) at knows few_steps = raises_step i raises.LoadsCounter at.0 at.1 few_steps knows
+    held_step (acquires.Raises i (raises.ExchangesCounter number)) at knows few_steps =
+        raises_step i (raises.ExchangesCounter number) at.0 at.1 few_steps knows

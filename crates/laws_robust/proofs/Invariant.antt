@@ -20,7 +20,7 @@ use Rattle.laws_robust.proofs.Knows.{View, Knows, Goes, Spares, IsSeen, knows_la
 use Rattle.laws_robust.proofs.CallProgress.{number_of, At}
 use Rattle.laws_robust.proofs.Rights.{AreOwned}
 
--- the words and the dead; and the events, by which calls under way are read
+-- the state of the set: its words, the dead owners, and the events, by which calls under way are read
 pub record RobustSet (T : Type 0) : Type 0 where
   pub words : List ℕ
   pub dead : List ℕ
@@ -28,15 +28,15 @@ pub record RobustSet (T : Type 0) : Type 0 where
 
 -- a turn of a party, with the machine around it
 pub record Scene (T : Type 0) : Type 0 where
-  pub by : GoneBy
+  pub by : GoneBy  -- what makes an owner gone
   pub coding : Coding T
   pub capacity : ℕ
   pub set : RobustSet T
   pub party : ℕ
-  pub steps : ℕ
-  pub backs : ℕ
-  pub since : ℕ
-  pub changes : ℕ
+  pub steps : ℕ  -- the steps that the party's call has taken
+  pub backs : ℕ  -- how often the call has turned back
+  pub since : ℕ  -- how often words had changed as the call began
+  pub changes : ℕ  -- how often words have changed
   pub turns : ℕ
   pub latest : List (ℕ × Party T)
   pub events : List (Event T)
@@ -45,7 +45,7 @@ pub record Scene (T : Type 0) : Type 0 where
 abbrev pub IsAhead : List ℕ → Type 0
 IsAhead words = counter_of words ≢ locked → counter_of words + 1 < greatest
 
--- it is at its end; where owners die turns are few, so there it never is
+-- the counter is at its end; where owners die turns are few, so there it never is
 abbrev pub IsWorn : GoneBy → List ℕ → Type 0
 IsWorn Death words = ⊥
 IsWorn Word words = counter_of words ≡ greatest
@@ -55,35 +55,44 @@ abbrev pub HasRoom : GoneBy → List ℕ → Type 0
 HasRoom Death words = IsAhead words
 HasRoom Word words = Unit {0}
 
+-- words whose counter is at its end stay so, where the counter stays there
 pub worn_on : (by : GoneBy) (words words' : List ℕ) → (counter_of words ≡ greatest → counter_of words' ≡ greatest) → IsWorn by words → IsWorn by words'
 worn_on Death words words' on worn = worn
 worn_on Word words words' on worn = on worn
 
+-- a machine whose counter is at its end, and may be, is worn
 pub worn_at : (by : GoneBy) (words : List ℕ) → HasRoom by words → counter_of words ≡ greatest → IsWorn by words
 worn_at = grind arith
 
--- one number before it, and then at it
+-- the counter is one number before its end, and then at it
 pub worn_then : (by : GoneBy) (words words' : List ℕ) → HasRoom by words → counter_of words + 1 ≡ greatest → counter_of words' ≡ greatest → IsWorn by words'
 worn_then = grind arith
 
 module _ {T : Type 0} where
-  -- what is so of the words, of the dead and of the events, after so many turns
+  -- What holds of the words, of the dead owners and of the events between any two turns.
   pub record Good (by : GoneBy) (c : ℕ) (words dead : List ℕ) (events : List (Event T)) (turns : ℕ) : Type 0 where
+    -- the capacity, and that the words are the counter and a cell for each index
     pub some : 1 ≤ c
     pub few : c < 2 ^ 32
     pub wide : c + 1 ≤ length words
+    -- each cell has the owner with whom its index is filled, and the counter says whether the set is locked
     pub cells : (i : ℕ) → i < c → cell words i ≡ cell_of (filled_of i events)
     pub filled : (i owner : ℕ) → filled_of i events ≡ Some owner → (i < c) × (owner < empty)
     pub lock : (counter_of words == locked) ≡ is_locked events
+    -- the counter is at most the number of turns before this one, and at most locked
     pub low : is_locked events ≡ false → counter_of words ≤ turns - 1
     pub bound : counter_of words ≤ locked
+    -- the list of the dead is that of the events; indices are filled, granted, freed and locked rightly;
+    -- answers are right
     pub died : (owner : ℕ) → has_died owner dead ≡ is_dead owner events
     pub does : Each (SetDoes c) events
     pub answers : Each (AnswersBy by (IsWorn by words) c) events
+    -- in a well-formed and honest run, each index that is held, or may be given back, is filled with its
+    -- owner, and none is granted that is held
     pub owned : IsCalm by events → AreOwned events
     pub holds : IsCalm by events → Each HoldsRight events
 
-  -- what is so of the machine, of the latest calls and of the events, after so many turns
+  -- what holds of the state, of the latest calls and of the events between any two turns
   pub record Holds (by : GoneBy) (c : ℕ) (s : RobustSet T) (latest : List (ℕ × Party T)) (events : List (Event T)) (turns : ℕ) : Type 0 where
     pub same : s.events ≡ events
     pub begun : (p : ℕ) (x : Party T) → party_of p latest ≡ Some x → 1 ≤ turns
@@ -100,19 +109,22 @@ module _ {T : Type 0} where
   number c (flights.Robust flight) backs = number_of c flight backs
   number c flight backs = 0
 
+  -- where a call of a machine stands, if it is one of a set of owners
   abbrev pub FlightAt : ℕ → List SetAct → Start T → Flight T → Type 0
   FlightAt c all (any_starts.Robust start) (flights.Robust flight) = At c all start flight
   FlightAt c all start flight = ⊥
 
+  -- what the party's call knows of what it sees
   abbrev pub Knowing : ℕ → Flight T → View T → Type 0
   Knowing c (flights.Robust flight) v = Knows c flight v
   Knowing c flight v = ⊥
 
+  -- the set as the party `p` sees it in its call
   abbrev pub view : GoneBy → List ℕ → List (Event T) → ℕ → ℕ → ℕ → ℕ → View T
   view by words events p since changes backs =
       record { by = by; words = words; events = events; party = p; since = since; changes = changes; backs = backs }
 
-  -- what the frame asks to know of the family
+  -- the robust index set as a family: what a state is, what holds of it, and what each call knows
   abbrev pub outline : GoneBy → Outline T
   outline by =
       record {
@@ -137,17 +149,18 @@ module _ {T : Type 0} where
   abbrev pub family : Coding T → ℕ → Family T
   family code c = family_by Death code c
 
-  -- what is so before a turn of a party, in a machine that has room for it
+  -- what holds before a turn of a party, in a machine whose counter has room for the turn
   pub record Inv (scene : Scene T) : Type 0 where
     pub good : Good scene.by scene.capacity scene.set.words scene.set.dead scene.events scene.turns
     pub begun : 1 ≤ scene.turns
     pub room : HasRoom scene.by scene.set.words
 
-  -- so it is where few turns were taken
+  -- while few turns were taken, the counter is ahead of its end
   pub ahead_of_few : (by : GoneBy) (c : ℕ) (words dead : List ℕ) (events : List (Event T)) (turns : ℕ)
       → Good by c words dead events turns → turns < 2 ^ 64 - 2 → IsAhead words
-  ahead_of_few by c words dead events turns g small open_now = grind arith
+  ahead_of_few by c words dead events turns is_good small open_now = grind arith
 
+  -- while fewer than 2 ^ 64 - 2 turns were made, the counter has room for one more raise
   pub room_of_few : (by : GoneBy) (c : ℕ) (words dead : List ℕ) (events : List (Event T)) (turns : ℕ)
       → Good by c words dead events turns → turns < 2 ^ 64 - 2 → HasRoom by words
   room_of_few = grind (arith, ahead_of_few)
@@ -157,56 +170,66 @@ module _ {T : Type 0} where
   set_then scene words es =
       record { words = words; dead = scene.set.dead; events = scene.events ++ es }
 
-  -- what a turn does to the set and to the other parties, that leaves these words and writes these events
+  -- What a turn may do to the set and to the other parties, where it leaves the words `words'` and writes
+  -- the events `es`.
   pub record Does (scene : Scene T) (words' : List ℕ) (es : List (Event T)) : Type 0 where
     pub own : AreOwn scene.party es
+    -- what holds of the set holds afterwards, the turn does no more than a turn may do, and the other
+    -- parties keep their rights
     pub good : Good scene.by scene.capacity words' scene.set.dead (scene.events ++ es) (scene.turns + 1)
     pub goes : Goes scene.set.words words' scene.events es
     pub spares : (q : ℕ) → q ≢ scene.party → Spares scene.by q scene.events es
 
-  -- what a turn shows, where the party's span was this
+  -- what a turn shows that writes events of its own party alone, whose span before was `from`
   pub record Shows (scene : Scene T) (words' : List ℕ) (from : Span T) (y : Party T) (es : List (Event T)) (changes' : ℕ) : Type 0 where
     pub does : Does scene words' es
     pub stands : AllFollow (Stands promise scene.capacity) from es
     pub asks : AreRight (AsksBy scene.by) scene.events es
+    -- the party's call fits its span and knows what its stage says
     pub here : frame.Fits (family_by scene.by scene.coding scene.capacity) (set_then scene words' es) scene.party (Some y) (fold own_after from es)
     pub knows : frame.KnowsDoing (family_by scene.by scene.coding scene.capacity) (set_then scene words' es)
         scene.party (scene.events ++ es) changes' y.backs y.doing
     pub seen : IsSeen scene.set.words words' scene.changes changes'
 
+  -- what a call knows stays known after a turn of another party
   any_knows : (by : GoneBy) (c : ℕ) (words words' : List ℕ) (events es : List (Event T)) (q changes changes' : ℕ)
       → Goes words words' events es → Spares by q events es → IsSeen words words' changes changes'
       → (since backs : ℕ) (flight : Flight T) → Knowing c flight (view by words events q since changes backs)
       → Knowing c flight (view by words' (events ++ es) q since changes' backs)
   any_knows = grind (arith, knows_later)
 
-  -- a call stands there by what its party has written
+  -- where a call stands depends on what its party has written
   pub at_written : (c : ℕ) (w w' : List (Event T)) (start : Start T) (flight : Flight T) → w' ≡ w
       → FlightAt c (set_acts w) start flight → FlightAt c (set_acts w') start flight
-  at_written c w w' start flight same standing = subst (λ x. FlightAt c (set_acts x) start flight) (sym same) standing
+  at_written c w w' start flight same standing = rw same standing
 
-  module _ (scene : Scene T) (words' : List ℕ) (from : Span T) (y : Party T) (es : List (Event T)) (changes' : ℕ) (s : Shows scene words' from y es changes')
-      (h : Holds scene.by scene.capacity scene.set scene.latest scene.events scene.turns)
+  -- the turn shows this (`shows`), and the invariant held before it (`holds_now`, `inv`)
+  module _ (scene : Scene T) (words' : List ℕ) (from : Span T) (y : Party T) (es : List (Event T)) (changes' : ℕ)
+      (shows : Shows scene words' from y es changes')
+      (holds_now : Holds scene.by scene.capacity scene.set scene.latest scene.events scene.turns)
       (inv : frame.Inv (family_by scene.by scene.coding scene.capacity) scene.set scene.latest scene.events scene.changes) where
     open scene use {by as by, capacity as c, set as set, party as p, latest as latest, events as events}
 
+    -- the turn leaves what another party's call has written
     still_wrote : (q : ℕ) → q ≢ p → wrote_of q (events ++ es) ≡ wrote_of q set.events
-    still_wrote q ne = ap wrote_in (span_of-other p q events es ne s.does.own) ∙ ap (wrote_of q) (sym h.same)
+    still_wrote q ne = ap wrote_in (span_of-other p q events es ne shows.does.own) ∙ ap (wrote_of q) (sym holds_now.same)
 
-    -- what a turn shows is what it owes the frame
+    -- a turn that shows this gives the frame what it asks of a turn
     pub owes : span_of p events ≡ from → frame.Owes (family_by by scene.coding c) (set_then scene words' es) p y latest events es changes'
-    owes is =
-        frame.owes (family_by by scene.coding c) set (set_then scene words' es) from p y latest events es scene.changes changes' is inv
+    owes span_is =
+        frame.owes (family_by by scene.coding c) set (set_then scene words' es) from p y latest events es scene.changes changes' span_is inv
         (record {
-          own = s.does.own;
-          stands = s.stands;
-          here = s.here;
-          knows = s.knows;
+          own = shows.does.own;
+          stands = shows.stands;
+          here = shows.here;
+          knows = shows.knows;
           others =
               λ q ne start flight at.
               (at_written c (wrote_of q set.events) (wrote_of q (events ++ es)) start flight (still_wrote q ne) at, still_wrote q ne);
-          others_know = λ q ne. any_knows by c set.words words' events es q scene.changes changes' s.does.goes (s.does.spares q ne) s.seen;
+          others_know = λ q ne. any_knows by c set.words words' events es q scene.changes changes' shows.does.goes (shows.does.spares q ne) shows.seen;
         })
 
+    -- what holds of the set holds after a turn that shows this
     pub holds_more : Holds by c (set_then scene words' es) (put p y latest) (events ++ es) (scene.turns + 1)
-    holds_more = record { same = refl; begun = λ q x found. omega arith; good = s.does.good; asks = Each-append (AsksBy by) events es h.asks s.asks }
+    holds_more =
+        record { same = refl; begun = λ q x found. omega arith; good = shows.does.good; asks = Each-append (AsksBy by) events es holds_now.asks shows.asks }

@@ -1,4 +1,5 @@
--- What a turn writes down: what the step did to the set, then the end. No call of the set acts.
+-- A turn of the robust index set writes first what the step did to the set, then the end. No
+-- call of the set acts.
 use Rattle.laws_robust.proofs.Names.{◌≡◌, ℕ, Option, List, refl, sym, subst, arith}
 use Rattle.laws_robust.proofs.Names.{Start, Robust, Flight, Turn, Next, Decide}
 use Rattle.laws_robust.proofs.Names.{Coding, step_of, goes_of}
@@ -20,7 +21,7 @@ use Rattle.laws_robust.proofs.Decisions.{finds_up_to, tells_once, yes_tells}
 use Rattle.laws_robust.proofs.Written.{all_effects}
 
 module _ {T : Type 0} (code : Coding T) (c : ℕ) where
-  -- what a turn in which a call goes on writes down is what it did to the set, and then the call's end
+  -- a turn of a call under way writes what it did to the set, and then the call's end
   writes : (t : Trace T) (turn : Turn T) (p : ℕ) → IsParty turn p → (answer : ℕ) (s : RobustSet T) (start : Start T) (flight : Flight T)
       → (family code c).At s p start flight
       → Writes (outline Death) t turn (answered_from t p t.world.coding answer s.words (registries.Owners s.dead) start flight)
@@ -35,17 +36,18 @@ module _ {T : Type 0} (code : Coding T) (c : ℕ) where
       ≡ goes_of z p flight answer (registries.Owners s.dead)
   told s p start flight at z words beside answer = grind arith
 
-  -- all that the frame asks of a family is so of the set's
+  -- the family has what is owed beside the turns: its promise, its bounds, and that what a step writes is
+  -- in order, among others
   owed : Owed (outline Death) code c
   owed =
       record {
         promise = refl;
         bounds = bounds code c;
-        promised = λ t s few. set_kept code t (subst (λ n. frame.Sound (family code n) t) (sym s.capacity) s);
+        promised = λ t s few. set_kept code (subst (λ n. frame.Sound (family code n) t) (sym s.capacity) s);
         writes = λ t s p x since small start flight here. writes t (Next p) p refl _ s.state start flight here.at;
         decides = λ t s p x since said start flight asks here. writes t (Decide p said) p refl (number_of said) s.state start flight here.at;
         goes = told;
-        tells = λ t turn e s. ((finds_all code c t turn e s, finds_up_to code c t s turn e), tells_once code c t s turn e, yes_tells code c t s turn e);
+        tells = λ t turn e s. ((finds_all code c turn e s, finds_up_to code c s turn e), tells_once code c s e, yes_tells code c s turn e);
       }
 
 -- what is proved of every run of the robust index set

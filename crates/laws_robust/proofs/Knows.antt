@@ -1,5 +1,5 @@
--- What a call of the robust index set knows where it stands: of its counts, of moments of it, of what it has a right to, and
--- of what it has recovered; and that it knows this still after any turn of another party.
+-- What a call of the robust index set knows at its stage: of the counts, of moments of the call, of its
+-- right to an index, and of what it has recovered. It still knows this after any turn of another party.
 use Rattle.laws_robust.proofs.Names.{if◌then◌else◌, ◌==◌, ◌≡◌, ◌≢◌, ℕ, ◌+◌, ◌<◌, ◌≤◌, ◌⊎◌, ⊎_elim, inl, inr, true}
 use Rattle.laws_robust.proofs.Names.{false, Option, Some, None, List, ◌++◌, sym, subst, ◌∙◌, arith, AcquireStage}
 use Rattle.laws_robust.proofs.Names.{FindStage, Count, Lock, Raise, RecoverStage, ReleaseStage, greatest, Event}
@@ -24,7 +24,7 @@ use Rattle.laws_robust.proofs.Gone.{gone_more, gone_less, honest_less, calm_less
 use Rattle.laws_robust.proofs.Past.{through_less, since_less}
 use Rattle.laws_robust.proofs.Rights.{IsBy}
 
--- ---- what they see of the machine
+-- ---- what a call sees of the machine
 
 -- the set as a party sees it
 pub record View (T : Type 0) : Type 0 where
@@ -33,10 +33,10 @@ pub record View (T : Type 0) : Type 0 where
   pub events : List (Event T)
   pub party : ℕ
   pub since : ℕ  -- how often words had changed when the call began
-  pub changes : ℕ  -- how often they have
-  pub backs : ℕ  -- so often the call has turned back
+  pub changes : ℕ  -- how often words have changed
+  pub backs : ℕ  -- how often the call has turned back
 
--- ---- the counter that they hold
+-- ---- the counter that a call holds: the number that it found and will compare with
 
 abbrev pub raise_holds : Raise → Option ℕ
 raise_holds raises.LoadsCounter = None
@@ -86,15 +86,15 @@ flight_holds (Recover run) = recover_holds run.call.stage
 flight_holds (BorrowedIndices run) = count_holds run.call.count
 flight_holds (IsLocked run) = None
 
--- ---- the cells that they have found empty since
+-- ---- the cells that a call has found empty since it loaded the counter
 
--- at this counter, of the cells below this one so many were found filled
+-- at the counter `counter`, a call has come to the cells below `below`, and has found `filled` of them filled
 pub record Scan : Type 0 where
   pub counter : ℕ
   pub below : ℕ
   pub filled : ℕ
 
--- the cells that a count has found so, since it loaded its counter
+-- what a count has found of the cells since it loaded its counter
 abbrev pub count_scan : ℕ → Count → Option Scan
 count_scan c counts.LoadsCounter = None
 count_scan c (counts.LoadsCell counter index filled) =
@@ -112,7 +112,7 @@ release_scan c releases.EmptiesCell = None
 release_scan c (releases.Raises raise) = None
 release_scan c (releases.Locks lock) = lock_scan c lock
 
--- the cells that the lock of a recovery has found so
+-- what the lock of a recovery has found of the cells
 abbrev pub recover_scan : ℕ → RecoverStage → Option Scan
 recover_scan c recovers.LoadsCounter = None
 recover_scan c (recovers.LoadsCell index) = None
@@ -122,7 +122,7 @@ recover_scan c (recovers.Raises index raise) = None
 recover_scan c (recovers.Locks index lock) = lock_scan c lock
 recover_scan c recovers.LoadsCounterAgain = None
 
--- the cells that any call has found so
+-- what any call has found of the cells
 abbrev pub flight_scan : ℕ → RobustFlight → Option Scan
 flight_scan c (Acquire run) = None
 flight_scan c (Release run) = release_scan c run.call.stage
@@ -131,21 +131,24 @@ flight_scan c (Recover run) = recover_scan c run.call.stage
 flight_scan c (BorrowedIndices run) = count_scan c run.call.count
 flight_scan c (IsLocked run) = None
 
--- ---- what depends on no event
+-- ---- what does not depend on events
 
--- what a count says, where it has come to so many cells and found so many filled
+-- a count at a cell says `Says` of the cells that it has come to and of the number that it found filled
 abbrev pub CountSays : ℕ → (ℕ → ℕ → Type 0) → Count → Type 0
 CountSays c Says counts.LoadsCounter = Unit {0}
 CountSays c Says (counts.LoadsCell counter index filled) = Says index filled
 CountSays c Says (counts.ExchangesCounter counter filled) = Says c filled
 
+-- a lock says what its count says
 abbrev pub LockSays : ℕ → (ℕ → ℕ → Type 0) → Lock → Type 0
 LockSays c Says (locks.Counts count) = CountSays c Says count
 LockSays c Says (locks.ExchangesCounter counter) = Unit {0}
 
+-- what a count says follows from a stronger count
 count_says : (c : ℕ) (P Q : ℕ → ℕ → Type 0) → ((k n : ℕ) → P k n → Q k n) → (count : Count) → CountSays c P count → CountSays c Q count
 count_says c h k follows count said = grind arith
 
+-- what a lock says of its count follows from a stronger count
 lock_says : (c : ℕ) (P Q : ℕ → ℕ → Type 0) → ((k n : ℕ) → P k n → Q k n) → (lock : Lock) → LockSays c P lock → LockSays c Q lock
 lock_says = grind (arith, count_says)
 
@@ -160,30 +163,32 @@ IsSeen words words' changes changes' =
     ((words' ≡ words) × (changes' ≡ changes)) ⊎ (changes' ≡ changes + 1)
 
 module _ {T : Type 0} where
-  -- ---- what they know of the counts
+  -- ---- what a call knows of the counts
 
-  -- each turn back is paid by a change of another party since the call began
+  -- each turn back of the call is paid by a change of a word since the call began
   abbrev pub IsPaid : View T → Type 0
   IsPaid v = v.backs + v.since ≤ v.changes
 
-  -- a turn back more is paid too, unless this is so
+  -- the turns back are paid, and unless `P` holds one more is paid too
   abbrev pub PaidUnless : Type 0 → View T → Type 0
   PaidUnless P v = (P × IsPaid v) ⊎ (v.backs + v.since + 1 ≤ v.changes)
 
-  -- a number that the counter had, before its end
+  -- a number that the counter had at a moment of the call, and that is before the counter's end
   pub record Holding (number : ℕ) (v : View T) : Type 0 where
     pub before_end : number < greatest
     pub low : number ≤ counter_of v.words
     pub paid : PaidUnless (counter_of v.words ≡ number) v
 
+  -- the turns back of the call are paid; where it holds a counter, one more is paid once the
+  -- counter has moved on
   abbrev pub Paid : Option ℕ → View T → Type 0
   Paid None v = IsPaid v
   Paid (Some number) v = Holding number v
 
-  -- ---- what they know of holders, in a well-formed run
+  -- ---- what a call knows of who holds an index, in a well-formed and honest run
 
-  -- the counter is not below that of the scan; and while it is that one, before its end, and no
-  -- cell was found filled, nobody holds these indices, in a well-formed run
+  -- the counter is not below the scan's; and while it is still the scan's, before its end, and no cell was
+  -- found filled, nobody holds these indices
   abbrev pub Scanned : Option Scan → View T → Type 0
   Scanned None v = Unit {0}
   Scanned (Some s) v =
@@ -207,53 +212,59 @@ module _ {T : Type 0} where
       → IsBy v.party index owner v.events
   ReleaseOwns index owner stage v = Unit {0}
 
+  -- any call: what it knows of its right to an index
   abbrev pub Owns : RobustFlight → View T → Type 0
   Owns (Acquire run) v = AcquireOwns run.given run.call.stage v
   Owns (Release run) v = ReleaseOwns run.given.index run.given.owner run.call.stage v
   Owns flight v = Unit {0}
 
-  -- ---- what they know of moments
+  -- ---- what a call knows of moments
 
+  -- the set was open at a moment of the call
   abbrev pub WasOpen : View T → Type 0
   WasOpen v = HeldSometime v.party IsUnlocked v.events
 
+  -- each index below `k` was filled at a moment of the call
   abbrev pub AllOnce : ℕ → View T → Type 0
   AllOnce k v = (i : ℕ) → i < k → HeldSometime v.party (IsFilled i) v.events
 
-  -- an acquire was open, and each index below its own was filled, at some time since it began
+  -- an acquire knows that the set was open, and each index below its own filled, at moments of the call
   abbrev pub AcquireSays : ℕ → AcquireStage → View T → Type 0
   AcquireSays c acquires.LoadsCounter v = Unit {0}
   AcquireSays c (acquires.FillsCell counter index) v = WasOpen v × AllOnce index v
   AcquireSays c (acquires.ChecksCounter counter) v = AllOnce c v
   AcquireSays c (acquires.Raises index raise) v = Unit {0}
 
-  -- a release whose lock finds an index filled
+  -- if the lock of a release has found an index filled, some index was filled after the release freed its own
   abbrev pub FoundOne : ℕ → ℕ → View T → ℕ → ℕ → Type 0
   FoundOne owner index v k filled = 0 < filled → FilledSinceFreed v.party owner index v.events
 
-  -- what the lock of a release has found of filled indices
+  -- what a release in its lock knows of indices that are filled
   abbrev pub ReleaseSays : ℕ → ℕ → ℕ → ReleaseStage → View T → Type 0
   ReleaseSays c index owner (releases.Locks lock) v =
       LockSays c (FoundOne owner index v) lock
   ReleaseSays c index owner stage v = Unit {0}
 
+  -- a count of borrowed indices has counted those below `k`: each that it counts was filled at
+  -- a moment of the call
   abbrev pub Borrowed : View T → ℕ → ℕ → Type 0
   Borrowed v k filled = IsCount v.party IsFilled k filled v.events
 
-  -- a find has counted the indices below its own
+  -- a find has counted the indices below its own that have its owner
   abbrev pub FindSays : ℕ → FindStage → View T → Type 0
   FindSays owner (finds.LoadsCell index found) v =
       IsCount v.party (IsFilledWith owner) index found v.events
   FindSays owner (finds.Asks index found) v =
       IsCount v.party (IsFilledWith owner) (index + 1) found v.events
 
-  -- a recovery has asked about the lower indices that were to be freed throughout
+  -- the recovery has asked about each index below `k` that was to be freed throughout the call
   abbrev pub AskedBelow : ℕ → View T → Type 0
   AskedBelow k v =
       (i owner : ℕ) → i < k → HeldThroughout v.party (StillToFree v.party owner i) v.events
       → IsOneOf (Asks i owner) (set_acts_of v.party v.events)
 
-  -- a recovery was open, and has asked about the indices below its own
+  -- a recovery knows that the set was open at a moment of the call, and has asked about the
+  -- indices below its own
   abbrev pub RecoverSays : ℕ → RecoverStage → View T → Type 0
   RecoverSays c recovers.LoadsCounter v = Unit {0}
   RecoverSays c (recovers.LoadsCell index) v = WasOpen v × AskedBelow index v
@@ -275,7 +286,8 @@ module _ {T : Type 0} where
 
   -- ---- what a recovery knows of what it was told to free
 
-  -- the owner is gone, and no index that it was told to free has that owner, but the one that it frees now
+  -- each owner of whom the recovery was told to free an index is gone, and no such index has its owner in
+  -- an honest run, but the one that the recovery frees now (`Now`)
   abbrev pub GoneBut : (ℕ → ℕ → Type 0) → View T → Type 0
   GoneBut Now v =
       (i owner : ℕ) → IsOneOf (Yes i owner) (set_acts_of v.party v.events)
@@ -289,30 +301,41 @@ module _ {T : Type 0} where
 
   -- ---- all of it
 
-  -- what a call knows of the counter, of the cells, of rights, of moments and of those it frees
+  -- What a call at its stage knows: of the counter that it holds, of the cells, of its right, of moments,
+  -- and of what it was told to free.
   pub record Knows (c : ℕ) (flight : RobustFlight) (v : View T) : Type 0 where
+    -- that the counter which it holds, and its turn-backs, are paid for
     pub paid : Paid (flight_holds flight) v
+    -- that nobody holds the indices which it found empty, while the counter stays
     pub scanned : Scanned (flight_scan c flight) v
+    -- to which index it has the right
     pub owns : Owns flight v
+    -- what held at a moment of the call
     pub says : Says c flight v
+    -- which owners it was told to be gone
     pub gone : Gone flight v
 
-  -- ---- what a turn does that leaves these words and writes these events
+  -- ---- what a turn of another party does
 
-  -- what the turn does to any party
+  -- What any turn does that leaves these words and writes these events: the counter does not go down, it
+  -- stays at its end, and no index is granted without a move of the counter.
   pub record Goes (words words' : List ℕ) (events es : List (Event T)) : Type 0 where
     pub grows : counter_of words ≤ counter_of words'
     pub stuck : counter_of words ≡ greatest → counter_of words' ≡ greatest
     pub grants : counter_of words' ≡ counter_of words → counter_of words < greatest → (i : ℕ) → holder_of i events ≡ None → holder_of i (events ++ es) ≡ None
+    -- nothing is filled again with a dead owner, dead owners stay dead, and a run that is
+    -- well-formed was so before
     pub fills : (i owner : ℕ) → is_dead owner events ≡ true → filled_of i (events ++ es) ≡ Some owner → filled_of i events ≡ Some owner
     pub dead : (owner : ℕ) → is_dead owner events ≡ true → is_dead owner (events ++ es) ≡ true
     pub lives : (owner : ℕ) → is_dead owner (events ++ es) ≡ false → is_dead owner events ≡ false
     pub well_formed : IsWellFormed (events ++ es) → IsWellFormed events
 
-  -- what the turn leaves this party, which does not take it
+  -- What a turn of another party leaves the party `q`: it begins no call and writes no act of `q`.
   pub record Spares (by : GoneBy) (q : ℕ) (events es : List (Event T)) : Type 0 where
     pub none : BeginsNone q es
     pub set_acts : set_acts_of q (events ++ es) ≡ set_acts_of q events
+    -- in a well-formed and honest run, `q` keeps its right to an index, whether its owner holds it, and
+    -- what may be given back
     pub owned : IsCalm by (events ++ es) → (i owner : ℕ) → is_gone by owner events ≡ false → IsBy q i owner events → IsBy q i owner (events ++ es)
     pub unheld : IsCalm by (events ++ es) → (i owner : ℕ) → is_gone by owner events ≡ false → IsBy q i owner events
         → holder_of i events ≡ None → holder_of i (events ++ es) ≡ None
@@ -321,19 +344,23 @@ module _ {T : Type 0} where
     pub settled : IsCalm by (events ++ es) → (i owner : ℕ) → is_gone by owner events ≡ false
         → settled_of i events ≡ Some owner → NoneTakes i owner es → settled_of i (events ++ es) ≡ Some owner
 
+  -- what the party `q` sees before a turn of another party, and after it
   module _ (by : GoneBy) (words words' : List ℕ) (events es : List (Event T)) (q since changes changes' backs : ℕ)
       (goes : Goes words words' events es) (spares : Spares by q events es)
       (seen : IsSeen words words' changes changes') where
+    -- what the party `q` may see before the turn
     abbrev pub before : View T
     before = record { by = by; words = words; events = events; party = q; since = since; changes = changes; backs = backs }
 
+    -- what the party `q` may see after the turn
     abbrev pub later : View T
     later = record { by = by; words = words'; events = events ++ es; party = q; since = since; changes = changes'; backs = backs }
 
+    -- the turns back are still paid
     pub held_paid : (held : Option ℕ) → Paid held before → Paid held later
     held_paid held was_paid = grind arith
 
-    -- what a scan knows of the cells that it found is so after another party's turn
+    -- what a scan knows of the cells that it found stays known after another party's turn
     pub still_scanned : (s : Option Scan) → Scanned s before → Scanned s later
     still_scanned None had_scanned = tt
     still_scanned (Some s) had_scanned =
@@ -346,10 +373,11 @@ module _ {T : Type 0} where
               goes.grants same (omega arith) i (had_scanned.2 less none (sym same ∙ is) (calm_less by events es calm) i below),
         )
 
+    -- an acquire still has the right to its index
     acquire_owns : (owner : ℕ) (stage : AcquireStage) → AcquireOwns owner stage before → AcquireOwns owner stage later
     acquire_owns = grind (arith, gone_less, calm_less)
 
-    -- a release that may give its index back may do so after another party's turn
+    -- a release that may give its index back still may
     release_owns : (index owner : ℕ) (stage : ReleaseStage) → ReleaseOwns index owner stage before → ReleaseOwns index owner stage later
     release_owns index owner releases.EmptiesCell owned =
         λ calm alive settled.
@@ -359,29 +387,36 @@ module _ {T : Type 0} where
         (since_less q (λ part. settled_of index part ≡ Some owner) events es spares.none settled))
     release_owns index owner stage owned = tt
 
+    -- the index that a call owns it owns after further events
     still_owns : (flight : RobustFlight) → Owns flight before → Owns flight later
     still_owns = grind (arith, acquire_owns, release_owns)
 
+    -- that `P` held at a moment of the call stays true after the turn
     once_later : (P : List (Event T) → Type 0) → HeldSometime q P events → HeldSometime q P (events ++ es)
-    once_later P h = held_later q P events es spares.none h
+    once_later P was_held = held_later q P events es spares.none was_held
 
+    -- what an acquire knows of moments stays known
     acquire_says : (c : ℕ) (stage : AcquireStage) → AcquireSays c stage before → AcquireSays c stage later
     acquire_says = grind (arith, once_later)
 
+    -- an index that was filled after the free still was
     freed_later : (owner index : ℕ) → FilledSinceFreed q owner index events → FilledSinceFreed q owner index (events ++ es)
-    freed_later owner index h = record { other = h.other; once = once_later _ h.once }
+    freed_later owner index was_filled = record { other = was_filled.other; once = once_later _ was_filled.once }
 
+    -- what a release knows of moments stays known
     release_says : (c index owner : ℕ) (stage : ReleaseStage) → ReleaseSays c index owner stage before → ReleaseSays c index owner stage later
     release_says = grind (arith, lock_says, freed_later)
 
+    -- what a find says of its count it says after further events
     find_says : (owner : ℕ) (stage : FindStage) → FindSays owner stage before → FindSays owner stage later
     find_says = grind (arith, count_later)
 
+    -- the recovery has still asked about the lower indices
     asked_later : (k : ℕ) → AskedBelow k before → AskedBelow k later
-    asked_later k h i owner below through =
-        subst (IsOneOf (Asks i owner)) (sym spares.set_acts) (h i owner below (through_less q (StillToFree q owner i) events es spares.none through))
+    asked_later k asked i owner below through =
+        subst (IsOneOf (Asks i owner)) (sym spares.set_acts) (asked i owner below (through_less q (StillToFree q owner i) events es spares.none through))
 
-    -- what a recovery knows of moments is so after another party's turn
+    -- what a recovery knows of moments stays known
     recover_says : (c : ℕ) (stage : RecoverStage) → RecoverSays c stage before → RecoverSays c stage later
     recover_says c recovers.LoadsCounter said = tt
     recover_says c (recovers.LoadsCell index) said = (once_later IsUnlocked said.0, asked_later index said.1)
@@ -392,21 +427,24 @@ module _ {T : Type 0} where
     recover_says c (recovers.Locks index lock) said = (once_later IsUnlocked said.0, asked_later (index + 1) said.1)
     recover_says c recovers.LoadsCounterAgain said = asked_later c said
 
+    -- what any call knows of moments stays known
     still_says : (c : ℕ) (flight : RobustFlight) → Says c flight before → Says c flight later
     still_says = grind (arith, acquire_says, release_says, find_says, recover_says, count_says, count_later)
 
     -- whoever fills an index is not gone, so an index that an owner who is gone has lost stays lost to him
     gone_later : (Now : ℕ → ℕ → Type 0) → GoneBut Now before → GoneBut Now later
-    gone_later Now h i owner told =
-        let k = h i owner (subst (IsOneOf (Yes i owner)) spares.set_acts told) in (
+    gone_later Now are_gone i owner told =
+        let k = are_gone i owner (subst (IsOneOf (Yes i owner)) spares.set_acts told) in (
           gone_more by owner events es k.0,
           λ honest. ⊎_elim (λ gone. inl (λ e. gone (stays_lost by events es goes.fills i owner honest k.0 e)))
               (λ now. inr now) (k.1 (honest_less by events es honest)),
         )
 
+    -- the owners that a recovery knows to be gone are gone after further events
     still_gone : (flight : RobustFlight) → Gone flight before → Gone flight later
     still_gone (Recover run) was_gone = gone_later (FreesNow run.call.stage) was_gone
     still_gone flight was_gone = tt
 
+    -- what a call knows stays known after a turn of another party
     pub knows_later : (c : ℕ) (flight : RobustFlight) → Knows c flight before → Knows c flight later
     knows_later = grind (arith, held_paid, still_scanned, still_owns, still_says, still_gone)

@@ -1,4 +1,5 @@
--- A robust index set in which no call may lock is lock-free.
+-- A robust index set in which no call may lock is lock-free: each call has a measure that
+-- falls with its steps.
 use Rattle.std.proofs.Common.{◌≡◌, ℕ, ◌+◌, ◌-◌, ◌*◌, ◌≤◌, ◌==◌, Bool, true, false, cond}
 use Rattle.std.proofs.Common.{Option, Some, None, List, get_or, refl, arith}
 use Rattle.steps.specs.declared.indices.robust.acquire.AcquireStage.{AcquireStage}
@@ -37,13 +38,15 @@ use Rattle.laws_robust.proofs.Opening.{admitted_is}
 use Rattle.laws_robust.proofs.Measured.{raise_left, acquire_left, find_left, recover_left, count_left, release_left, recover_pays, left_at, pays, measure}
 use Rattle.laws_robust.proofs.Measured.{At, Kept, outline, call_falls, call_decides}
 
--- ---- what it owes
+-- ---- the laws that the measure has to have
 
+-- whichever the test chooses is at most what both are
 pub one_of : (t : Bool) (a b most : ℕ) → a ≤ most → b ≤ most → cond t a b ≤ most
-one_of true a b most x y = x
-one_of false a b most x y = y
+one_of true a b most a_fits b_fits = a_fits
+one_of false a b most a_fits b_fits = b_fits
 
 module _ (c : ℕ) (some : 1 ≤ c) where
+  -- a raise has at most one step left
   pub raise_most : (now : ℕ) (raise : Raise) → raise_left now raise ≤ 1
   raise_most now raises.LoadsCounter = omega arith
   raise_most now (raises.ExchangesCounter counter) = one_of _ 0 1 1 (omega arith) (omega arith)
@@ -66,26 +69,30 @@ module _ (c : ℕ) (some : 1 ≤ c) where
   recover_most now (recovers.Locks index lock) = omega arith
   recover_most now recovers.LoadsCounterAgain = omega arith
 
+  -- a count has at most `4 * c + 1` steps left
   count_most : (now : ℕ) (count : Count) → count_left c now count ≤ 4 * c + 1
   count_most now counts.LoadsCounter = omega arith
   count_most now (counts.LoadsCell counter index filled) =
       one_of (now == counter) (c - (index + 1) + 1) (c - (index + 1) + (c - 1) + 4) (4 * c + 1) (omega arith) (omega arith)
   count_most now (counts.ExchangesCounter counter filled) = one_of _ 0 (c - 1 + 3) (4 * c + 1) (omega arith) (omega arith)
 
+  -- a find has at most `4 * c + 1` steps left
   find_most : (stage : FindStage) → find_left c stage ≤ 4 * c + 1
   find_most (finds.LoadsCell index found) = omega arith
   find_most (finds.Asks index found) = omega arith
 
+  -- a release has at most `4 * c + 1` steps left
   release_most : (now : ℕ) (stage : ReleaseStage) → release_left c now stage ≤ 4 * c + 1
   release_most now releases.EmptiesCell = omega arith
   release_most now (releases.Raises raise) = let most = raise_most now raise in omega arith
   release_most now (releases.Locks lock) = omega arith
 
+  -- a recovery has at most `c` changes to make
   pays_most : (stage : RecoverStage) → recover_pays c stage ≤ c
   pays_most = grind arith
 
-  -- no call has by this measure more steps left than four times the capacity and one, or more
-  -- changes to make than the capacity
+  -- no call that does not lock has more steps left than four times the capacity and one, or more changes to
+  -- make than the capacity
   most : {T : Type 0} → (now : ℕ) (flight : Flight T) → (left_at c now flight ≤ 4 * c + 1) × (pays c flight ≤ c)
   most now (flights.Robust (calls.Acquire run)) = (acquire_most now run.call.stage, omega arith)
   most now (flights.Robust (calls.Release run)) = (release_most now run.call.stage, omega arith)
@@ -95,38 +102,47 @@ module _ (c : ℕ) (some : 1 ≤ c) where
   most now (flights.Robust (calls.IsLocked run)) = (omega arith, omega arith)
   most now flight = (omega arith, omega arith)
 
+-- the measure falls with each step, and with each decision
 module _ {T : Type 0} (code : Coding T) (c : ℕ) where
+  -- the measure falls with each step of a call that stands where it may
   falls : (words : List ℕ) (start : Start T) (flight : Flight T) → At code c start flight → StepFalls (measure c) code words flight
   falls words (starts.Robust start) (flights.Robust flight) at = call_falls code c words flight at
   falls words start flight at = absurd at
 
+  -- the measure falls with each decision about a call that asks
   decides : (words : List ℕ) (start : Start T) (flight : Flight T) (said : Bool) → At code c start flight → is_question (want_of code flight) ≡ true
       → FallsIn (measure c) words words 0 flight (after_of code flight (number_of said))
   decides words (starts.Robust start) (flights.Robust flight) said at due = call_decides code c words flight at said due
   decides words start flight said at due = absurd at
 
+  -- a call that goes on stands where it may
   goes : (start : Start T) (flight : Flight T) (old : ℕ) → At code c start flight → OwnAfter outline code c start (after_of code flight old)
   goes = grind arith
 
+  -- a call that begins stands at its first stage
   begins : (start : Start T) (kept : Registry T) (flight : Flight T) → IsDefault start → Kept kept
       → first_of kinds.Robust c start kept ≡ Some flight
       → At code c start flight × ((p : ℕ) → Kept (kept_after_begin code c start p kept))
   begins = grind arith
 
+  -- a step leaves the registry one of owners
   stays : (words : List ℕ) (beside : Option (ℕ × ℕ)) (p : ℕ) (start : Start T) (flight : Flight T) (old : ℕ) (kept : Registry T)
       → At code c start flight → Kept kept → Kept (step_of code words beside p start flight old kept).kept
   stays = grind arith
 
+  -- what a step leaves of the call is what the call computes
   told : (words : List ℕ) (beside : Option (ℕ × ℕ)) (p : ℕ) (start : Start T) (flight : Flight T) (old : ℕ) (kept : Registry T)
       → At code c start flight → Kept kept
       → ((step_of code words beside p start flight old kept).after ≡ after_of code flight old)
       × (goes_of code p flight old kept ≡ after_of code flight old)
   told = grind arith
 
+  -- a death leaves the registry one of owners
   dies : (kept : Registry T) (owner : ℕ) → Kept kept → Kept (kept_after_death kept owner)
   dies = grind arith
 
-  -- all that is owed for the measure holds of the calls that do not lock, in a set of an admitted capacity
+  -- the measure has the laws that are asked of one, for the calls that do not lock, at each
+  -- capacity that is admitted
   laws : capacity_error kinds.Robust c ≡ None → TableLaws outline code c
   laws admitted =
       record {
@@ -142,7 +158,7 @@ module _ {T : Type 0} (code : Coding T) (c : ℕ) where
         falls = λ words start flight at wide. falls words start flight at;
       }
 
--- in runs of calls that do not lock, whichever rows refuse turns
+-- in runs of calls that do not lock calls keep ending, whichever rows refuse turns
 pub default_keeps_ending_by : {T : Type 0} (refuses : World T → Turn T → Option Refusal)
     → ((w : World T) (turn : Turn T) → refuses w turn ≡ None → IsPossible w turn)
     → KeepsEndingBy refuses kinds.Robust IsDefault default_bound
@@ -150,5 +166,6 @@ default_keeps_ending_by {T} refuses possible =
     keeps_ending_by (outline {T = T}) (λ code c coded admitted. by_table outline code c (laws code c admitted)) refuses possible
     default_bound (λ code c n. refl)
 
+-- in the runs without locks, calls keep ending, by the bound `default_bound`
 pub default_keeps_ending : {T : Type 0} → KeepsEndingOf T kinds.Robust IsDefault default_bound
 default_keeps_ending {T} = default_keeps_ending_by {T = T} call_refusal possible_on

@@ -44,14 +44,14 @@ use Rattle.model.proofs.LockFree.Measure.{WordMeasure}
 use Rattle.model.proofs.LockFree.Own.{Outline}
 use Rattle.laws_robust.proofs.Cases.{by_bool}
 
--- ---- how many steps a call takes at most before its last one, while the counter stays
+-- ---- how many steps a call takes at most before its last one, while the counter stays at `now`
 
 abbrev pub raise_left : ℕ → Raise → ℕ
 raise_left now raises.LoadsCounter = 1
 raise_left now (raises.ExchangesCounter counter) = cond (now == counter) 0 1
 
 module _ (c : ℕ) where
-  -- an acquire, where the counter is so
+  -- the steps that an acquire has left at most before its last
   abbrev pub acquire_left : ℕ → AcquireStage → ℕ
   acquire_left now acquires.LoadsCounter = c - 1 + 3
   acquire_left now (acquires.FillsCell counter index) = cond (now == counter) (c - (index + 1) + 2) (c - (index + 1) + (c - 1) + 4)
@@ -62,7 +62,7 @@ module _ (c : ℕ) where
   find_left (finds.LoadsCell index found) = c - (index + 1) + 1
   find_left (finds.Asks index found) = c - (index + 1)
 
-  -- a recovery that does not lock, where the counter is so
+  -- the steps that a recovery that does not lock has left at most before its last
   abbrev pub recover_left : ℕ → RecoverStage → ℕ
   recover_left now recovers.LoadsCounter = 4 * (c - 1) + 5
   recover_left now (recovers.LoadsCell index) = 4 * (c - (index + 1)) + 4
@@ -94,7 +94,7 @@ module _ (c : ℕ) where
   release_left now (releases.Raises raise) = raise_left now raise
   release_left now (releases.Locks lock) = 0
 
-  -- any call of the set that does not lock
+  -- the steps that any call that does not lock has left at most before its last
   abbrev pub call_left : ℕ → RobustFlight → ℕ
   call_left now (calls.Acquire run) = acquire_left now run.call.stage
   call_left now (calls.Release run) = release_left now run.call.stage
@@ -126,7 +126,7 @@ CallStands c (calls.Recover run) = (run.call.capacity ≡ c) × (run.given ≡ D
 CallStands c (calls.BorrowedIndices run) = run.call.capacity ≡ c
 CallStands c (calls.IsLocked run) = Unit {0}
 
--- a find or a recovery, which alone ask
+-- the call is a find or a recovery, which alone ask questions
 abbrev pub is_looking : RobustFlight → Bool
 is_looking (calls.Find run) = true
 is_looking (calls.Recover run) = true
@@ -170,7 +170,7 @@ module _ {T : Type 0} where
   Kept (registries.Owners dead) = Unit {0}
   Kept kept = ⊥
 
-  -- what the frame of lock-freedom asks to know of the calls that do not lock
+  -- the calls that do not lock, with their measure, as the proof of lock-freedom asks for them
   abbrev pub outline : Outline T
   outline =
       record {
@@ -188,13 +188,14 @@ module _ {T : Type 0} (code : Coding T) (c : ℕ) (words : List ℕ) where
   abbrev pub M : WordMeasure T
   M = measure c
 
-  abbrev pub Shown : RobustFlight → Type 0
-  Shown flight = StepFalls M code words (flights.Robust flight)
+  -- the measure falls with the next step of this call
+  abbrev pub NextStepFalls : RobustFlight → Type 0
+  NextStepFalls flight = StepFalls M code words (flights.Robust flight)
 
   abbrev pub now : ℕ
   now = get_or words 0 0
 
-  -- a cell costs nobody a step
+  -- a change of a cell raises no call's measure
   cell_leaves : (index new : ℕ) → LeavesAll M words (set words (cell_word index) new)
   cell_leaves index new other =
       let same : get_or (set words (cell_word index) new) 0 0 ≡ now = get_or-set_other words (cell_word index) 0 new 0 (λ e. absurd (omega arith)) in
@@ -207,183 +208,189 @@ module _ {T : Type 0} (code : Coding T) (c : ℕ) (words : List ℕ) where
       as_call flights.Robust (λ answer. answer)
       (as_call calls.Acquire acquire_answer (went_on as_it_is owner tt after))
 
-  -- an acquire that sees the counter falls by a step, at a stage with steps enough left
-  acquire_sees_falls : (new : List ℕ) (owner : ℕ) (stage : AcquireStage) → new ≡ words
+  -- the measure falls with the step in which an acquire sees the counter, at a stage with steps enough left
+  acquire_sees_falls : {new : List ℕ} (owner : ℕ) (stage : AcquireStage) → new ≡ words
       → c - 1 + 3 ≤ acquire_left c now stage
       → FallsIn M words new 1 (flights.Robust (acquire_at c owner stage))
       (as_acquire (acquire_sees (record { capacity = c; stage = stage }) now) owner)
-  acquire_sees_falls new owner stage same enough = go (now == locked) refl (now == greatest) refl (nat_lt 0 c) refl
+  acquire_sees_falls {new = new} owner stage same enough = go (now == locked) refl (now == greatest) refl (nat_lt 0 c) refl
     where
-      -- the cases are whether the counter is locked, whether the counter is at its end and whether there is a place
+      -- the cases are whether the counter is locked, whether it is at its end, and whether there is a place
       go : (t : Bool) → (now == locked) ≡ t → (u : Bool) → (now == greatest) ≡ u → (v : Bool) → nat_lt 0 c ≡ v
           → FallsIn M words new 1 (flights.Robust (acquire_at c owner stage))
           (as_acquire (acquire_sees (record { capacity = c; stage = stage }) now) owner)
-      go true t u e v f = rw t tt
-      go false t true u v f = rw (t, u) tt
-      go false t false u true v = let self = same_is now in rw (t, u, v) (inl (same, rw self (omega arith), omega arith))
-      go false t false u false v = let self = same_is now in rw (t, u, v) (inl (same, rw self (omega arith), omega arith))
+      go true is_locked u end_test v cells_test = rw is_locked tt
+      go false not_locked true at_end v cells_test = rw (not_locked, at_end) tt
+      go false not_locked false below_end true has_cells =
+          let self = same_is now in rw (not_locked, below_end, has_cells) (inl (same, rw self (omega arith), omega arith))
+      go false not_locked false below_end false no_cells =
+          let self = same_is now in rw (not_locked, below_end, no_cells) (inl (same, rw self (omega arith), omega arith))
 
   -- the measure falls with each step of an acquire
-  acquire_falls : (owner : ℕ) (stage : AcquireStage) → Shown (acquire_at c owner stage)
+  acquire_falls : (owner : ℕ) (stage : AcquireStage) → NextStepFalls (acquire_at c owner stage)
   acquire_falls owner acquires.LoadsCounter =
-      acquire_sees_falls _ owner acquires.LoadsCounter (load_leaves words 0) (omega arith)
+      acquire_sees_falls owner acquires.LoadsCounter (load_leaves words 0) (omega arith)
   acquire_falls owner (acquires.FillsCell counter index) =
       go (get_or words (cell_word index) 0 == empty) refl (nat_lt (index + 1) c) refl (now == counter) refl
     where
       stage : AcquireStage
       stage = acquires.FillsCell counter index
 
-      -- the cases are whether the cell is empty, whether a further index follows and whether the counter is still what was read
+      -- the cases are whether the cell is empty, whether a further index follows, and whether the counter is
+      -- still what was read
       go : (t : Bool) → (get_or words (cell_word index) 0 == empty) ≡ t → (u : Bool) → nat_lt (index + 1) c ≡ u
-          → (v : Bool) → (now == counter) ≡ v → Shown (acquire_at c owner stage)
-      go true t u e true v = rw t (inr (rw v (omega arith), inl (cell_leaves index owner, omega arith)))
-      go true t u e false v = rw t (inr (rw v (omega arith), inl (cell_leaves index owner, omega arith)))
-      go false t true u true v =
+          → (v : Bool) → (now == counter) ≡ v → NextStepFalls (acquire_at c owner stage)
+      go true cell_empty u next_test true unmoved = rw cell_empty (inr (rw unmoved (omega arith), inl (cell_leaves index owner, omega arith)))
+      go true cell_empty u next_test false moved = rw cell_empty (inr (rw moved (omega arith), inl (cell_leaves index owner, omega arith)))
+      go false cell_filled true has_next true unmoved =
           let less : index + 2 ≤ c = grind (arith, nat_tests) in
-          rw (t, u) (inl (load_leaves words (cell_word index), rw v (omega arith), omega arith))
-      go false t true u false v =
+          rw (cell_filled, has_next) (inl (load_leaves words (cell_word index), rw unmoved (omega arith), omega arith))
+      go false cell_filled true has_next false moved =
           let less : index + 2 ≤ c = grind (arith, nat_tests) in
-          rw (t, u) (inl (load_leaves words (cell_word index), rw v (omega arith), omega arith))
-      go false t false u true v = rw (t, u) (inl (load_leaves words (cell_word index), rw v (omega arith), omega arith))
-      go false t false u false v = rw (t, u) (inl (load_leaves words (cell_word index), rw v (omega arith), omega arith))
+          rw (cell_filled, has_next) (inl (load_leaves words (cell_word index), rw moved (omega arith), omega arith))
+      go false cell_filled false is_last true unmoved =
+          rw (cell_filled, is_last) (inl (load_leaves words (cell_word index), rw unmoved (omega arith), omega arith))
+      go false cell_filled false is_last false moved =
+          rw (cell_filled, is_last) (inl (load_leaves words (cell_word index), rw moved (omega arith), omega arith))
   acquire_falls owner (acquires.ChecksCounter counter) =
-      by_bool (now == counter)
-      (λ t. rw t tt)
-      (λ t.
-      rw t (acquire_sees_falls _ owner (acquires.ChecksCounter counter) (load_leaves words 0) (rw t (omega arith))))
+      by_bool (now == counter) (λ unmoved. rw unmoved tt)
+      (λ moved. rw moved (acquire_sees_falls owner (acquires.ChecksCounter counter) (load_leaves words 0) (rw moved (omega arith))))
   acquire_falls owner (acquires.Raises index raises.LoadsCounter) = go (now == locked) refl (now == greatest) refl
     where
       -- the cases are whether the counter is locked and whether the counter is at its end
       go : (t : Bool) → (now == locked) ≡ t → (u : Bool) → (now == greatest) ≡ u
-          → Shown (acquire_at c owner (acquires.Raises index raises.LoadsCounter))
-      go true t u e = rw t tt
-      go false t true u = rw (t, u) tt
-      go false t false u = let self = same_is now in rw (t, u) (inl (load_leaves words 0, rw self (omega arith), omega arith))
+          → NextStepFalls (acquire_at c owner (acquires.Raises index raises.LoadsCounter))
+      go true is_locked u end_test = rw is_locked tt
+      go false not_locked true at_end = rw (not_locked, at_end) tt
+      go false not_locked false below_end = let self = same_is now in rw (not_locked, below_end) (inl (load_leaves words 0, rw self (omega arith), omega arith))
   acquire_falls owner (acquires.Raises index (raises.ExchangesCounter counter)) =
       go (now == counter) refl (now == locked) refl (now == greatest) refl
     where
-      -- the cases are whether the counter is still what was read, whether the counter is locked and whether the counter is at its end
+      -- the cases are whether the counter is still what was read, whether it is locked, and
+      -- whether it is at its end
       go : (s : Bool) → (now == counter) ≡ s → (t : Bool) → (now == locked) ≡ t → (u : Bool) → (now == greatest) ≡ u
-          → Shown (acquire_at c owner (acquires.Raises index (raises.ExchangesCounter counter)))
-      go true s t e u f = rw s tt
-      go false s true t u e = rw (s, t) tt
-      go false s false t true u = rw (s, t, u) tt
-      go false s false t false u = let self = same_is now in rw (s, t, u) (inl (load_leaves words 0, rw (self, s) (omega arith), omega arith))
+          → NextStepFalls (acquire_at c owner (acquires.Raises index (raises.ExchangesCounter counter)))
+      go true unmoved t locked_test u end_test = rw unmoved tt
+      go false moved true is_locked u end_test = rw (moved, is_locked) tt
+      go false moved false not_locked true at_end = rw (moved, not_locked, at_end) tt
+      go false moved false not_locked false below_end =
+          let self = same_is now in rw (moved, not_locked, below_end) (inl (load_leaves words 0, rw (self, moved) (omega arith), omega arith))
 
   -- ---- a release
 
   -- the measure falls with each step of a release that does not lock
-  release_falls : (index owner : ℕ) (stage : ReleaseStage) → ReleaseStands stage → Shown (release_at c index owner stage)
+  release_falls : (index owner : ℕ) (stage : ReleaseStage) → ReleaseStands stage → NextStepFalls (release_at c index owner stage)
   release_falls index owner releases.EmptiesCell stands =
-      by_bool (get_or words (cell_word index) 0 == owner)
-      (λ t. rw t (inr (omega arith, inl (cell_leaves index empty, omega arith))))
-      (λ t. rw t tt)
+      by_bool (get_or words (cell_word index) 0 == owner) (λ is_owners. rw is_owners (inr (omega arith, inl (cell_leaves index empty, omega arith))))
+      (λ not_owners. rw not_owners tt)
   release_falls index owner (releases.Raises raises.LoadsCounter) stands = go (now == locked) refl (now == greatest) refl
     where
       -- the cases are whether the counter is locked and whether the counter is at its end
       go : (t : Bool) → (now == locked) ≡ t → (u : Bool) → (now == greatest) ≡ u
-          → Shown (release_at c index owner (releases.Raises raises.LoadsCounter))
-      go true t u e = rw t tt
-      go false t true u = rw (t, u) tt
-      go false t false u = let self = same_is now in rw (t, u) (inl (load_leaves words 0, rw self (omega arith), omega arith))
+          → NextStepFalls (release_at c index owner (releases.Raises raises.LoadsCounter))
+      go true is_locked u end_test = rw is_locked tt
+      go false not_locked true at_end = rw (not_locked, at_end) tt
+      go false not_locked false below_end = let self = same_is now in rw (not_locked, below_end) (inl (load_leaves words 0, rw self (omega arith), omega arith))
   release_falls index owner (releases.Raises (raises.ExchangesCounter counter)) stands =
       go (now == counter) refl (now == locked) refl (now == greatest) refl
     where
-      -- the cases are whether the counter is still what was read, whether the counter is locked and whether the counter is at its end
+      -- the cases are whether the counter is still what was read, whether it is locked, and
+      -- whether it is at its end
       go : (s : Bool) → (now == counter) ≡ s → (t : Bool) → (now == locked) ≡ t → (u : Bool) → (now == greatest) ≡ u
-          → Shown (release_at c index owner (releases.Raises (raises.ExchangesCounter counter)))
-      go true s t e u f = rw s tt
-      go false s true t u e = rw (s, t) tt
-      go false s false t true u = rw (s, t, u) tt
-      go false s false t false u = let self = same_is now in rw (s, t, u) (inl (load_leaves words 0, rw (self, s) (omega arith), omega arith))
+          → NextStepFalls (release_at c index owner (releases.Raises (raises.ExchangesCounter counter)))
+      go true unmoved t locked_test u end_test = rw unmoved tt
+      go false moved true is_locked u end_test = rw (moved, is_locked) tt
+      go false moved false not_locked true at_end = rw (moved, not_locked, at_end) tt
+      go false moved false not_locked false below_end =
+          let self = same_is now in rw (moved, not_locked, below_end) (inl (load_leaves words 0, rw (self, moved) (omega arith), omega arith))
   release_falls index owner (releases.Locks lock) stands = absurd stands
 
   -- ---- a find
 
   -- the measure falls with each step of a find
-  find_falls : (owner : ℕ) (stage : FindStage) → Shown (find_at c owner stage)
+  find_falls : (owner : ℕ) (stage : FindStage) → NextStepFalls (find_at c owner stage)
   find_falls owner (finds.LoadsCell index found) = go (get_or words (cell_word index) 0 == owner) refl (nat_lt (index + 1) c) refl
     where
       -- the cases are whether the cell has the owner and whether a further index follows
       go : (t : Bool) → (get_or words (cell_word index) 0 == owner) ≡ t → (u : Bool) → nat_lt (index + 1) c ≡ u
-          → Shown (find_at c owner (finds.LoadsCell index found))
-      go true t u e = rw t (inl (load_leaves words (cell_word index), omega arith, omega arith))
-      go false t true u =
+          → NextStepFalls (find_at c owner (finds.LoadsCell index found))
+      go true is_owners u next_test = rw is_owners (inl (load_leaves words (cell_word index), omega arith, omega arith))
+      go false not_owners true has_next =
           let less : index + 2 ≤ c = grind (arith, nat_tests) in
-          rw (t, u) (inl (load_leaves words (cell_word index), omega arith, omega arith))
-      go false t false u = rw (t, u) tt
+          rw (not_owners, has_next) (inl (load_leaves words (cell_word index), omega arith, omega arith))
+      go false not_owners false is_last = rw (not_owners, is_last) tt
   find_falls owner (finds.Asks index found) = tt
 
   -- ---- a number of borrowed indices
 
   -- the measure falls with each step of a count
-  borrowed_falls : (count : Count) → Shown (borrowed_at c count)
+  borrowed_falls : (count : Count) → NextStepFalls (borrowed_at c count)
   borrowed_falls counts.LoadsCounter = go (now == locked) refl (nat_lt 0 c) refl (now == greatest) refl
     where
-      -- the cases are whether the counter is locked, whether there is a place and whether the counter is at its end
+      -- the cases are whether the counter is locked, whether there is a place, and whether the
+      -- counter is at its end
       go : (t : Bool) → (now == locked) ≡ t → (u : Bool) → nat_lt 0 c ≡ u → (v : Bool) → (now == greatest) ≡ v
-          → Shown (borrowed_at c counts.LoadsCounter)
-      go true t u e v f = rw t tt
-      go false t true u v e = let self = same_is now in rw (t, u) (inl (load_leaves words 0, rw self (omega arith), omega arith))
-      go false t false u true v = rw (t, u, v) tt
-      go false t false u false v = let self = same_is now in rw (t, u, v) (inl (load_leaves words 0, rw self (omega arith), omega arith))
+          → NextStepFalls (borrowed_at c counts.LoadsCounter)
+      go true is_locked u cells_test v end_test = rw is_locked tt
+      go false not_locked true has_cells v end_test =
+          let self = same_is now in rw (not_locked, has_cells) (inl (load_leaves words 0, rw self (omega arith), omega arith))
+      go false not_locked false no_cells true at_end = rw (not_locked, no_cells, at_end) tt
+      go false not_locked false no_cells false below_end =
+          let self = same_is now in rw (not_locked, no_cells, below_end) (inl (load_leaves words 0, rw self (omega arith), omega arith))
   borrowed_falls (counts.LoadsCell counter index filled) = go (nat_lt (index + 1) c) refl (counter == greatest) refl (now == counter) refl
     where
-      -- the cases are whether a further index follows, whether the counter that was read is at its end and whether the counter is still what was read
+      -- the cases are whether a further index follows, whether the counter that was read was at its end, and
+      -- whether it still stands
       go : (u : Bool) → nat_lt (index + 1) c ≡ u → (v : Bool) → (counter == greatest) ≡ v → (t : Bool) → (now == counter) ≡ t
-          → Shown (borrowed_at c (counts.LoadsCell counter index filled))
-      go true u v e true t =
+          → NextStepFalls (borrowed_at c (counts.LoadsCell counter index filled))
+      go true has_next v end_test true unmoved =
           let less : index + 2 ≤ c = grind (arith, nat_tests) in
-          rw u (inl (load_leaves words (cell_word index), rw t (omega arith), omega arith))
-      go true u v e false t =
+          rw has_next (inl (load_leaves words (cell_word index), rw unmoved (omega arith), omega arith))
+      go true has_next v end_test false moved =
           let less : index + 2 ≤ c = grind (arith, nat_tests) in
-          rw u (inl (load_leaves words (cell_word index), rw t (omega arith), omega arith))
-      go false u true v t e = rw (u, v) tt
-      go false u false v true t = rw (u, v) (inl (load_leaves words (cell_word index), rw t (omega arith), omega arith))
-      go false u false v false t = rw (u, v) (inl (load_leaves words (cell_word index), rw t (omega arith), omega arith))
+          rw has_next (inl (load_leaves words (cell_word index), rw moved (omega arith), omega arith))
+      go false is_last true at_end t moved_test = rw (is_last, at_end) tt
+      go false is_last false below_end true unmoved = rw (is_last, below_end) (inl (load_leaves words (cell_word index), rw unmoved (omega arith), omega arith))
+      go false is_last false below_end false moved = rw (is_last, below_end) (inl (load_leaves words (cell_word index), rw moved (omega arith), omega arith))
   borrowed_falls (counts.ExchangesCounter counter filled) =
-      by_bool (now == counter)
-      (λ t. rw t tt)
-      (λ t. rw t (inl (load_leaves words 0, rw t (omega arith), omega arith)))
+      by_bool (now == counter) (λ unmoved. rw unmoved tt)
+      (λ moved. rw moved (inl (load_leaves words 0, rw moved (omega arith), omega arith)))
 
   -- ---- a recovery
 
-  -- it comes to the next index, or to its last step
-  comes_fall : (new : List ℕ) (steps index : ℕ) (stage : RecoverStage) → new ≡ words → steps ≤ 1
+  -- a step after which a recovery comes to the next index, or to its last step, falls
+  comes_fall : {new : List ℕ} (steps index : ℕ) (stage : RecoverStage) → new ≡ words → steps ≤ 1
       → 4 * (c - (index + 1)) + steps ≤ recover_left c now stage → c - (index + 1) ≤ recover_pays c stage
       → FallsIn M words new steps (flights.Robust (recover_at c stage))
       (as_call flights.Robust (λ answer. answer)
       (as_call calls.Recover answers.State
       (went_on as_it_is Default tt (recover_comes_to (record { capacity = c; stage = stage }) (index + 1)))))
-  comes_fall new steps index stage same one enough pays =
+  comes_fall steps index stage same one enough pays =
       by_bool (nat_lt (index + 1) c)
-      (λ u.
+      (λ has_next.
       let less : index + 2 ≤ c = grind (arith, nat_tests) in
-      rw u (inl (same, omega arith, omega arith)))
-      (λ u. rw u (inl (same, omega arith, omega arith)))
+      rw has_next (inl (same, omega arith, omega arith)))
+      (λ is_last. rw is_last (inl (same, omega arith, omega arith)))
 
   -- the measure falls with each step of a recovery that does not lock
-  recover_falls : (stage : RecoverStage) → RecoverStands stage → Shown (recover_at c stage)
+  recover_falls : (stage : RecoverStage) → RecoverStands stage → NextStepFalls (recover_at c stage)
   recover_falls recovers.LoadsCounter stands = go (now == locked) refl (nat_lt 0 c) refl
     where
       -- the cases are whether the counter is locked and whether there is a place
-      go : (t : Bool) → (now == locked) ≡ t → (u : Bool) → nat_lt 0 c ≡ u → Shown (recover_at c recovers.LoadsCounter)
-      go true t u e = rw t tt
-      go false t true u = rw (t, u) (inl (load_leaves words 0, omega arith, omega arith))
-      go false t false u = rw (t, u) (inl (load_leaves words 0, omega arith, omega arith))
+      go : (t : Bool) → (now == locked) ≡ t → (u : Bool) → nat_lt 0 c ≡ u → NextStepFalls (recover_at c recovers.LoadsCounter)
+      go true is_locked u cells_test = rw is_locked tt
+      go false not_locked true has_cells = rw (not_locked, has_cells) (inl (load_leaves words 0, omega arith, omega arith))
+      go false not_locked false no_cells = rw (not_locked, no_cells) (inl (load_leaves words 0, omega arith, omega arith))
   recover_falls (recovers.LoadsCell index) stands =
       by_bool (get_or words (cell_word index) 0 == empty)
-      (λ t.
-      rw t (comes_fall _ 1 index (recovers.LoadsCell index) (load_leaves words (cell_word index))
+      (λ cell_empty. rw cell_empty (comes_fall 1 index (recovers.LoadsCell index) (load_leaves words (cell_word index))
       (omega arith) (omega arith) (omega arith)))
-      (λ t. rw t (inl (load_leaves words (cell_word index), omega arith, omega arith)))
+      (λ cell_filled. rw cell_filled (inl (load_leaves words (cell_word index), omega arith, omega arith)))
   recover_falls (recovers.Asks index owner) stands =
-      comes_fall _ 0 index (recovers.Asks index owner) refl (omega arith) (omega arith) (omega arith)
+      comes_fall 0 index (recovers.Asks index owner) refl (omega arith) (omega arith) (omega arith)
   recover_falls (recovers.EmptiesCell index owner) stands =
-      by_bool (get_or words (cell_word index) 0 == owner)
-      (λ t. rw t (inr (omega arith, inl (cell_leaves index empty, omega arith))))
-      (λ t.
-      rw t (comes_fall _ 1 index (recovers.EmptiesCell index owner) (load_leaves words (cell_word index))
+      by_bool (get_or words (cell_word index) 0 == owner) (λ is_owners. rw is_owners (inr (omega arith, inl (cell_leaves index empty, omega arith))))
+      (λ not_owners. rw not_owners (comes_fall 1 index (recovers.EmptiesCell index owner) (load_leaves words (cell_word index))
       (omega arith) (omega arith) (omega arith)))
   recover_falls (recovers.Raises index raises.LoadsCounter) stands = go (now == locked) refl (now == greatest) refl
     where
@@ -391,68 +398,61 @@ module _ {T : Type 0} (code : Coding T) (c : ℕ) (words : List ℕ) where
       stage = recovers.Raises index raises.LoadsCounter
 
       -- the cases are whether the counter is locked and whether the counter is at its end
-      go : (t : Bool) → (now == locked) ≡ t → (u : Bool) → (now == greatest) ≡ u → Shown (recover_at c stage)
-      go true t u e = rw t tt
-      go false t true u = rw (t, u) (comes_fall _ 1 index stage (load_leaves words 0) (omega arith) (omega arith) (omega arith))
-      go false t false u = let self = same_is now in rw (t, u) (inl (load_leaves words 0, rw self (omega arith), omega arith))
+      go : (t : Bool) → (now == locked) ≡ t → (u : Bool) → (now == greatest) ≡ u → NextStepFalls (recover_at c stage)
+      go true is_locked u end_test = rw is_locked tt
+      go false not_locked true at_end = rw (not_locked, at_end) (comes_fall 1 index stage (load_leaves words 0) (omega arith) (omega arith) (omega arith))
+      go false not_locked false below_end = let self = same_is now in rw (not_locked, below_end) (inl (load_leaves words 0, rw self (omega arith), omega arith))
   recover_falls (recovers.Raises index (raises.ExchangesCounter counter)) stands =
       go (now == counter) refl (now == locked) refl (now == greatest) refl (nat_lt (index + 1) c) refl
     where
       stage : RecoverStage
       stage = recovers.Raises index (raises.ExchangesCounter counter)
 
-      -- the cases are whether the counter is still what was read, whether the counter is locked, whether the counter is
-      -- at its end and whether a further index follows
+      -- the cases are whether the counter is still what was read, whether it is locked, whether it is at its
+      -- end, and whether an index follows
       go : (s : Bool) → (now == counter) ≡ s → (t : Bool) → (now == locked) ≡ t → (u : Bool) → (now == greatest) ≡ u
-          → (v : Bool) → nat_lt (index + 1) c ≡ v → Shown (recover_at c stage)
-      go true s t e u f true v =
+          → (v : Bool) → nat_lt (index + 1) c ≡ v → NextStepFalls (recover_at c stage)
+      go true unmoved t locked_test u end_test true has_next =
           let less : index + 2 ≤ c = grind (arith, nat_tests) in
-          rw (s, v) (inr (rw s (omega arith), inr (omega arith)))
-      go true s t e u f false v = rw (s, v) (inr (rw s (omega arith), inr (omega arith)))
-      go false s true t u e v f = rw (s, t) tt
-      go false s false t true u v e = rw (s, t, u) (comes_fall _ 1 index stage (load_leaves words 0) (omega arith) (rw s (omega arith)) (omega arith))
-      go false s false t false u v e = let self = same_is now in rw (s, t, u) (inl (load_leaves words 0, rw (self, s) (omega arith), omega arith))
+          rw (unmoved, has_next) (inr (rw unmoved (omega arith), inr (omega arith)))
+      go true unmoved t locked_test u end_test false is_last = rw (unmoved, is_last) (inr (rw unmoved (omega arith), inr (omega arith)))
+      go false moved true is_locked u end_test v next_test = rw (moved, is_locked) tt
+      go false moved false not_locked true at_end v next_test =
+          rw (moved, not_locked, at_end) (comes_fall 1 index stage (load_leaves words 0) (omega arith) (rw moved (omega arith)) (omega arith))
+      go false moved false not_locked false below_end v next_test =
+          let self = same_is now in rw (moved, not_locked, below_end) (inl (load_leaves words 0, rw (self, moved) (omega arith), omega arith))
   recover_falls (recovers.Locks index lock) stands = absurd stands
   recover_falls recovers.LoadsCounterAgain stands = tt
 
   -- the measure falls with each step of any call that does not lock
-  pub call_falls : (flight : RobustFlight) → CallStands c flight → Shown flight
+  pub call_falls : (flight : RobustFlight) → CallStands c flight → NextStepFalls flight
   call_falls (calls.Acquire run) at =
-      subst (λ n. Shown (acquire_at n run.given run.call.stage)) (sym at) (acquire_falls run.given run.call.stage)
+      rw at (acquire_falls run.given run.call.stage)
   call_falls (calls.Release run) at =
-      subst
-      (λ m. Shown (calls.Release (record {
-        call = run.call;
-        given = record { index = run.given.index; owner = run.given.owner; mode = m };
-        room = tt;
-      })))
-      (sym at.1)
-      (subst (λ n. Shown (release_at n run.given.index run.given.owner run.call.stage)) (sym at.0)
-      (release_falls run.given.index run.given.owner run.call.stage at.2))
-  call_falls (calls.Find run) at = subst (λ n. Shown (find_at n run.given run.call.stage)) (sym at) (find_falls run.given run.call.stage)
+      rw (at.1, at.0) (release_falls run.given.index run.given.owner run.call.stage at.2)
+  call_falls (calls.Find run) at = rw at (find_falls run.given run.call.stage)
   call_falls (calls.Recover run) at =
-      subst (λ m. Shown (calls.Recover (record { call = run.call; given = m; room = tt }))) (sym at.1)
-      (subst (λ n. Shown (recover_at n run.call.stage)) (sym at.0) (recover_falls run.call.stage at.2))
+      rw (at.1, at.0) (recover_falls run.call.stage at.2)
   call_falls (calls.BorrowedIndices run) at =
-      subst (λ n. Shown (borrowed_at n run.call.count)) (sym at) (borrowed_falls run.call.count)
+      rw at (borrowed_falls run.call.count)
   call_falls (calls.IsLocked run) at = tt
 
   -- ---- a decision
 
-  -- a find that is told a decision falls
+  -- the measure of a find falls with a decision
   find_decides : (owner : ℕ) (stage : FindStage) (said : Bool) → is_question (want_of code (flights.Robust (find_at c owner stage))) ≡ true
       → FallsIn M words words 0 (flights.Robust (find_at c owner stage))
       (after_of code (flights.Robust (find_at c owner stage)) (number_of said))
   find_decides owner (finds.LoadsCell index found) said due = absurd (cc)
   find_decides owner (finds.Asks index found) true due =
       by_bool (nat_lt (index + 1) c)
-      (λ u.
+      (λ has_next.
       let less : index + 2 ≤ c = grind (arith, nat_tests) in
-      rw u (inl (refl, omega arith, omega arith)))
-      (λ u. rw u tt)
+      rw has_next (inl (refl, omega arith, omega arith)))
+      (λ is_last. rw is_last tt)
   find_decides owner (finds.Asks index found) false due = tt
 
-  -- a recovery that does not lock and is told a decision falls
+  -- the measure of a recovery that does not lock falls with a decision
   recover_decides : (stage : RecoverStage) (said : Bool) → RecoverStands stage
       → is_question (want_of code (flights.Robust (recover_at c stage))) ≡ true
       → FallsIn M words words 0 (flights.Robust (recover_at c stage))
@@ -461,7 +461,7 @@ module _ {T : Type 0} (code : Coding T) (c : ℕ) (words : List ℕ) where
   recover_decides (recovers.LoadsCell index) said stands due = absurd (cc)
   recover_decides (recovers.Asks index owner) true stands due = inl (refl, omega arith, omega arith)
   recover_decides (recovers.Asks index owner) false stands due =
-      comes_fall _ 0 index (recovers.Asks index owner) refl (omega arith) (omega arith) (omega arith)
+      comes_fall 0 index (recovers.Asks index owner) refl (omega arith) (omega arith) (omega arith)
   recover_decides (recovers.EmptiesCell index owner) said stands due = absurd (cc)
   recover_decides (recovers.Raises index raises.LoadsCounter) said stands due = absurd (cc)
   recover_decides (recovers.Raises index (raises.ExchangesCounter counter)) said stands due = absurd (cc)
@@ -477,7 +477,7 @@ module _ {T : Type 0} (code : Coding T) (c : ℕ) (words : List ℕ) where
       → (◌≡◌ {A = Bool} (is_looking flight) true)
   never_asks = grind arith
 
-  -- any call that does not lock and is told a decision falls
+  -- the measure of any call that does not lock falls with a decision
   pub call_decides : (flight : RobustFlight) → CallStands c flight → Decided flight
   call_decides (calls.Acquire run) at said due = let looks = never_asks (calls.Acquire run) at due in absurd (cc)
   call_decides (calls.Release run) at said due = let looks = never_asks (calls.Release run) at due in absurd (cc)
@@ -485,6 +485,6 @@ module _ {T : Type 0} (code : Coding T) (c : ℕ) (words : List ℕ) where
       subst (λ n. Decided (find_at n run.given run.call.stage)) (sym at) (λ s d. find_decides run.given run.call.stage s d) said due
   call_decides (calls.Recover run) at said due =
       subst (λ m. Decided (calls.Recover (record { call = run.call; given = m; room = tt }))) (sym at.1)
-      (subst (λ n. Decided (recover_at n run.call.stage)) (sym at.0) (λ s d. recover_decides run.call.stage s at.2 d)) said due
+      (rw at.0 (λ s d. recover_decides run.call.stage s at.2 d)) said due
   call_decides (calls.BorrowedIndices run) at said due = let looks = never_asks (calls.BorrowedIndices run) at due in absurd (cc)
   call_decides (calls.IsLocked run) at said due = let looks = never_asks (calls.IsLocked run) at due in absurd (cc)

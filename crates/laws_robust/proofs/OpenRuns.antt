@@ -1,4 +1,5 @@
--- What holds of the machine of a robust set keeps to every turn of an open run, so it holds wherever such a run leads.
+-- Every turn of an open run keeps what holds of the machine of a robust set, so it holds wherever an open
+-- run leads. (In an open run no owner dies, and no decision is refused.)
 use Rattle.laws_robust.proofs.Names.{◌≡◌, ◌≢◌, slice_index, ℕ, Bool, true, not, Some, None, is_none}
 use Rattle.laws_robust.proofs.Names.{refl, subst, arith, greatest, ReleaseMode, Container}
 use Rattle.laws_robust.proofs.Names.{Flight, Party, Idle, Undecided, Turn, Begin, Next, Decide, Die, Coding}
@@ -26,98 +27,106 @@ use Rattle.laws_robust.proofs.Invariant.{outline, family_by}
 use Rattle.laws_robust.proofs.Living.{steps_leave}
 use Rattle.laws_robust.proofs.Sound.{May, laws_by, all_turns, decides, MayDecideIn}
 
--- ---- what a turn has that an open run takes
+-- ---- the conditions of a turn that an open run takes
 
 module _ {T : Type 0} where
   -- a begin that an open run does not refuse may start
   starts_open : (w : World T) (p : ℕ) (start : Start T) → open_refusal w (Begin p start) ≡ None → MayStart w p start
-  starts_open w p (Container (Recover owner mode)) e =
+  starts_open w p (Container (Recover owner mode)) not_refused =
       let start : Start T = Container (Recover owner mode) in
-      let free = row_passed (is_some (flight_in w p)) Busy _ e in
+      let free = row_passed (is_some (flight_in w p)) Busy _ not_refused in
       let call = row_passed (is_none (first_of w.kind w.capacity start w.kept)) WrongCall None free.1 in
       record { free = not_some (flight_in w p) free.0; call = call.0 }
-  starts_open w p start e = possible_on w (Begin p start) e
+  starts_open w p start not_refused = possible_on w (Begin p start) not_refused
 
   -- a turn that an open run does not refuse is possible
   pub possible_open : (w : World T) (turn : Turn T) → open_refusal w turn ≡ None → IsPossible w turn
-  possible_open w (Begin p start) e = starts_open w p start e
-  possible_open w (Next p) e = possible_on w (Next p) e
-  possible_open w (Decide p said) e =
-      let some = row_passed (is_none (flight_in w p)) Idle _ e in
+  possible_open w (Begin p start) not_refused = starts_open w p start not_refused
+  possible_open w (Next p) not_refused = possible_on w (Next p) not_refused
+  possible_open w (Decide p said) not_refused =
+      let some = row_passed (is_none (flight_in w p)) Idle _ not_refused in
       let due = row_passed (not (is_due w.coding (flight_in w p))) Undecided None some.1 in
       let flies = not_none (flight_in w p) some.0 in
       (record { flight = flies.0; is = flies.1 }, frame.is_true (is_due w.coding (flight_in w p)) due.0)
-  possible_open w (Die owner) e = absurd (cc)
+  possible_open w (Die owner) not_refused = absurd (cc)
 
+-- the machine of the robust set, with owners gone by what recoveries are told
 module _ {T : Type 0} (code : Coding T) (c : ℕ) where
   abbrev Sound : Trace T → Type 0
   Sound t = frame.Sound (family_by Word code c) t
 
-  -- ---- a decision, whoever lives
+  -- ---- in an open run each decision may be taken
 
-  may_decide : (t : Trace T) (s : Sound t) (p : ℕ) (x : Party T) (since : ℕ)
+  -- a decision may be made in an open run, whatever it says
+  may_decide : {t : Trace T} (s : Sound t) (p : ℕ) (x : Party T) (since : ℕ)
       (found : party_of p t.world.latest ≡ Some x) (flight : Flight T) (said : Bool)
       → MayDecideIn Word code c t s p x since found flight said
-  may_decide t s p x since found (flights.Robust flight) said = tt
-  may_decide t s p x since found flight said = tt
+  may_decide s p x since found (flights.Robust flight) said = tt
+  may_decide s p x since found flight said = tt
 
+  -- a decision that the open run does not refuse is due
   may_decide_open : (w : World T) (p : ℕ) (said : Bool) → open_refusal w (Decide p said) ≡ None → is_due w.coding (flight_in w p) ≡ true
-  may_decide_open w p said e = let may : MayGoOn w p × (is_due w.coding (flight_in w p) ≡ true) = possible_open w (Decide p said) e in may.1
+  may_decide_open w p said not_refused = let may : MayGoOn w p × (is_due w.coding (flight_in w p) ≡ true) = possible_open w (Decide p said) not_refused in may.1
 
   -- ---- any turn
 
-  goes_by_rows : (t : Trace T) (turn : Turn T) → call_refusal t.world turn ≡ None → Sound t → Sound (after_turn t turn)
-  goes_by_rows t turn r sound = frame.turn_sound (family_by Word code c) (λ u turn. Unit {0}) (laws_by Word code c) t turn r tt sound
+  -- a turn that the rows of a machine whose owners die do not refuse keeps the invariant
+  goes_by_rows : {t : Trace T} (turn : Turn T) → call_refusal t.world turn ≡ None → Sound t → Sound (after_turn t turn)
+  goes_by_rows {t = t} turn not_refused sound = frame.turn_sound (family_by Word code c) (λ u turn. Unit {0}) (laws_by Word code c) t turn not_refused tt sound
 
-  -- no call of a container begins on it
-  no_container : {A : Type 0} (t : Trace T) → Sound t → (p owner : ℕ) (mode : ReleaseMode)
+  -- no call of a container begins on a robust set
+  no_container : {A : Type 0} {t : Trace T} → Sound t → (p owner : ℕ) (mode : ReleaseMode)
       → open_refusal t.world (Begin p (Container (Recover owner mode))) ≡ None → A
-  no_container t sound p owner mode e = grind arith
+  no_container sound p owner mode not_refused = grind arith
 
   -- a turn that an open run does not refuse leaves the machine sound
   pub open_turn_sound : (t : Trace T) (turn : Turn T) → open_refusal t.world turn ≡ None → Sound t → Sound (after_turn t turn)
-  open_turn_sound t (Begin p (Container (Recover owner mode))) e sound = no_container t sound p owner mode e
-  open_turn_sound t (Begin p start) e sound = goes_by_rows t (Begin p start) e sound
-  open_turn_sound t (Next p) e sound = goes_by_rows t (Next p) e sound
-  open_turn_sound t (Die owner) e sound = absurd (cc)
-  open_turn_sound t (Decide p said) e sound =
-      let due : is_due code (flight_in t.world p) ≡ true = subst (λ y. is_due y (flight_in t.world p) ≡ true) sound.coding (may_decide_open t.world p said e) in
+  open_turn_sound t (Begin p (Container (Recover owner mode))) not_refused sound = no_container sound p owner mode not_refused
+  open_turn_sound t (Begin p start) not_refused sound = goes_by_rows (Begin p start) not_refused sound
+  open_turn_sound t (Next p) not_refused sound = goes_by_rows (Next p) not_refused sound
+  open_turn_sound t (Die owner) not_refused sound = absurd (cc)
+  open_turn_sound t (Decide p said) not_refused sound =
+      let due : is_due code (flight_in t.world p) ≡ true =
+      subst (λ y. is_due y (flight_in t.world p) ≡ true) sound.coding (may_decide_open t.world p said not_refused) in
       let F = family_by Word code c in
       frame.decision_sound F t p said sound (λ x flight since u.
       decides_from F t sound p x since said sound.state.words (registries.Owners sound.state.dead) flight sound.fit.words sound.fit.kept
-      (decides Word code c t sound p x since u.found tt said x.start flight (may_decide t sound p x since u.found flight said)
+      (decides Word code c t sound p x since u.found tt said (may_decide sound p x since u.found flight said)
       (subst (λ o. is_due code o ≡ true) u.is due) (stands_there F t sound p x since flight u.found u.doing)))
       (party_of p t.world.latest) refl
 
 -- ---- whole runs
 
 module _ {T : Type 0} where
-  -- whatever the order of the turns, and however many there were
+  -- wherever an open run leads the invariant holds, whatever the order of the turns, and
+  -- however many there were
   pub reached_open_sound : (t : Trace T) → t.world.kind ≡ kinds.Robust → IsReachedOpen t
       → frame.Sound (family_by Word t.world.coding t.world.capacity) t
-  reached_open_sound t is reached_open =
+  reached_open_sound t kind_is reached_open =
       let world = t.world in
       kept_by open_refusal (frame.Sound (family_by Word world.coding world.capacity))
       (λ u turn e s. open_turn_sound world.coding world.capacity u turn e s) t
-      (opening_there (outline Word) (May Word) (all_turns Word) t is reached_open.coded reached_open.admitted) reached_open
+      (opening_there (outline Word) (May Word) (all_turns Word) t kind_is reached_open.coded reached_open.admitted) reached_open
 
   -- in an open run nobody dies
   pub reached_open_lives : (t : Trace T) → t.world.kind ≡ kinds.Robust → IsReachedOpen t → AllLive t.events
-  reached_open_lives t is reached_open =
+  reached_open_lives t kind_is reached_open =
       let code = t.world.coding in
       let c = t.world.capacity in
       (kept_by open_refusal (λ u. frame.Sound (family_by Word code c) u × AllLive u.events)
       (λ u turn e h. (open_turn_sound code c u turn e h.0, all_live_on u (steps_leave code c u h.0) turn e h.1)) t
-      (opening_there (outline Word) (May Word) (all_turns Word) t is reached_open.coded reached_open.admitted, λ owner. refl) reached_open).1
+      (opening_there (outline Word) (May Word) (all_turns Word) t kind_is reached_open.coded reached_open.admitted, λ owner. refl) reached_open).1
 
-  open_kept : (code : Coding T) (t : Trace T) → frame.Sound (family_by Word code t.world.capacity) t → AllLive t.events → IsOpenSet t
-  open_kept code t sound lives =
+  -- the invariant gives what is promised of an open set
+  open_kept : (code : Coding T) {t : Trace T} → frame.Sound (family_by Word code t.world.capacity) t → AllLive t.events → IsOpenSet t
+  open_kept code sound lives =
       let kept = sound.fit.kept in
       let words = sound.fit.words in
       grind arith
 
+  -- wherever an open run leads, what is promised of an open set holds
   pub reached_open_kept : (t : Trace T) → t.world.kind ≡ kinds.Robust → IsReachedOpen t → IsOpenSet t
-  reached_open_kept t is reached_open = open_kept t.world.coding t (reached_open_sound t is reached_open) (reached_open_lives t is reached_open)
+  reached_open_kept t kind_is reached_open = open_kept t.world.coding (reached_open_sound t kind_is reached_open) (reached_open_lives t kind_is reached_open)
 
   -- In an honest run whose counter is not at its end the answers are those of a machine whose owners die.
   pub open_answers : (t : Trace T) → IsOpenSet t → IsHonest t.events → slice_index t.world.words 0 ≢ greatest → Each (AnswersRight t.world.capacity) t.events
@@ -125,5 +134,6 @@ module _ {T : Type 0} where
 
   -- ---- one turn more
 
+  -- a turn that is not refused leads from an open run to an open run
   pub reached_open_more : (t : Trace T) (turn : Turn T) → open_refusal t.world turn ≡ None → IsReachedOpen t → IsReachedOpen (after_turn t turn)
-  reached_open_more t turn e reached_open = reached_by_more open_refusal t turn e reached_open
+  reached_open_more t turn not_refused reached_open = reached_by_more open_refusal t turn not_refused reached_open

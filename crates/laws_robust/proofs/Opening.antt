@@ -6,17 +6,19 @@ use Rattle.laws_robust.specs.Gone.{GoneBy}
 use Rattle.laws_robust.proofs.Core.{cell}
 use Rattle.laws_robust.proofs.Invariant.{Good}
 
+-- each place of a list of equal numbers has this number
 pub all_the_same : (x n i : ℕ) → i < n → get_or (replicate n x) i 0 ≡ x
 all_the_same x zero i below = absurd (omega arith)
 all_the_same x (suc n) zero below = refl
 all_the_same x (suc n) (suc i) below = all_the_same x n i (omega arith)
 
+-- each cell opens empty
 pub opening_cell : (c i : ℕ) → i < c → cell (opening_words c) i ≡ empty
 opening_cell = grind (arith, suc, opening_words, all_the_same, empty)
 
--- the opening is a set in which no index is filled and nobody has died
-pub opening_good : {T : Type 0} (by : GoneBy) (c : ℕ) → 1 ≤ c → c < 2 ^ 32 → Good {T = T} by c (opening_words c) [] [] 0
-opening_good by c some few =
+-- in the opening the invariant holds: no index is filled, and nobody has died
+pub opening_good : {T : Type 0} {by : GoneBy} {c : ℕ} → 1 ≤ c → c < 2 ^ 32 → Good {T = T} by c (opening_words c) [] [] 0
+opening_good {c = c} some few =
     let long = length-replicate {A = ℕ} c empty in
     record {
       some = some;
@@ -34,5 +36,6 @@ opening_good by c some few =
       holds = λ calm. Each-nil _;
     }
 
+-- a capacity that is admitted is at least 1 and below 2 ^ 32
 pub admitted_is : (c : ℕ) → capacity_error kinds.Robust c ≡ None → (1 ≤ c) × (c < 2 ^ 32)
-admitted_is c e = grind arith
+admitted_is c capacity_fits = grind arith

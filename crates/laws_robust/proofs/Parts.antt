@@ -1,5 +1,6 @@
--- The steps of the parts that calls of a robust index set are made of: a raise of the counter, a count and a lock. What a
--- step leads to is what the caller makes of it, of the operation, of whether it turns back, and of how the part goes on.
+-- The steps of the three parts of which calls of a robust index set are made: a raise of the counter, a count
+-- of filled cells, and a lock. `Lead ask back r` is what the call has to show of a step with the operation
+-- `ask`, after which the part is as `r` says; the lemmas say that each step of the part is so.
 use Rattle.laws_robust.proofs.Names.{eq-eqb, ◌≡◌, ◌≢◌, ℕ, ◌+◌, ◌*◌, ◌<◌, ◌≤◌, ◌==◌, ◌&&◌, ⊎_elim, inl, if◌then◌else◌}
 use Rattle.laws_robust.proofs.Names.{nat_lt, Bool, true, false, not, Option, Some, None, List, [], ◌∷◌, set, refl}
 use Rattle.laws_robust.proofs.Names.{sym, ap, subst, ◌∙◌, arith, ne_eqb, cases_lt, nat_tests, Ask, After, GoOn, Done}
@@ -23,57 +24,64 @@ use Rattle.laws_robust.proofs.CallProgress.{raise_number, count_number, lock_num
 use Rattle.laws_robust.proofs.Stages.{loads, exchanges, loads_same, fails_same, exchange_sets, backs_then, now, sees, paid_of, paid_back, holds_on}
 use Rattle.laws_robust.proofs.Cases.{by_bool, on_bool}
 
+-- the operation of the next step of a raise
 abbrev pub raise_ask : Raise → Ask
 raise_ask raises.LoadsCounter = loads 0
 raise_ask (raises.ExchangesCounter counter) = exchanges 0 counter (one_more counter)
 
+-- the operation of the next step of a count
 abbrev pub count_ask : Count → Ask
 count_ask counts.LoadsCounter = loads 0
 count_ask (counts.LoadsCell counter index filled) = loads (cell_word index)
 count_ask (counts.ExchangesCounter counter filled) =
     exchanges 0 counter (one_more counter)
 
+-- the operation of the next step of a lock
 abbrev pub lock_ask : Lock → Ask
 lock_ask (locks.Counts count) = count_ask count
 lock_ask (locks.ExchangesCounter counter) = exchanges 0 counter locked
 
+-- a number whose test answers true is 0
 zero_if : (n : ℕ) → ((n == 0) && true) ≡ true → n ≡ 0
 zero_if n t = grind arith
 
+-- a number that is not 0 is positive
 more_if : (n : ℕ) → ((n == 0) && true) ≡ false → 0 < n
 more_if n t = grind arith
 
--- where the counter is at its end none locks
+-- where the counter is at its end, nothing is locked
 none_locks : {X : Type 0} (P : X → Type 0) (a b : X) (zero last : Bool) → last ≡ true → P b → P (if zero && not last then a else b)
 none_locks h a b zero last is_last k = grind arith
 
+-- `c` is the capacity, `ws` the words before the step, `p` the party
 module _ {T : Type 0} (scene : Scene T) (inv : Inv scene) where
   open scene use {by as by, capacity as c, party as p, steps as steps, backs as backs, turns as turns, events as events}
 
+  -- the words of the set before the step
   abbrev ws : List ℕ
   ws = scene.set.words
 
-  g : Good by c ws scene.set.dead events turns
-  g = inv.good
+  good_before : Good by c ws scene.set.dead events turns
+  good_before = inv.good
 
-  -- nobody holds an index that is not filled
+  -- an index that is not filled is held by nobody, in a well-formed and honest run
   pub none_holds : IsCalm by events → (i : ℕ) → filled_of i events ≡ None → holder_of i events ≡ None
   none_holds calm i none = grind arith
 
-  -- none that is not of the set is filled
+  -- no index beyond the capacity is filled
   pub none_beyond : (i : ℕ) → c ≤ i → filled_of i events ≡ None
-  none_beyond i more = let by_g = g in grind arith
+  none_beyond i more = let by_g = good_before in grind arith
 
-  -- the counter has a number that was held, so it is before its end
+  -- a counter that still has the number that the call found is before its end
   pub before_end : (number : ℕ) → counter_of ws ≡ number → Holding number (now scene) → counter_of ws < greatest
-  before_end number is holding = let less = holding.before_end in omega arith
+  before_end number counter_is holding = let less = holding.before_end in omega arith
 
   -- the exchange of the counter for the next number
   pub raised : (number : ℕ) → counter_of ws ≡ number → Holding number (now scene)
       → words_after ws (Some (exchanges 0 number (one_more number))) ≡ set ws 0 (counter_of ws + 1)
   raised = grind (arith, one_more, exchange_sets, set)
 
-  -- the counter that a call finds
+  -- a call holds the counter that it has found, where that is open and below its end
   pub finds_counter : (ask : Option Ask) (back : Bool) → words_after ws ask ≡ ws → counter_of ws ≢ locked
       → counter_of ws ≢ greatest → IsPaid (sees scene ask back) → Holding (counter_of ws) (sees scene ask back)
   finds_counter ask back same open_now other paid = grind arith
@@ -81,66 +89,75 @@ module _ {T : Type 0} (scene : Scene T) (inv : Inv scene) where
   -- ---- a raise
 
   module _ (Lead : Option Ask → Bool → After Raise ReleaseState → Type 0) where
-    -- how many steps more the part has taken then, at n before it and w for a turn back
+    -- a bound of the call's steps with the raise's own number holds after this step with `number` in its place
     abbrev pub RaiseSteps : Raise → ℕ → Option Ask → Bool → Type 0
     RaiseSteps raise number ask back =
         (n w : ℕ) → 1 ≤ w → steps ≤ n + raise_number raise + backs * w → steps + step_count ask ≤ n + number + backs_then scene back * w
 
+    -- what the call has to show of a step of the raise that goes on, and then holds the
+    -- counter that it has found
     abbrev pub RaiseGoes : Raise → Type 0
     RaiseGoes raise =
         (number : ℕ) (ask : Option Ask) (back : Bool) → words_after ws ask ≡ ws
         → Holding number (sees scene ask back) → RaiseSteps raise 1 ask back
         → Lead ask back (GoOn (raises.ExchangesCounter number))
 
+    -- what the call has to show of a step that finds the set locked
     abbrev pub RaiseMeets : Raise → Type 0
     RaiseMeets raise =
         (ask : Option Ask) (back : Bool) → words_after ws ask ≡ ws → counter_of ws ≡ locked
         → IsPaid (sees scene ask back) → RaiseSteps raise 2 ask back
         → Lead ask back (Done states.Locked)
 
-    -- the counter is at its end, and stays
+    -- what the call has to show of a step that finds the counter at its end, where it stays
     abbrev pub RaiseStays : Raise → Type 0
     RaiseStays raise =
         (ask : Option Ask) (back : Bool) → words_after ws ask ≡ ws → IsWorn by ws → counter_of ws ≡ greatest
         → IsPaid (sees scene ask back) → RaiseSteps raise 2 ask back
         → Lead ask back (Done states.Unlocked)
 
+    -- what the call has to show of a step that has raised the counter
     abbrev pub RaiseEnds : Raise → Type 0
     RaiseEnds raise =
         (ask : Option Ask) → counter_of ws < greatest → words_after ws ask ≡ set ws 0 (counter_of ws + 1)
         → IsPaid (sees scene ask false) → RaiseSteps raise 2 ask false
         → Lead ask false (Done states.Unlocked)
 
+    -- a step of the raise that finds a counter shows it
     raise_finds : (raise : Raise) → RaiseGoes raise → RaiseMeets raise → RaiseStays raise
         → (ask : Option Ask) (back : Bool) → words_after ws ask ≡ ws → IsPaid (sees scene ask back)
         → RaiseSteps raise 1 ask back → Lead ask back (raise_sees (counter_of ws))
     raise_finds raise goes meets rests ask back same paid few = let by_finds_counter = finds_counter in grind arith
 
-    -- each step of a raise leads to what the caller makes of it
+    -- each step of a raise is as `Lead` asks, where each form of such a step is (`RaiseGoes` and the others)
     pub raise_step : (raise : Raise) → Paid (raise_holds raise) (now scene) → RaiseGoes raise → RaiseMeets raise → RaiseStays raise → RaiseEnds raise
         → Lead (Some (raise_ask raise)) (raise_goes_back raise (counter_of ws)) (raise_after raise (counter_of ws))
     raise_step raises.LoadsCounter paid goes meets rests closes =
         raise_finds raises.LoadsCounter goes meets rests (Some (loads 0)) false (loads_same ws 0) (omega arith) (λ n w some low. omega arith)
     raise_step (raises.ExchangesCounter number) paid goes meets rests closes = go (counter_of ws == number) refl
       where
+        -- the cases are whether the counter is still the number that the raise has found
         go : (b : Bool) → (counter_of ws == number) ≡ b
             → Lead (Some (exchanges 0 number (one_more number))) (not b)
             (if b then Done states.Unlocked else raise_sees (counter_of ws))
         go = grind (arith, paid_of, exchanges, one_more, before_end, raised, raise_finds, fails_same, paid_back, nat_tests)
 
-  -- ---- the counter that a count has loaded, which it holds unless that is at its end
+  -- ---- the counter that a count has loaded, which it holds unless the counter is at its end
 
+  -- what is paid for, unless the counter is the last, is paid for
   still_paid : (number : ℕ) → Paid (unless_last number) (now scene) → IsPaid (now scene)
   still_paid number paid = grind arith
 
+  -- a step that leaves the counter keeps paid what was paid
   still_held : (number : ℕ) (ask : Option Ask) → counter_of (words_after ws ask) ≡ counter_of ws
       → Paid (unless_last number) (now scene) → Paid (unless_last number) (sees scene ask false)
   still_held number ask same paid = grind arith
 
+  -- a count whose counter is not the greatest holds it
   holds_one : (number : ℕ) → number ≢ greatest → Paid (unless_last number) (now scene) → Holding number (now scene)
   holds_one = grind (arith, now, ne_eqb, greatest)
 
-  -- a count that finds the counter open holds it, unless it is at its end
+  -- a count that finds the counter open holds it, unless the counter is at its end
   found_held : (ask : Option Ask) → words_after ws ask ≡ ws → counter_of ws ≢ locked → IsPaid (sees scene ask false)
       → Paid (unless_last (counter_of ws)) (sees scene ask false)
   found_held ask same open_now paid =
@@ -148,43 +165,47 @@ module _ {T : Type 0} (scene : Scene T) (inv : Inv scene) where
       (λ t. paid)
       (λ t. let other : counter_of ws ≢ greatest = grind (arith, nat_tests) in finds_counter ask false same open_now other paid)
 
-  -- ---- a count, which says this where it has come to so many cells and found so many filled
+  -- ---- a count that has come to `k` cells and found `filled` of them filled says `Says k filled`
 
-  -- it is so before the first cell, and goes on to be so past an empty cell and past a filled one
+  -- `Says` holds before the first cell, and goes on to hold past an empty cell and past a filled one
   pub record IsSaid (Says : ℕ → ℕ → Type 0) : Type 0 where
     pub none : Says 0 0
     pub empty_next : (k filled : ℕ) → k < c → filled_of k events ≡ None → Says k filled → Says (k + 1) filled
     pub filled_next : (k filled owner : ℕ) → k < c → filled_of k events ≡ Some owner → Says k filled → Says (k + 1) (filled + 1)
 
-  -- nobody holds an index, where none is found filled
+  -- where no cell was found filled, nobody holds an index that the count has come to
   abbrev pub NoneHeld : ℕ → ℕ → Type 0
   NoneHeld k filled = filled ≡ 0 → IsCalm by events → (i : ℕ) → i < k → holder_of i events ≡ None
 
+  -- the count says `Says`
   module _ (Says : ℕ → ℕ → Type 0) (said : IsSaid Says) where
     module _ (Lead : Option Ask → Bool → After Count Counted → Type 0) where
+      -- a bound of the call's steps with the count's own number holds after this step with `number` in its place
       abbrev pub CountSteps : Count → ℕ → Option Ask → Bool → Type 0
       CountSteps count number ask back =
           (n w : ℕ) → c + 2 ≤ w → steps ≤ n + count_number c count + backs * w → steps + step_count ask ≤ n + number + backs_then scene back * w
 
+      -- what the call has to show of a step of the count that goes on
       abbrev pub CountGoes : Count → Type 0
       CountGoes count =
           (next : Count) (ask : Option Ask) (back : Bool) → words_after ws ask ≡ ws → CountAt c next
           → Paid (count_holds next) (sees scene ask back) → Scanned (count_scan c next) (sees scene ask back)
           → CountSays c Says next → CountSteps count (count_number c next) ask back → Lead ask back (GoOn next)
 
+      -- what the call has to show of a step that finds the set locked
       abbrev pub CountMeets : Count → Type 0
       CountMeets count =
           (ask : Option Ask) → words_after ws ask ≡ ws → counter_of ws ≡ locked → IsPaid (sees scene ask false)
           → CountSteps count (2 + c) ask false → Lead ask false (Done ends.Locked)
 
-      -- all cells are loaded, and the counter is at its end
+      -- what the call has to show of a step after which all cells are loaded, and the counter is at its end
       abbrev pub CountStays : Count → Type 0
       CountStays count =
           (filled : ℕ) (ask : Option Ask) → words_after ws ask ≡ ws → IsWorn by ws → counter_of ws ≡ greatest
           → filled ≤ c → Says c filled → IsPaid (sees scene ask false) → CountSteps count (2 + c) ask false
           → Lead ask false (Done (ends.Filled filled greatest))
 
-      -- all cells are loaded, and the counter is moved on by the count
+      -- what the call has to show of a step after which all cells are loaded, and which moves the counter on
       abbrev pub CountEnds : Count → Type 0
       CountEnds count =
           (filled : ℕ) (ask : Option Ask) → counter_of ws < greatest
@@ -192,8 +213,8 @@ module _ {T : Type 0} (scene : Scene T) (inv : Inv scene) where
           → IsPaid (sees scene ask false) → CountSteps count
           (2 + c) ask false → Lead ask false (Done (ends.Filled filled (counter_of ws + 1)))
 
-      -- the next cell, or the end of the count, of which this is known
-      module _ (number k filled new : ℕ) (goes : CountGoes (counts.LoadsCell number k filled))
+      -- the count has loaded the cell `k`, and `new` cells are now found filled
+      module _ (number k filled : ℕ) {new : ℕ} (goes : CountGoes (counts.LoadsCell number k filled))
           (rests : CountStays (counts.LoadsCell number k filled)) (below : k < c) (few : new ≤ k + 1)
           (held : Paid (unless_last number) (now scene)) (least : number ≤ counter_of ws)
           (at_end : number ≡ greatest → counter_of ws ≡ greatest) (says : Says (k + 1) new)
@@ -201,16 +222,19 @@ module _ {T : Type 0} (scene : Scene T) (inv : Inv scene) where
         abbrev ask : Option Ask
         ask = Some (loads (cell_word k))
 
+        -- the load leaves the words
         same : words_after ws ask ≡ ws
         same = loads_same ws (cell_word k)
 
+        -- the load leaves the counter
         same_counter : counter_of (words_after ws ask) ≡ counter_of ws
         same_counter = ap counter_of same
 
+        -- the number that the count began with is at most the counter after the step
         low : number ≤ counter_of (words_after ws ask)
         low = omega (arith, same_counter)
 
-        -- a count that has come to one cell more goes to the next, or to its end
+        -- the count goes on to the next cell, or ends
         count_comes : Lead ask false (count_comes_to c number (k + 1) new)
         count_comes =
             by_test (Lead ask false) (nat_lt (k + 1) c) (GoOn (counts.LoadsCell number (k + 1) new)) _
@@ -223,24 +247,24 @@ module _ {T : Type 0} (scene : Scene T) (inv : Inv scene) where
             let last : c ≡ k + 1 = grind (arith, nat_tests) in
             let paid : IsPaid (now scene) = still_paid number held in
             by_eq (Lead ask false) number greatest (Done (ends.Filled new number)) (GoOn (counts.ExchangesCounter number new))
-            (λ end. subst (λ m. Lead ask false (Done (ends.Filled new m))) (sym end)
-            (rests new ask same (worn_at by ws inv.room (at_end end)) (at_end end) (omega arith)
-            (subst (λ m. Says m new) (sym last) says) (omega arith) (λ n w some bound. omega arith)))
+            (λ end. rw end (rests new ask same (worn_at by ws inv.room (at_end end)) (at_end end) (omega arith)
+            (rw last says) (omega arith) (λ n w some bound. omega arith)))
             (λ other. goes (counts.ExchangesCounter number new) ask false same (omega arith)
             (holds_on scene number ask events same_counter (holds_one number other held)) (
               low,
               λ end. same_counter ∙ at_end end,
               λ before zero is calm i behind. none before zero (sym same_counter ∙ is) calm i (omega arith),
-            ) (subst (λ m. Says m new) (sym last) says) (λ n w some bound. omega arith)))
+            ) (rw last says) (λ n w some bound. omega arith)))
 
-      -- each step of a count leads to what the caller makes of it
+      -- each step of a count is as `Lead` asks, where each form of such a step is
+      -- (`CountGoes` and the others)
       pub count_step : (count : Count) → CountAt c count → Paid (count_holds count) (now scene)
           → Scanned (count_scan c count) (now scene) → CountSays c Says count → CountGoes count → CountMeets count
           → CountStays count → CountEnds count
           → Lead (Some (count_ask count)) (count_goes_back count (old_of ws (Some (count_ask count))))
           (count_after c count (old_of ws (Some (count_ask count))))
       count_step counts.LoadsCounter at paid scanned says goes meets rests closes =
-          let some = g.some in
+          let some = good_before.some in
           let same = loads_same ws 0 in
           let same_counter : counter_of (words_after ws (Some (loads 0))) ≡ counter_of ws = ap counter_of same in
           by_eq (Lead (Some (loads 0)) false) (counter_of ws) locked (Done ends.Locked) _
@@ -256,7 +280,7 @@ module _ {T : Type 0} (scene : Scene T) (inv : Inv scene) where
           let is : cell ws k ≡ empty = grind (arith, nat_tests) in
           let none = filled_none scene inv k at.0 is in
           let few = at.1 in
-          count_comes number k filled filled goes rests at.0 (omega arith) paid scanned.0 scanned.1 (said.empty_next k filled at.0 none says)
+          count_comes number k filled goes rests at.0 (omega arith) paid scanned.0 scanned.1 (said.empty_next k filled at.0 none says)
           (λ before zero is calm i less. ⊎_elim (λ earlier. scanned.2 before zero is calm i earlier)
           (λ last. let here : i ≡ k = omega arith in none_holds calm i (ap (λ j. filled_of j events) here ∙ none))
           (cases_lt i k)))
@@ -265,10 +289,10 @@ module _ {T : Type 0} (scene : Scene T) (inv : Inv scene) where
           let some = filled_some scene inv k at.0 other in
           let few = at.1 in
           let below = at.0 in
-          let most = g.few in
+          let most = good_before.few in
           let next : one_more filled ≡ filled + 1 = omega arith in
           subst (λ m. Lead (Some (loads (cell_word k))) false (count_comes_to c number (k + 1) m)) (sym next)
-          (count_comes number k filled (filled + 1) goes rests at.0 (omega arith) paid scanned.0 scanned.1
+          (count_comes number k filled goes rests at.0 (omega arith) paid scanned.0 scanned.1
           (said.filled_next k filled (cell ws k) at.0 some.1 says)
           (λ before zero is calm i less. absurd (omega arith))))
       count_step (counts.ExchangesCounter number filled) at paid scanned says goes meets rests closes =
@@ -292,60 +316,65 @@ module _ {T : Type 0} (scene : Scene T) (inv : Inv scene) where
     -- ---- a lock
 
     module _ (Lead : Option Ask → Bool → List (Event T) → After Lock ReleaseState → Type 0) where
+      -- a bound of the call's steps with the lock's own number holds after this step with `number` in its place
       abbrev pub LockSteps : Lock → ℕ → Option Ask → Bool → Type 0
       LockSteps lock number ask back =
           (n w : ℕ) → c + 3 ≤ w → steps ≤ n + lock_number c lock + backs * w → steps + step_count ask ≤ n + number + backs_then scene back * w
 
+      -- what the call has to show of a step of the lock that goes on
       abbrev pub LockGoes : Lock → Type 0
       LockGoes lock =
           (next : Lock) (ask : Option Ask) (back : Bool) → Stays scene (words_after ws ask) → LockAt c next
           → Paid (lock_holds next) (sees scene ask back) → Scanned (lock_scan c next) (sees scene ask back)
           → LockSays c Says next → LockSteps lock (lock_number c next) ask back → Lead ask back [] (GoOn next)
 
-      -- the set is locked
+      -- what the call has to show of a step that finds the set locked
       abbrev pub LockMeets : Lock → Type 0
       LockMeets lock =
           (ask : Option Ask) → words_after ws ask ≡ ws → counter_of ws ≡ locked → IsPaid (sees scene ask false)
           → LockSteps lock (3 + c) ask false → Lead ask false [] (Done states.Locked)
 
-      -- an index is filled
+      -- what the call has to show of a step that has found an index filled, so that the set stays open
       abbrev pub LockFinds : Lock → Type 0
       LockFinds lock =
           (filled : ℕ) (ask : Option Ask) → Stays scene (words_after ws ask) → counter_of ws ≢ locked → 0 < filled
           → Says c filled → IsPaid (sees scene ask false) → LockSteps lock (3 + c) ask false
           → Lead ask false [] (Done states.Unlocked)
 
-      -- the counter is at its end, where no set is locked
+      -- what the call has to show of a step that finds the counter at its end, where no set is locked
       abbrev pub LockStays : Lock → Type 0
       LockStays lock =
           (ask : Option Ask) → Stays scene (words_after ws ask) → counter_of ws ≢ locked
           → IsWorn by (words_after ws ask) → IsPaid (sees scene ask false) → LockSteps lock (3 + c) ask false
           → Lead ask false [] (Done states.Unlocked)
 
-      -- it locks the set
+      -- what the call has to show of a step that locks the set
       abbrev pub LockLocks : Lock → Type 0
       LockLocks lock =
           (ask : Option Ask) → (IsCalm by events → (i : ℕ) → holder_of i events ≡ None) → counter_of ws < greatest
           → words_after ws ask ≡ set ws 0 locked → IsPaid (sees scene ask false) → LockSteps lock (3 + c) ask false
           → Lead ask false (Locked p ∷ []) (Done states.Locked)
 
-      -- the count is closed
+      -- the count of the lock has ended
       module _ (count : Count) (goes : LockGoes (locks.Counts count))
           (finds : LockFinds (locks.Counts count))
           (rests : LockStays (locks.Counts count)) where
-        -- a count that ends within a lock leads to what the caller makes of the lock
+        -- where the count of a lock ends, the step leads the call on as the call shows of the
+        -- forms of a lock's step
         counted : CountEnds (λ ask back r. Lead ask back [] (lock_counted r)) count
         counted filled ask less new most says none paid few =
             by_bool (counter_of ws + 1 == greatest)
-            (λ t.
+            -- the counter comes to its end, where nothing is locked
+            (λ comes_to_end.
             let last : counter_of ws + 1 ≡ greatest = grind (arith, nat_tests) in
             none_locks (Lead ask false []) (GoOn (locks.ExchangesCounter (counter_of ws + 1)))
-            (Done states.Unlocked) (filled == 0) (counter_of ws + 1 == greatest) t
+            (Done states.Unlocked) (filled == 0) (counter_of ws + 1 == greatest) comes_to_end
             (rests ask stays (not_shut scene inv less)
             (worn_then by ws (words_after ws ask) inv.room last (is ∙ last)) paid
             (λ n w more bound. let next = few n w (omega arith) bound in omega arith)))
-            (λ t.
-            let other : not (counter_of ws + 1 == greatest) ≡ true = ap not t in
+            -- the counter is before its end: the lock is tried if no cell was found filled
+            (λ goes_on.
+            let other : not (counter_of ws + 1 == greatest) ≡ true = ap not goes_on in
             let differs : counter_of ws + 1 ≢ greatest = grind (arith, nat_tests) in
             let same = is in
             let low : counter_of ws + 1 ≤ counter_of (words_after ws ask) = omega arith in
@@ -361,13 +390,15 @@ module _ {T : Type 0} (scene : Scene T) (inv : Inv scene) where
             (λ u. finds filled ask stays (not_shut scene inv less) (more_if filled u) says paid
             (λ n w more bound. let next = few n w (omega arith) bound in omega arith))))
           where
+            -- the raise leaves what `Stays` says
             stays : Stays scene (words_after ws ask)
             stays = stays_raised scene inv (words_after ws ask) less new
 
+            -- the exchange makes the counter one more
             is : counter_of (words_after ws ask) ≡ counter_of ws + 1
             is = grind (arith, counter_set)
 
-      -- each step of a lock leads to what the caller makes of it
+      -- each step of a lock is as `Lead` asks, where each form of such a step is (`LockGoes` and the others)
       pub lock_step : (lock : Lock) → LockAt c lock → Paid (lock_holds lock) (now scene)
           → Scanned (lock_scan c lock) (now scene) → LockSays c Says lock → LockGoes lock → LockMeets lock
           → LockFinds lock → LockStays lock → LockLocks lock

@@ -1,4 +1,5 @@
--- A recovery of a robust set: the decision, and what frees an index.
+-- The steps of a recovery of the robust set from the decision about an owner to the raise of the counter,
+-- by which it frees an index. Each keeps the invariant: it keeps the invariant (`Shows`, Invariant).
 use Rattle.laws_robust.proofs.Names.{◌≡◌, ◌≢◌, ℕ, ◌+◌, ◌*◌, ◌≤◌, ◌==◌, ⊎_elim, inl, if◌then◌else◌, Bool, true, false}
 use Rattle.laws_robust.proofs.Names.{Option, Some, None, List, [], ◌∷◌, ◌++◌, refl, sym, ap, subst, ◌∙◌, arith}
 use Rattle.laws_robust.proofs.Names.{cases_lt, nat_tests, fold-append, Ask, After, GoOn, Done, ReleaseMode}
@@ -29,59 +30,71 @@ use Rattle.laws_robust.proofs.Past.{through_now}
 use Rattle.laws_robust.proofs.Stages.{IsHere, now, sees, backs_then, loads, exchanges}
 use Rattle.laws_robust.proofs.Stages.{loads_same, fails_same, exchange_sets, set_acts_more, StepOf, AnswerOf, Leads}
 use Rattle.laws_robust.proofs.Stages.{goes_on, goes_quietly}
-use Rattle.laws_robust.proofs.Recovers.{asked_then, comes_quietly, ends_so, g, gone_then, open_then}
+use Rattle.laws_robust.proofs.Recovers.{asked_then, comes_quietly, ends_so, good_before, gone_then, open_then}
 use Rattle.laws_robust.proofs.Cases.{on_bool}
 
+-- The party `p` recovers in this mode. `c` is the capacity, `ws` the words before the step, `done` what the
+-- recovery has done to the set.
 module _ {T : Type 0} (scene : Scene T) (inv : Inv scene) (mode : ReleaseMode) (here : IsHere scene (Recover mode)) where
   open scene use {by as by, capacity as c, party as p, steps as steps, backs as backs, events as events}
 
+  -- the words of the set before the step
   abbrev ws : List ℕ
   ws = scene.set.words
 
+  -- the acts of the recovery so far
   abbrev done : List SetAct
   done = set_acts_of p events
 
+  -- the recovery at a stage
   abbrev call_at : RecoverStage → calls.Recover
   call_at stage = record { capacity = c; stage = stage }
 
+  -- a step that wrote `did`, after which the recovery is as `a` says, keeps the invariant (`Shows`)
   abbrev Lead : Option Ask → Bool → List (Event T) → After calls.Recover ReleaseState → Type 0
   Lead ask back did a =
       Leads scene (Recover mode) ask back did (as_call flights.Recover State (went_on as_it_is mode tt a))
 
+  -- the steps of the recovery up to this index are within their bound
   abbrev Few : Option Ask → Bool → ℕ → ℕ → Type 0
   Few ask back n index = steps + step_count ask ≤ n + index * for_index c mode + backs_then scene back * for_back c mode
 
   -- ---- a decision
 
+  -- the recovery has asked about the index and its owner, and waits for the decision
   module _ (index owner : ℕ) (at : RecoverAt c mode done (recovers.Asks index owner))
-      (k : Knows c (recover_at c mode (recovers.Asks index owner)) (now scene))
-      (s : steps ≤ 2 + index * for_index c mode + backs * for_back c mode) where
-    -- a recovery that is told no goes to the next index
+      (knows : Knows c (recover_at c mode (recovers.Asks index owner)) (now scene))
+      (few_steps : steps ≤ 2 + index * for_index c mode + backs * for_back c mode) where
+    -- a no leads the recovery to the next index
     says_no : Lead None false [] (recover_comes_to (call_at (recovers.Asks index owner)) (index + 1))
     says_no =
         let four = at_least_four c mode in
-        let paid = k.paid in
+        let paid = knows.paid in
         (comes_quietly scene inv mode here) index at.0.within (recovers.Asks index owner) None false (omega arith)
-        (stays_same scene inv ws refl) (omega arith) at.0.asked at.0.freed k.says.0 k.says.1 k.gone
+        (stays_same scene inv ws refl) (omega arith) at.0.asked at.0.freed knows.says.0 knows.says.1 knows.gone
 
     module _ (may : MayBeTold by owner events) where
+      -- the event of a yes about the index and its owner
       abbrev telling : List (Event T)
       telling = Told p index owner ∷ []
 
+      -- the step that gets a yes writes no word and one event
       tells_does : Does scene ws telling
-      tells_does = quietly scene inv ws telling (stays_same scene inv ws refl).leaves (quiet_told p index owner) (refl, tt) (tt, tt) (tt, tt)
+      tells_does = quietly scene inv ws telling (stays_same scene inv ws refl).leaves (quiet_told) (refl, tt) (tt, tt) (tt, tt)
 
+      -- the yes is one more act of the recovery
       tells_set_acts : set_acts_of p (events ++ telling) ≡ done ++ Yes index owner ∷ []
       tells_set_acts = set_acts_more scene (Recover mode) here telling tells_does.own (λ start w. refl)
 
+      -- the yes to this index is about this index and owner, and the owner is gone
       frees_this : (i o : ℕ) → Yes index owner ≡ Yes i o → (is_gone by o (events ++ telling) ≡ true) × ((i ≡ index) × (o ≡ owner))
       frees_this = grind (arith, gone_told)
 
-      -- a recovery that is told yes goes on to empty the cell
+      -- a yes leads the recovery on to empty the cell
       says_yes : Lead None false telling (GoOn (at_recover (call_at (recovers.Asks index owner)) (recovers.EmptiesCell index owner)))
       says_yes =
-          let paid = k.paid in
-          goes_on scene (Recover mode) (recover_at c mode (recovers.EmptiesCell index owner)) None false
+          let paid = knows.paid in
+          goes_on scene None false
           telling here (λ start w. refl) tells_does (at.2, tt) (may, tt) (omega arith) (
             refl,
             refl,
@@ -102,15 +115,15 @@ module _ {T : Type 0} (scene : Scene T) (inv : Inv scene) (mode : ReleaseMode) (
             scanned = tt;
             owns = tt;
             says = (
-              (open_then scene inv mode here) (Yes index owner) telling ws tt tells_set_acts tells_does k.says.0,
-              (asked_then scene inv mode here) (Yes index owner) telling ws tt tells_set_acts tells_does (index + 1) k.says.1,
+              (open_then scene inv mode here) (Yes index owner) telling ws tt tells_set_acts tells_does knows.says.0,
+              (asked_then scene inv mode here) (Yes index owner) telling ws tt tells_set_acts tells_does (index + 1) knows.says.1,
             );
             gone =
                 (gone_then scene inv mode here) (Yes index owner) telling ws tt tells_set_acts tells_does (λ i o. ⊥)
-                (λ i o. (i ≡ index) × (o ≡ owner)) k.gone (λ i o never. absurd never) frees_this;
+                (λ i o. (i ≡ index) × (o ≡ owner)) knows.gone (λ i o never. absurd never) frees_this;
           })
 
-    -- any answer to a question of a recovery, which it may be told, shows what it has to
+    -- any answer to a recovery's question that may be told keeps the invariant (`Shows`)
     pub decided : (answer : ℕ) → (answer ≢ 0 → MayBeTold by owner events)
         → AnswerOf scene (Recover mode) (recover_at c mode (recovers.Asks index owner)) None answer
     decided answer may =
@@ -123,71 +136,79 @@ module _ {T : Type 0} (scene : Scene T) (inv : Inv scene) (mode : ReleaseMode) (
 
   -- ---- the exchange of a cell
 
+  -- the recovery was told to free the index, and is at the exchange of its cell
   module _ (index owner : ℕ) (at : RecoverAt c mode done (recovers.EmptiesCell index owner))
-      (s : steps ≤ 2 + index * for_index c mode + backs * for_back c mode)
-      (k : Knows c (recover_at c mode (recovers.EmptiesCell index owner)) (now scene)) where
+      (few_steps : steps ≤ 2 + index * for_index c mode + backs * for_back c mode)
+      (knows : Knows c (recover_at c mode (recovers.EmptiesCell index owner)) (now scene)) where
+    -- the exchange that empties the cell
     abbrev exchange : Option Ask
     exchange = Some (exchanges (cell_word index) owner empty)
 
+    -- the event of the free
     abbrev freeing : List (Event T)
     freeing = FreedOf p index owner ∷ []
 
+    -- the owner of the index is gone, as the recovery has been told
     owner_gone : is_gone by owner events ≡ true
-    owner_gone = (k.gone index owner (by_latest (Yes index owner) done at.2)).0
+    owner_gone = (knows.gone index owner (by_latest (Yes index owner) done at.2)).0
 
-    -- the cell has another owner by now, or none
+    -- where the cell has another owner by now, or none, no index that the recovery was told to free has its
+    -- owner any more
     gone_already : cell ws index ≢ owner → GoneBut (λ i o. ⊥) (now scene)
     gone_already other i o told =
-        let h = k.gone i o told in (
+        let h = knows.gone i o told in (
           h.0,
           λ honest. ⊎_elim (λ gone. inl gone)
               (λ exempt. inl (λ e. other
-              ((g scene inv mode here).cells index at.0.within ∙ ap cell_of (sym (ap (λ j. filled_of j events) exempt.0) ∙ (e ∙ ap Some exempt.1)))))
+              ((good_before scene inv mode here).cells index at.0.within ∙ ap cell_of (sym (ap (λ j. filled_of j events) exempt.0) ∙ (e ∙ ap Some exempt.1)))))
               (h.1 honest),
         )
 
-    -- a recovery that finds another owner in the cell, or none, goes to the next index
+    -- where the cell has another owner, or none, the recovery goes to the next index
     misses : cell ws index ≢ owner → Lead exchange false [] (recover_comes_to (call_at (recovers.EmptiesCell index owner)) (index + 1))
     misses other =
         let four = at_least_four c mode in
-        let paid = k.paid in
+        let paid = knows.paid in
         (comes_quietly scene inv mode here) index at.0.within (recovers.EmptiesCell index owner) exchange false (omega arith)
         (stays_same scene inv _ (fails_same ws (cell_word index) owner empty other))
-        (omega arith) at.0.asked at.0.freed k.says.0 k.says.1 (gone_already other)
+        (omega arith) at.0.asked at.0.freed knows.says.0 knows.says.1 (gone_already other)
 
     module _ (is : cell ws index ≡ owner) where
+      -- by the events the index is filled with the owner
       filled : filled_of index events ≡ Some owner
       filled = filled_by scene inv index at.0.within owner at.1 is
 
-      -- the exchange that finds the owner in the cell frees the index for the set
+      -- the exchange that finds the owner in the cell does what a turn may do: it frees the index
       frees_does : Does scene (words_after ws exchange) freeing
       frees_does =
           frees scene inv (words_after ws exchange) index owner at.0.within filled (subst (LivesToRelease owner events) (sym here) tt)
           (λ calm q ne o stays h. let same : owner ≡ o = one_owner (filled_of index events) owner o filled h.filled in
-          both_ways (is_gone by o events) stays (subst (λ n. is_gone by n events ≡ true) same owner_gone))
+          both_ways (is_gone by o events) stays (rw (← same) owner_gone))
           (λ calm o stays h.
-          let theirs = (((g scene inv mode here).owned (calm_less by events freeing calm)).settled index o h).0 in
+          let theirs = (((good_before scene inv mode here).owned (calm_less by events freeing calm)).settled index o h).0 in
           let same : owner ≡ o = one_owner (filled_of index events) owner o filled theirs in
-          both_ways (is_gone by o events) stays (subst (λ n. is_gone by n events ≡ true) same owner_gone))
+          both_ways (is_gone by o events) stays (rw (← same) owner_gone))
           (exchange_sets ws (cell_word index) owner empty is)
 
+      -- the free is one more act of the recovery
       frees_set_acts : set_acts_of p (events ++ freeing) ≡ done ++ Frees index owner ∷ []
       frees_set_acts = set_acts_more scene (Recover mode) here freeing frees_does.own (λ start w. refl)
 
+      -- after the free the index is not filled with the owner
       freed_here : (i o : ℕ) → (i ≡ index) × (o ≡ owner) → filled_of i (events ++ freeing) ≢ Some o
       freed_here = grind (arith, some_none, fold-append, at_same)
 
+      -- the recovery has asked about the index that it frees
       asked_about : (i o : ℕ) → Frees index owner ≡ Frees i o → IsOneOf (Asks i o) done
       asked_about i o e = grind arith
 
-      -- a recovery that finds the owner frees the index, and goes on to raise the counter
+      -- where the cell has the owner, the recovery frees the index, and goes on to raise the counter
       empties : Lead exchange false freeing
           (GoOn (at_recover (call_at (recovers.EmptiesCell index owner))
           (recovers.Raises index raises.LoadsCounter)))
       empties =
-          let paid = k.paid in
-          goes_on scene (Recover mode)
-          (recover_at c mode (recovers.Raises index raises.LoadsCounter)) exchange false
+          let paid = knows.paid in
+          goes_on scene exchange false
           freeing here (λ start w. refl) frees_does (at.2, tt) (tt, tt) (omega arith) (
             refl,
             refl,
@@ -206,16 +227,16 @@ module _ {T : Type 0} (scene : Scene T) (inv : Inv scene) (mode : ReleaseMode) (
             scanned = tt;
             owns = tt;
             says = (
-              (open_then scene inv mode here) (Frees index owner) freeing (words_after ws exchange) tt frees_set_acts frees_does k.says.0,
-              (asked_then scene inv mode here) (Frees index owner) freeing (words_after ws exchange) tt frees_set_acts frees_does (index + 1) k.says.1,
+              (open_then scene inv mode here) (Frees index owner) freeing (words_after ws exchange) tt frees_set_acts frees_does knows.says.0,
+              (asked_then scene inv mode here) (Frees index owner) freeing (words_after ws exchange) tt frees_set_acts frees_does (index + 1) knows.says.1,
             );
             gone =
                 (gone_then scene inv mode here) (Frees index owner) freeing (words_after ws exchange) tt frees_set_acts frees_does
-                (λ i o. (i ≡ index) × (o ≡ owner)) (λ i o. ⊥) k.gone (λ i o exempt. inl (freed_here i o exempt))
+                (λ i o. (i ≡ index) × (o ≡ owner)) (λ i o. ⊥) knows.gone (λ i o exempt. inl (freed_here i o exempt))
                 (λ i o e. absurd (cc));
           })
 
-    -- the step in which a recovery empties the cell shows what it has to, whether it finds the owner or not
+    -- the exchange of the cell keeps the invariant (`Shows`), whether it finds the owner or not
     pub empties_cell : StepOf scene (Recover mode) (recover_at c mode (recovers.EmptiesCell index owner))
     empties_cell =
         on_bool (λ b. Lead (Some (exchanges (cell_word index) owner empty)) false
@@ -228,11 +249,11 @@ module _ {T : Type 0} (scene : Scene T) (inv : Inv scene) (mode : ReleaseMode) (
 
   -- ---- the second look at the counter
 
-  -- the step in which a recovery looks at the counter again ends it
+  -- the second look at the counter ends the recovery
   pub loads_again : FreedWereAsked done → steps ≤ 1 + c * for_index c mode + backs * for_back c mode
       → Knows c (recover_at c mode recovers.LoadsCounterAgain) (now scene)
       → StepOf scene (Recover mode) (recover_at c mode recovers.LoadsCounterAgain)
-  loads_again freed s knows =
+  loads_again freed few_steps knows =
       on_bool (λ b. Lead (Some (loads 0)) false [] (Done (if b then states.Locked else states.Unlocked))) (counter_of ws == locked)
       (λ t.
       let shut : counter_of ws ≡ locked = grind (arith, nat_tests) in
@@ -245,8 +266,8 @@ module _ {T : Type 0} (scene : Scene T) (inv : Inv scene) (mode : ReleaseMode) (
       (ends_so scene inv mode here) states.Unlocked (Some (loads 0)) false (stays_same scene inv _ (loads_same ws 0))
       (unlocked scene inv other, recovered) (omega arith) (omega arith))
     where
-      -- a recovery that has come past all indices has recovered what it was told to free, and
-      -- has asked about all that was to be freed throughout
+      -- a recovery that has come past all indices has freed what it was told to free, and has asked about
+      -- all that was to be freed throughout
       recovered : HasRecoveredBy by p events
       recovered =
           record {
@@ -260,37 +281,38 @@ module _ {T : Type 0} (scene : Scene T) (inv : Inv scene) (mode : ReleaseMode) (
 
   -- ---- the raise of the counter
 
-  module _ (index : ℕ) (raise : Raise) (course : IsInCourse c index (index + 1) done) (just : HasJustFreed done)
-      (s : steps ≤ 3 + raise_number raise + index * for_index c mode + backs * for_back c mode)
-      (k : Knows c (recover_at c mode (recovers.Raises index raise)) (now scene)) where
+  -- the recovery has freed the index and raises the counter
+  module _ {index : ℕ} (raise : Raise) (course : IsInCourse c index (index + 1) done) (just : HasJustFreed done)
+      (few_steps : steps ≤ 3 + raise_number raise + index * for_index c mode + backs * for_back c mode)
+      (knows : Knows c (recover_at c mode (recovers.Raises index raise)) (now scene)) where
+    -- what `Lead` asks of the recovery, where `r` is how its raise goes on or ends
     abbrev raises_to : Option Ask → Bool → After Raise ReleaseState → Type 0
     raises_to ask back r = Lead ask back [] (recover_raised (call_at (recovers.Raises index raise)) index mode r)
 
-    -- it locks in the mode for that alone
+    -- in the mode that may lock the recovery goes on to the lock, in mode Default to the next index
     goes_by_mode : (m : ReleaseMode) → mode ≡ m → (ask : Option Ask) (back : Bool)
         → Stays scene (words_after ws ask) → IsPaid (sees scene ask back) → Few ask back 5 index
         → Lead ask back [] (recover_raised (call_at (recovers.Raises index raise)) index m (Done states.Unlocked))
-    goes_by_mode Default e ask back stays paid few =
+    goes_by_mode Default mode_is ask back stays paid few =
         let four = at_least_four c mode in
         (comes_quietly scene inv mode here) index course.within (recovers.Raises index raise) ask back (omega arith) stays
-        paid course.asked course.freed k.says.0 k.says.1 k.gone
-    goes_by_mode LockIfLastIndex e ask back stays paid few =
-        goes_quietly scene inv (Recover mode) (recover_at c mode (recovers.Locks index first_lock)) ask
-        back here stays few (refl, refl, (course, just, e, tt))
-        (record { paid = paid; scanned = tt; owns = tt; says = k.says; gone = k.gone })
+        paid course.asked course.freed knows.says.0 knows.says.1 knows.gone
+    goes_by_mode LockIfLastIndex mode_is ask back stays paid few =
+        goes_quietly scene inv ask
+        back here stays few (refl, refl, (course, just, mode_is, tt))
+        (record { paid = paid; scanned = tt; owns = tt; says = knows.says; gone = knows.gone })
 
-    -- the step in which a recovery raises the counter leads on: to the lock in its mode, or to the next index
+    -- a step of the raise keeps the invariant (`Shows`): it leads to the lock, or to the next index
     pub raises_step : raises_to (Some (raise_ask raise)) (raise_goes_back raise (counter_of ws)) (raise_after raise (counter_of ws))
     raises_step =
         let one = at_least_one c mode in
-        raise_step scene inv raises_to raise k.paid
+        raise_step scene inv raises_to raise knows.paid
         (λ number ask back same held few.
         let low = few (3 + index * for_index c mode) (for_back c mode) one (omega arith) in
-        goes_quietly scene inv (Recover mode)
-        (recover_at c mode (recovers.Raises index (raises.ExchangesCounter number))) ask
+        goes_quietly scene inv ask
         back here (stays_same scene inv (words_after ws ask) same)
         (omega arith) (refl, refl, (course, just))
-        (record { paid = held; scanned = tt; owns = tt; says = k.says; gone = k.gone }))
+        (record { paid = held; scanned = tt; owns = tt; says = knows.says; gone = knows.gone }))
         (λ ask back same shut paid few.
         let low = few (3 + index * for_index c mode) (for_back c mode) one (omega arith) in
         let four = at_least_four c mode in

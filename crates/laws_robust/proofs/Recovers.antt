@@ -1,4 +1,5 @@
--- The steps of a recovery.
+-- The steps of a recovery of the robust set that load the counter or a cell, and its end. Each keeps the
+-- invariant: it keeps the invariant (`Shows`, Invariant).
 use Rattle.laws_robust.proofs.Names.{◌≡◌, ◌≢◌, ℕ, ◌+◌, ◌*◌, ◌<◌, ◌≤◌, ◌==◌, ◌⊎◌, ⊎_elim, inl, inr, if◌then◌else◌}
 use Rattle.laws_robust.proofs.Names.{nat_lt, Bool, true, false, Option, Some, List, [], ◌∷◌, ◌++◌, refl, sym}
 use Rattle.laws_robust.proofs.Names.{subst, ◌∙◌, arith, AllByRecursion, cases_lt, nat_tests, fold-append, Ask}
@@ -30,76 +31,88 @@ use Rattle.laws_robust.proofs.Stages.{loads_same, set_acts_more, StepOf, Leads}
 use Rattle.laws_robust.proofs.Stages.{goes_on, goes_quietly, ends_quietly}
 use Rattle.laws_robust.proofs.Cases.{on_bool}
 
+-- the bound on the steps of a recovery, in either mode
 most_is : (c backs : ℕ) (mode : ReleaseMode) → most_steps c (Recover mode) backs ≡ 2 + c * for_index c mode + backs * for_back c mode
 most_is c backs Default = omega arith
 most_is c backs LockIfLastIndex = omega arith
 
+-- a lock of a recovery says nothing of its count
 pub nothing_said : (c : ℕ) (lock : Lock) → LockSays c (λ k filled. Unit {0}) lock
 nothing_said c lock = grind arith
 
+-- The party `p` recovers in this mode. `c` is the capacity, `ws` the words before the step, `done` what the
+-- recovery has done to the set.
 module _ {T : Type 0} (scene : Scene T) (inv : Inv scene) (mode : ReleaseMode) (here : IsHere scene (Recover mode)) where
   open scene use {by as by, capacity as c, party as p, steps as steps, backs as backs, events as events}
 
+  -- the words of the set before the step
   abbrev ws : List ℕ
   ws = scene.set.words
 
+  -- the acts of the recovery so far
   abbrev done : List SetAct
   done = set_acts_of p events
 
-  pub g : Good by c ws scene.set.dead events scene.turns
-  g = inv.good
+  pub good_before : Good by c ws scene.set.dead events scene.turns
+  good_before = inv.good
 
+  -- the recovery at a stage
   abbrev call_at : RecoverStage → calls.Recover
   call_at stage = record { capacity = c; stage = stage }
 
+  -- a step that wrote `did`, after which the recovery is as `a` says, keeps the invariant (`Shows`)
   abbrev Lead : Option Ask → Bool → List (Event T) → After calls.Recover ReleaseState → Type 0
   Lead ask back did a =
       Leads scene (Recover mode) ask back did (as_call flights.Recover State (went_on as_it_is mode tt a))
 
-  -- the steps up to this index
+  -- the steps of the recovery up to this index are within their bound
   abbrev Few : Option Ask → Bool → ℕ → ℕ → Type 0
   Few ask back n index = steps + step_count ask ≤ n + index * for_index c mode + backs_then scene back * for_back c mode
 
   -- ---- the end
 
-  -- a recovery ends with a state that is right, in a step that leaves all words but the counter, and within its steps
+  -- a recovery ends with a state that is right, in a step that leaves all words but the counter, and within
+  -- its bound of steps
   pub ends_so : (state : ReleaseState) (ask : Option Ask) (back : Bool) → Stays scene (words_after ws ask)
       → AnswersBy by (IsWorn by (words_after ws ask)) c events (Finished p (Robust (Recover mode)) (State state))
       → steps + step_count ask ≤ 2 + c * for_index c mode + backs_then scene back * for_back c mode
       → IsPaid (sees scene ask back) → Lead ask back [] (Done state)
   ends_so state ask back stays right few paid =
       let most = most_is c (backs_then scene back) mode in
-      ends_quietly scene inv (Recover mode) (State state) ask back here stays (λ i o. refl) (λ i r. refl) right tt (omega arith) paid
+      ends_quietly scene inv ask back here stays (λ i o. refl) (λ i r. refl) right tt (omega arith) paid
 
   -- ---- the next index, or the second look at the counter
 
+  -- the step is the last at the index `index`
   module _ (index : ℕ) (below : index < c) (stage : RecoverStage) (ask : Option Ask) (back : Bool) (few : Few ask back 1 (index + 1)) where
+    -- where no index follows, the recovery keeps within its bound
     few_last : c ≤ index + 1 → steps + step_count ask ≤ 1 + c * for_index c mode + backs_then scene back * for_back c mode
     few_last last = grind arith
 
+    -- what the recovery has asked, freed and knows, as far as this index
     module _ (stays : Stays scene (words_after ws ask)) (paid : IsPaid (sees scene ask back))
         (asked : AllByRecursion (λ i. i < index + 1) (asked_in done)) (freed : FreedWereAsked done)
         (open_once : WasOpen (now scene))
         (says : AskedBelow (index + 1) (now scene)) (gone : GoneBut (λ i o. ⊥) (now scene)) where
-      -- a step that leaves all words but the counter, and writes nothing, brings a recovery to
-      -- the next index, or to the second look at the counter
+      -- a step that leaves all words but the counter, and writes nothing, leads a recovery to the next
+      -- index, or to the second look at the counter
       pub comes_quietly : Lead ask back [] (recover_comes_to (call_at stage) (index + 1))
       comes_quietly =
           by_test (λ s. Lead ask back [] (GoOn (at_recover (call_at stage) s))) (nat_lt (index + 1) c)
           (recovers.LoadsCell (index + 1)) recovers.LoadsCounterAgain
           (λ t.
           let more : index + 1 < c = grind (arith, nat_tests) in
-          goes_quietly scene inv (Recover mode) (recover_at c mode (recovers.LoadsCell (index + 1))) ask
+          goes_quietly scene inv ask
           back here stays few (refl, refl, record { within = more; asked = asked; freed = freed })
           (record { paid = paid; scanned = tt; owns = tt; says = (open_once, says); gone = gone }))
           (λ t.
           let last : c ≤ index + 1 = grind (arith, nat_tests) in
           let end : index + 1 ≡ c = omega arith in
-          goes_quietly scene inv (Recover mode) (recover_at c mode recovers.LoadsCounterAgain) ask back
+          goes_quietly scene inv ask back
           here stays (few_last last) (refl, refl, freed)
-          (record { paid = paid; scanned = tt; owns = tt; says = subst (λ n. AskedBelow n (now scene)) end says; gone = gone }))
+          (record { paid = paid; scanned = tt; owns = tt; says = rw (← end) says; gone = gone }))
 
-    -- the same of a step that writes an event
+    -- a step that writes the events `did`: what the recovery has asked, freed and knows with them
     module _ (did : List (Event T)) (longer : Lengthens (did ++ [])) (does : Does scene (words_after ws ask) (did ++ []))
         (stands : AllFollow (Stands promise c) (Open (Robust (Recover mode)) (wrote_of p events)) (did ++ []))
         (asks : AreRight (AsksBy by) events (did ++ [])) (paid : IsPaid (sees scene ask back))
@@ -107,45 +120,48 @@ module _ {T : Type 0} (scene : Scene T) (inv : Inv scene) (mode : ReleaseMode) (
         (freed : FreedWereAsked (done ++ set_acts (did ++ [])))
         (open_once : WasOpen (then_sees scene ask back (did ++ [])))
         (says : AskedBelow (index + 1) (then_sees scene ask back (did ++ []))) (gone : GoneBut (λ i o. ⊥) (then_sees scene ask back (did ++ []))) where
-      -- a step that writes an event brings a recovery to the next index, or to the second look at the counter
+      -- a step that writes an event leads a recovery to the next index, or to the second look at the counter
       pub comes_loudly : Lead ask back did (recover_comes_to (call_at stage) (index + 1))
       comes_loudly =
           by_test (λ s. Lead ask back did (GoOn (at_recover (call_at stage) s))) (nat_lt (index + 1) c)
           (recovers.LoadsCell (index + 1)) recovers.LoadsCounterAgain
           (λ t.
           let more : index + 1 < c = grind (arith, nat_tests) in
-          goes_on scene (Recover mode) (recover_at c mode (recovers.LoadsCell (index + 1))) ask back did
+          goes_on scene ask back did
           here longer does stands asks few (refl, refl, record { within = more; asked = asked; freed = freed })
           (record { paid = omega arith; scanned = tt; owns = tt; says = (open_once, says); gone = gone }))
           (λ t.
           let last : c ≤ index + 1 = grind (arith, nat_tests) in
           let end : index + 1 ≡ c = omega arith in
-          goes_on scene (Recover mode) (recover_at c mode recovers.LoadsCounterAgain) ask back did here
+          goes_on scene ask back did here
           longer does stands asks (few_last last) (refl, refl, freed)
           (record {
             paid = omega arith;
             scanned = tt;
             owns = tt;
-            says = subst (λ n. AskedBelow n (then_sees scene ask back (did ++ []))) end says;
+            says = rw (← end) says;
             gone = gone;
           }))
 
-  -- ---- what it knows once it has done one thing more
+  -- ---- what a recovery knows once it has done `d` to the set
 
   module _ (d : SetAct) (es : List (Event T)) (words' : List ℕ) (begins : BeginsNone p es)
       (more : set_acts_of p (events ++ es) ≡ done ++ d ∷ []) (does : Does scene words' es) where
+    -- a call during which the set was once unlocked had it so after the step, too
     pub open_then : WasOpen (now scene) → HeldSometime p IsUnlocked (events ++ es)
     open_then was_open = held_later p IsUnlocked events es begins was_open
 
-    still_one_then : (one : SetAct) → IsOneOf one done → IsOneOf one (set_acts_of p (events ++ es))
-    still_one_then one is_one = subst (IsOneOf one) (sym more) (still_one one d done is_one)
+    -- an act of the recovery is one after the step
+    still_one_then : {one : SetAct} → IsOneOf one done → IsOneOf one (set_acts_of p (events ++ es))
+    still_one_then {one = one} is_one = subst (IsOneOf one) (sym more) (still_one one d done is_one)
 
+    -- each index below `k` that was to be freed throughout the call has still been asked about after the step
     pub asked_then : (k : ℕ) → AskedBelow k (now scene) → (i owner : ℕ) → i < k
         → HeldThroughout p (StillToFree p owner i) (events ++ es) → IsOneOf (Asks i owner) (set_acts_of p (events ++ es))
     asked_then k asked_below i owner below through =
-        still_one_then (Asks i owner) (asked_below i owner below (through_less p (StillToFree p owner i) events es begins through))
+        still_one_then (asked_below i owner below (through_less p (StillToFree p owner i) events es begins through))
 
-    -- what a recovery knows of those it was told to free, once it has done one thing more
+    -- what a recovery knows of the indices that it was told to free, once it has done `d`
     pub gone_then : (Was Now : ℕ → ℕ → Type 0) → GoneBut Was (now scene)
         → ((i owner : ℕ) → Was i owner → (filled_of i (events ++ es) ≢ Some owner) ⊎ Now i owner)
         → ((i owner : ℕ) → d ≡ Yes i owner → (is_gone by owner (events ++ es) ≡ true) × Now i owner)
@@ -165,7 +181,8 @@ module _ {T : Type 0} (scene : Scene T) (inv : Inv scene) (mode : ReleaseMode) (
 
   -- ---- the load of the counter
 
-  -- the step in which a recovery loads the counter leads on: it ends locked, or goes to the first index
+  -- the load of the counter ends the recovery with Locked where the counter is locked, and else leads to
+  -- the first index
   pub loads_counter : done ≡ [] → steps ≤ 0
       → Knows c (recover_at c mode recovers.LoadsCounter) (now scene)
       → StepOf scene (Recover mode) (recover_at c mode recovers.LoadsCounter)
@@ -173,25 +190,27 @@ module _ {T : Type 0} (scene : Scene T) (inv : Inv scene) (mode : ReleaseMode) (
       on_bool
       (λ b. Lead (Some (loads 0)) false [] (if b then Done states.Locked else recover_comes_to (call_at recovers.LoadsCounter) 0))
       (counter_of ws == locked)
+      -- the counter is locked: the recovery ends with Locked
       (λ t.
       let shut : counter_of ws ≡ locked = grind (arith, nat_tests) in
       let paid = knows.paid in
       ends_so states.Locked (Some (loads 0)) false (stays_same scene inv _ (loads_same ws 0))
       (is_shut scene inv shut) (omega arith) (omega arith))
+      -- the set is open: the recovery goes on to the first index
       (λ t.
       let open_now : counter_of ws ≢ locked = grind (arith, nat_tests) in
       let paid = knows.paid in
-      let some = g.some in
+      let some = good_before.some in
       by_test (λ s. Lead (Some (loads 0)) false [] (GoOn (at_recover (call_at recovers.LoadsCounter) s)))
       (nat_lt 0 c) (recovers.LoadsCell 0) recovers.LoadsCounterAgain
       (λ u.
-      goes_quietly scene inv (Recover mode) (recover_at c mode (recovers.LoadsCell 0))
+      goes_quietly scene inv
       (Some (loads 0)) false here (stays_same scene inv _ (loads_same ws 0)) (omega arith) (
         refl,
         refl,
         record {
           within = omega arith;
-          asked = subst (λ d. AllByRecursion (λ i. i < 0) (asked_in d)) (sym none) tt;
+          asked = rw none tt;
           freed = λ i owner freed. absurd
               (no_more freed.before (Frees i owner) freed.after (sym none ∙ freed.is));
         },
@@ -207,52 +226,61 @@ module _ {T : Type 0} (scene : Scene T) (inv : Inv scene) (mode : ReleaseMode) (
 
   -- ---- the load of a cell
 
-  module _ (index : ℕ) (course : IsInCourse c index index done)
-      (s : steps ≤ 1 + index * for_index c mode + backs * for_back c mode)
-      (k : Knows c (recover_at c mode (recovers.LoadsCell index)) (now scene)) where
+  -- the recovery loads the cell of the index `index`
+  module _ {index : ℕ} (course : IsInCourse c index index done)
+      (few_steps : steps ≤ 1 + index * for_index c mode + backs * for_back c mode)
+      (knows : Knows c (recover_at c mode (recovers.LoadsCell index)) (now scene)) where
     abbrev load : Option Ask
     load = Some (loads (cell_word index))
 
+    -- the indices asked about are below the next one
     asked_next : AllByRecursion (λ i. i < index + 1) (asked_in done)
     asked_next = grind (arith, all_so)
 
-    -- nothing is to be freed at an empty cell
+    -- where the cell is empty nothing is to be freed at the index, so the recovery has
+    -- asked about all up to it
     passed_says : cell ws index ≡ empty → AskedBelow (index + 1) (now scene)
     passed_says = grind (arith, some_none, filled_none, through_now)
 
-    -- a recovery passes an empty cell
+    -- where the cell is empty, the recovery goes to the next index
     passes_empty : cell ws index ≡ empty → Lead load false [] (recover_comes_to (call_at (recovers.LoadsCell index)) (index + 1))
-    passes_empty is =
+    passes_empty cell_empty =
         let four = at_least_four c mode in
-        let paid = k.paid in
+        let paid = knows.paid in
         comes_quietly index course.within (recovers.LoadsCell index) load false (omega arith)
-        (stays_same scene inv _ (loads_same ws (cell_word index))) (omega arith) asked_next course.freed k.says.0
-        (passed_says is) k.gone
+        (stays_same scene inv _ (loads_same ws (cell_word index))) (omega arith) asked_next course.freed knows.says.0
+        (passed_says cell_empty) knows.gone
 
+    -- the cell has an owner
     module _ (other : cell ws index ≢ empty) where
+      -- the event of a question about the owner in the cell
       abbrev asking : List (Event T)
       asking = Asked p index (cell ws index) ∷ []
 
+      -- the cell has an owner, with whom the index is filled
       is_filled : (cell ws index < empty) × (filled_of index events ≡ Some (cell ws index))
       is_filled = filled_some scene inv index course.within other
 
+      -- the step that asks writes no word and one event
       asks_does : Does scene (words_after ws load) asking
       asks_does =
           quietly scene inv (words_after ws load) asking
-          (stays_same scene inv _ (loads_same ws (cell_word index))).leaves (quiet_asked p index (cell ws index))
+          (stays_same scene inv _ (loads_same ws (cell_word index))).leaves (quiet_asked)
           (refl, tt) (tt, tt) (tt, tt)
 
+      -- the question is one more act of the recovery
       asks_set_acts : set_acts_of p (events ++ asking) ≡ done ++ Asks index (cell ws index) ∷ []
       asks_set_acts = set_acts_more scene (Recover mode) here asking asks_does.own (λ start w. refl)
 
+      -- a recovery that asks about one more index has asked about each that it freed
       asks_freed : FreedWereAsked (done ++ Asks index (cell ws index) ∷ [])
       asks_freed = freed_more (Asks index (cell ws index)) done course.freed (λ i owner e. absurd (cc))
 
-      -- a recovery that asks about the owner in the cell has come past the index
+      -- once it has asked about the owner in the cell, the recovery has asked about all up to the index
       asks_says : AskedBelow (index + 1) (then_sees scene load false asking)
       asks_says i owner below through =
           ⊎_elim (λ before. asked_then (Asks index (cell ws index)) asking (words_after ws load) tt asks_set_acts asks_does
-          index k.says.1 i owner before through)
+          index knows.says.1 i owner before through)
           (λ last.
           let same : i ≡ index = omega arith in
           ⊎_elim (λ filled. filled_here i owner same filled)
@@ -261,17 +289,18 @@ module _ {T : Type 0} (scene : Scene T) (inv : Inv scene) (mode : ReleaseMode) (
           (through_now p (StillToFree p owner i) (events ++ asking) through))
           (cases_lt i index)
         where
+          -- if the index that is asked about is filled, the question is about its owner
           filled_here : (i owner : ℕ) → i ≡ index
               → filled_of i (events ++ Asked p index (cell ws index) ∷ []) ≡ Some owner
               → IsOneOf (Asks i owner) (set_acts_of p (events ++ Asked p index (cell ws index) ∷ []))
           filled_here = grind (arith, fold-append, cell, one_owner, asks_set_acts, last_one)
 
-      -- a recovery that finds an owner in the cell asks about that owner
+      -- where the cell has an owner, the recovery asks about that owner
       asks_about : Lead load false asking (GoOn (at_recover (call_at (recovers.LoadsCell index)) (recovers.Asks index (cell ws index))))
       asks_about =
-          let paid = k.paid in
-          goes_on scene (Recover mode) (recover_at c mode (recovers.Asks index (cell ws index))) load
-          false asking here (λ start w. refl) asks_does (course.asked, tt) ((is_filled.1, k.says.0), tt)
+          let paid = knows.paid in
+          goes_on scene load
+          false asking here (λ start w. refl) asks_does (course.asked, tt) ((is_filled.1, knows.says.0), tt)
           (omega arith) (
             refl,
             refl,
@@ -289,13 +318,13 @@ module _ {T : Type 0} (scene : Scene T) (inv : Inv scene) (mode : ReleaseMode) (
             paid = omega arith;
             scanned = tt;
             owns = tt;
-            says = (open_then (Asks index (cell ws index)) asking (words_after ws load) tt asks_set_acts asks_does k.says.0, asks_says);
+            says = (open_then (Asks index (cell ws index)) asking (words_after ws load) tt asks_set_acts asks_does knows.says.0, asks_says);
             gone =
                 gone_then (Asks index (cell ws index)) asking (words_after ws load) tt asks_set_acts asks_does (λ i o. ⊥)
-                (λ i o. ⊥) k.gone (λ i o never. absurd never) (λ i o e. absurd (cc));
+                (λ i o. ⊥) knows.gone (λ i o never. absurd never) (λ i o e. absurd (cc));
           })
 
-    -- the step in which a recovery loads a cell shows what it has to, whether it is empty or not
+    -- the load of a cell keeps the invariant (`Shows`), whether the cell is empty or not
     pub loads_cell : StepOf scene (Recover mode) (recover_at c mode (recovers.LoadsCell index))
     loads_cell =
         on_bool (λ b. Lead (Some (loads (cell_word index))) false (if b then [] else Asked p index (cell ws index) ∷ [])

@@ -1,4 +1,5 @@
--- The steps of a release.
+-- Each step of a release of the robust index set keeps the invariant: it keeps the
+-- invariant (`Shows`, Invariant).
 use Rattle.laws_robust.proofs.Names.{◌≡◌, ◌≢◌, ℕ, ◌+◌, ◌<◌, ◌≤◌, inl, inr, Bool, true, false, Option, Some, None}
 use Rattle.laws_robust.proofs.Names.{List, [], ◌∷◌, ◌++◌, set, refl, ap, subst, arith, sym, Ok, flat_map-append}
 use Rattle.laws_robust.proofs.Names.{fold-append, Ask, After, Done, ReleaseMode, LockIfLastIndex, Default}
@@ -26,24 +27,29 @@ use Rattle.laws_robust.proofs.CallProgress.{release_at, release_number, ReleaseA
 use Rattle.laws_robust.proofs.Locks.{locks}
 use Rattle.laws_robust.proofs.Stages.{IsHere, all, now, sees, backs_then, StepOf, Leads, goes_on, ends, goes_quietly, ends_quietly}
 
+-- a release that is refused since the owner does not hold the index has freed nothing
 not_owned_done : (T : Type 0) (index owner : ℕ) (mode : ReleaseMode) (failure : RobustUniqueIndexSetReleaseError) (done : List SetAct)
     → done ≡ [] → HasDone {T = T} (Release index owner mode) (NotOwned failure) done
 not_owned_done = grind arith
 
+-- a release that is refused so is right, where the owner does not hold the index
 not_owned_right : {T : Type 0} (by : GoneBy) (worn : Type 0) (c p index owner : ℕ) (mode : ReleaseMode)
     (failure : RobustUniqueIndexSetReleaseError) (events : List (Event T))
     → filled_of index events ≢ Some owner
     → AnswersBy by worn c events (Finished p (Robust (Release index owner mode)) (NotOwned failure))
 not_owned_right = grind arith
 
-module _ {T : Type 0} (scene : Scene T) (inv : Inv scene) (index owner : ℕ) (fits : owner < empty)
+-- The party `p` releases the index for the owner, who is alive. `c` is the capacity, `ws` the
+-- words before the step.
+module _ {T : Type 0} {scene : Scene T} (inv : Inv scene) (index owner : ℕ) (fits : owner < empty)
     (below : index < scene.capacity) (alive : is_dead owner scene.events ≡ false) where
   open scene use {by as by, capacity as c, party as p, steps as steps, backs as backs, events as events}
 
+  -- the words of the set before the step
   abbrev ws : List ℕ
   ws = scene.set.words
 
-  -- what a step leads to that did this, by how the call goes on
+  -- a step that wrote `did`, after which the release is as `a` says, keeps the invariant (`Shows`)
   abbrev Lead : ReleaseMode → Option Ask → Bool → List (Event T) → After calls.Release Released → Type 0
   Lead mode ask back did a =
       Leads scene (Release index owner mode) ask back did
@@ -51,74 +57,78 @@ module _ {T : Type 0} (scene : Scene T) (inv : Inv scene) (index owner : ℕ) (f
       (went_on as_it_is (record { index = index; owner = owner; mode = mode }) tt a))
 
   module _ (mode : ReleaseMode) (here : IsHere scene (Release index owner mode)) where
+    -- the owner for whom the release acts lives
     lives : LivesToRelease owner events (span_of p events)
     lives = subst (LivesToRelease owner events) (sym here) alive
 
+    -- where the history is honest, the owner who gives the index back is not gone
     gives_back : IsHonest (events ++ FreedOf p index owner ∷ []) → is_gone Word owner events ≡ false
     gives_back honest = subst (GivesBackRight owner events) here (honest events [] (FreedOf p index owner) refl)
 
+    -- in a well-formed and honest run the owner is not gone, and the index was settled for him
+    -- as the release began
     began : IsCalm by (events ++ FreedOf p index owner ∷ [])
         → (is_gone by owner events ≡ false) × SinceBegin p (λ part since. settled_of index part ≡ Some owner) events
     began = grind (arith, lives_freed, gives_back)
 
-    abbrev Says : List ℕ → ReleaseMode → ReleaseState → Type 0
-    Says words' m state = Ends scene inv index owner mode fits below lives began 0 words' m state
+    -- what the state says with which the release ends
+    abbrev EndShows : List ℕ → ReleaseMode → ReleaseState → Type 0
+    EndShows words' m state = Ends scene inv index owner mode fits below lives began 0 words' m state
 
-    -- it ends with this state
+    -- a step that ends the release with this state keeps the invariant (`Shows`)
     ends_with : (m : ReleaseMode) → IsHere scene (Release index owner m)
         → (state : ReleaseState) (ask : Option Ask) (back : Bool) → Stays scene (words_after ws ask)
-        → Says (words_after ws ask) m state → all scene ≡ Frees index owner ∷ []
+        → EndShows (words_after ws ask) m state → all scene ≡ Frees index owner ∷ []
         → IsPaid (sees scene ask back)
         → steps + step_count ask ≤ 0 + most_steps c (Release index owner m) (backs_then scene back)
         → Lead m ask back [] (Done (Ok state))
-    ends_with Default is states.Locked ask back stays why done paid few = absurd why
-    ends_with Default is states.Unlocked ask back stays why done paid few =
-        ends_quietly scene inv (Release index owner Default) (State states.Unlocked) ask back is stays
+    ends_with Default is_here states.Locked ask back stays why done paid few = absurd why
+    ends_with Default is_here states.Unlocked ask back stays why done paid few =
+        ends_quietly scene inv ask back is_here stays
         (λ j o. refl) (λ j r. refl) tt done (omega arith) paid
-    ends_with LockIfLastIndex is states.Locked ask back stays why done paid few =
-        ends_quietly scene inv (Release index owner LockIfLastIndex) (State states.Locked) ask back is
+    ends_with LockIfLastIndex is_here states.Locked ask back stays why done paid few =
+        ends_quietly scene inv ask back is_here
         stays (λ j o. refl) (λ j r. refl) why (inl done) (omega arith) paid
-    ends_with LockIfLastIndex is states.Unlocked ask back stays why done paid few =
-        ends_quietly scene inv (Release index owner LockIfLastIndex) (State states.Unlocked) ask back is
+    ends_with LockIfLastIndex is_here states.Unlocked ask back stays why done paid few =
+        ends_quietly scene inv ask back is_here
         stays (λ j o. refl) (λ j r. refl) why done (omega arith) paid
 
+    -- the acts of a release that locks are the free and the lock
     all_done : all scene ≡ Frees index owner ∷ [] → set_acts (wrote_of p events ++ Locked p ∷ []) ≡ Frees index owner ∷ Locks ∷ []
     all_done = grind (arith, flat_map-append)
 
+    -- after `Locked` the set is locked
     now_locked : is_locked (events ++ Locked p ∷ []) ≡ true
     now_locked = fold-append locked_after false events (Locked p ∷ [])
 
-    -- it locks
+    -- a step that locks the set and ends the release keeps the invariant (`Shows`)
     locks_with : (m : ReleaseMode) → IsHere scene (Release index owner m) → (ask : Option Ask) → m ≡ LockIfLastIndex
         → (IsCalm by events → (i : ℕ) → holder_of i events ≡ None) → counter_of ws < greatest
         → words_after ws ask ≡ set ws 0 locked
         → all scene ≡ Frees index owner ∷ [] → IsPaid (sees scene ask false)
         → steps + step_count ask ≤ 0 + most_steps c (Release index owner m) (backs_then scene false)
         → Lead m ask false (Locked p ∷ []) (Done (Ok states.Locked))
-    locks_with Default is ask mode none less new done paid few = absurd (cc)
-    locks_with LockIfLastIndex is ask mode none less new done paid few =
-        ends scene (Release index owner LockIfLastIndex) (State states.Locked) ask false (Locked p ∷ []) is (λ start w. refl)
+    locks_with Default is_here ask mode none less new done paid few = absurd (cc)
+    locks_with LockIfLastIndex is_here ask mode none less new done paid few =
+        ends scene (State states.Locked) ask false (Locked p ∷ []) is_here (λ start w. refl)
         (locks scene inv (words_after ws ask) (Finished p (Robust (Release index owner LockIfLastIndex)) (State states.Locked) ∷ [])
         (quiet_end p (Robust (Release index owner LockIfLastIndex)) (State states.Locked) (λ j o. refl) (λ j r. refl))
         (refl, tt) (tt, tt) (now_locked, tt) none less new)
         (done, ((refl, inr (all_done done)), tt)) (tt, (tt, tt)) (omega arith) paid
 
-    -- what the steps of a release lead to in a call that is nothing else: each step that goes
-    -- on, the free, and each of its ends
+    -- `HeldRelease` asks the caller of a release for this: what a step leads to that goes on, frees, or ends
     caller : Caller scene inv index owner mode fits below lives began 0 (Lead mode)
     caller =
         record {
           quiet =
-              λ next ask back stays at known few. goes_quietly scene inv (Release index owner mode)
-              (release_at c index owner mode next) ask back here stays (omega arith) (refl, refl, fits, below, at)
+              λ next ask back stays at known few. goes_quietly scene inv ask back here stays (omega arith) (refl, refl, fits, below, at)
               known;
           freed = λ ask new does none known few.
-              goes_on scene (Release index owner mode)
-              (release_at c index owner mode (releases.Raises raises.LoadsCounter)) ask
+              goes_on scene ask
               false (FreedOf p index owner ∷ []) here (λ start w. refl) does
               ((refl, refl, none), tt) (tt, tt) (omega arith) (refl, refl, fits, below, ap (λ d. d ++ Frees index owner ∷ []) none) known;
           refused = λ ask same other none paid few.
-              ends_quietly scene inv (Release index owner mode) (NotOwned IndexIsNotOwnedByProvidedOwner) ask false
+              ends_quietly scene inv ask false
               here (stays_same scene inv (words_after ws ask) same) (λ i o. refl) (λ i r. refl)
               (not_owned_right by (IsWorn by (words_after ws ask)) c p index owner mode IndexIsNotOwnedByProvidedOwner events other)
               (not_owned_done T index owner mode IndexIsNotOwnedByProvidedOwner (all scene) none) (omega arith) paid;
@@ -131,10 +141,11 @@ module _ {T : Type 0} (scene : Scene T) (inv : Inv scene) (index owner : ℕ) (f
         → StepAt scene inv index owner mode fits below lives began 0 (Lead mode) caller stage
     held = held_step scene inv index owner mode fits below lives began 0 (Lead mode) caller
 
-    -- any step of a release that stands at a stage, and knows what the stage tells, shows what it has to
+    -- any step of a release keeps the invariant (`Shows`), where the release stands at its stage and knows
+    -- what the stage says
     pub release_step : (stage : ReleaseStage) → ReleaseAt c index owner mode (all scene) stage
         → Knows c (release_at c index owner mode stage) (now scene) → steps ≤ release_number c mode stage backs
         → StepOf scene (Release index owner mode) (release_at c index owner mode stage)
-    release_step releases.EmptiesCell at knows s = held releases.EmptiesCell at knows (omega arith)
-    release_step (releases.Raises raise) at knows s = held (releases.Raises raise) at knows (omega arith)
-    release_step (releases.Locks lock) at knows s = held (releases.Locks lock) at knows (omega arith)
+    release_step releases.EmptiesCell at knows few_steps = held releases.EmptiesCell at knows (omega arith)
+    release_step (releases.Raises raise) at knows few_steps = held (releases.Raises raise) at knows (omega arith)
+    release_step (releases.Locks lock) at knows few_steps = held (releases.Locks lock) at knows (omega arith)

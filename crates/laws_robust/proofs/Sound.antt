@@ -1,4 +1,5 @@
--- Every turn keeps what holds of the machine of a robust index set: the laws of the family.
+-- Every turn keeps what holds of the machine of a robust index set: the laws that the
+-- frame asks of the family.
 use Rattle.laws_robust.proofs.Names.{◌≡◌, ◌≢◌, ℕ, ◌-◌, ◌^◌, ◌<◌, ◌≤◌, inl, Bool, true, false, Option, Some, None}
 use Rattle.laws_robust.proofs.Names.{List, [], ◌∷◌, ◌++◌, refl, sym, ap, subst, ◌∙◌, arith, ReleaseMode, AcquireStage}
 use Rattle.laws_robust.proofs.Names.{FindStage, Count, Lock, Raise, RecoverStage, GiveBack, ReleaseStage}
@@ -42,21 +43,25 @@ use Rattle.laws_robust.proofs.RecoverSteps.{recover_step, recover_decided}
 use Rattle.laws_robust.proofs.Releases.{release_step}
 use Rattle.laws_robust.proofs.Stages.{IsHere, all, now, StepOf, DecisionOf}
 
--- ---- a step of a call that passes its rows
+-- ---- a step of a call that no row refuses
 
--- no part of a call asks a question
+-- the parts of calls, an acquire and a release ask no question
 pub raise_asks_none : (raise : Raise) → is_question (raise_want raise) ≡ false
 raise_asks_none = grind arith
 
+-- a count asks no question
 pub count_asks_none : (count : Count) → is_question (count_want count) ≡ false
 count_asks_none count = grind arith
 
+-- a lock asks no question
 pub lock_asks_none : (lock : Lock) → is_question (lock_want lock) ≡ false
 lock_asks_none = grind (arith, count_asks_none)
 
+-- an acquire asks no question
 pub acquire_asks_none : (stage : AcquireStage) (owner : ℕ) → is_question (acquire_asks stage owner) ≡ false
 acquire_asks_none stage owner = grind arith
 
+-- a release asks no question
 pub release_asks_none : (stage : ReleaseStage) (given : GiveBack) → is_question (release_asks stage given) ≡ false
 release_asks_none stage given = grind arith
 
@@ -65,24 +70,25 @@ abbrev pub MayDecide : GoneBy → List ℕ → RobustFlight → Bool → Type 0
 MayDecide Death dead flight said = frees_living dead flight (Some said) ≡ false
 MayDecide Word dead flight said = Unit {0}
 
-module _ {T : Type 0} (scene : Scene T) (inv : Inv scene) where
+module _ {T : Type 0} {scene : Scene T} (inv : Inv scene) where
   open scene use {by as by, capacity as c, events as events}
 
+  -- an owner who has not died by the set's list is alive by the events
   lives : (owner : ℕ) → has_died owner scene.set.dead ≡ false → is_dead owner events ≡ false
   lives owner alive = sym (inv.good.died owner) ∙ alive
 
-  -- the step of a call that stands there, and acts for nobody dead, shows what it has to
+  -- the step of this call, for no dead owner, keeps the invariant (`Shows`)
   abbrev Moves : RobustStart → RobustFlight → Type 0
   Moves start flight =
       acts_for_dead scene.set.dead flight ≡ false → scene.steps ≤ standing.number_of c flight scene.backs
       → Knows c flight (now scene) → StepOf scene start flight
 
-  -- each step of any call that stands at its place, and acts for nobody dead, shows what it has to
+  -- each step of any call that stands at its stage, for no dead owner, keeps the invariant (`Shows`)
   pub step_moves : (start : RobustStart) (flight : RobustFlight) → IsHere scene start → At c (all scene) start flight → Moves start flight
   step_moves (starts.Acquire owner) (calls.Acquire run) here at =
       subst (Moves (starts.Acquire owner))
       (sym (ap (λ n. acquire_at n run.given run.call.stage) at.0 ∙ ap (λ o. acquire_at c o run.call.stage) at.1))
-      (λ alive s k. acquire_step scene inv owner at.2 (lives owner alive) here run.call.stage at.3 k s)
+      (λ alive s k. acquire_step inv owner at.2 (lives owner alive) here run.call.stage at.3 k s)
   step_moves (starts.Release index owner mode) (calls.Release run) here at =
       subst (Moves (starts.Release index owner mode))
       (sym (ap
@@ -90,7 +96,7 @@ module _ {T : Type 0} (scene : Scene T) (inv : Inv scene) where
       at.0
       ∙ ap
       (λ (o : GiveBack). calls.Release (record { call = record { capacity = c; stage = run.call.stage }; given = o; room = tt })) at.1))
-      (λ alive s k. release_step scene inv index owner at.2 at.3 (lives owner alive) mode here run.call.stage at.4 k s)
+      (λ alive s k. release_step inv index owner at.2 at.3 (lives owner alive) mode here run.call.stage at.4 k s)
   step_moves (starts.Find owner) (calls.Find run) here at =
       subst (Moves (starts.Find owner)) (sym (ap (λ n. find_at n run.given run.call.stage) at.0 ∙ ap (λ o. find_at c o run.call.stage) at.1))
       (λ alive s k. find_step scene inv owner at.2 here run.call.stage at.3 k s)
@@ -100,29 +106,30 @@ module _ {T : Type 0} (scene : Scene T) (inv : Inv scene) where
       (λ alive s k. recover_step scene inv mode here run.call.stage at.2 k s)
   step_moves starts.BorrowedIndices (calls.BorrowedIndices run) here at =
       subst (Moves starts.BorrowedIndices) (sym (ap (λ n. borrowed_at n run.call.count) at.0))
-      (λ alive s k. borrowed_step scene inv here run.call.count at.1 at.2 k s)
-  step_moves starts.IsLocked (calls.IsLocked run) here at = λ alive s k. looks_step scene inv here at k s
+      (λ alive s k. borrowed_step inv here run.call.count at.1 at.2 k s)
+  step_moves starts.IsLocked (calls.IsLocked run) here at = λ alive s k. looks_step inv here at k s
   step_moves start flight here at = absurd at
 
-  -- the answer so said to a call that may be told it shows what it has to
+  -- a decision for this call, which may be told it, keeps the invariant (`Shows`)
   abbrev Decides : Bool → RobustStart → RobustFlight → Type 0
   Decides said start flight =
       MayDecide by scene.set.dead flight said → is_question (want flight) ≡ true
       → scene.steps ≤ standing.number_of c flight scene.backs → Knows c flight (now scene)
       → DecisionOf scene start flight said
 
-  -- a yes about an owner, where owners die, is of a dead one
+  -- where owners die, a recovery is told yes only about a dead owner
   may_tell : (b : GoneBy) (said : Bool) (mode : ReleaseMode) (index owner : ℕ)
       → MayDecide b scene.set.dead (recover_at c mode (recovers.Asks index owner)) said → number_of said ≢ 0
       → MayBeTold b owner events
   may_tell b said mode index owner may_decide ne = grind arith
 
+  -- a decision about a find keeps the invariant
   find_decides : (said : Bool) (owner : ℕ) → owner < empty → IsHere scene (starts.Find owner)
       → (stage : FindStage) → FindAt c (all scene) stage
       → Decides said (starts.Find owner) (find_at c owner stage)
   find_decides = grind (arith, find_decided, number_of)
 
-  -- each answer to a question of a recovery shows what it has to
+  -- each answer to a recovery's question keeps the invariant (`Shows`)
   recover_decides : (said : Bool) (mode : ReleaseMode) → IsHere scene (starts.Recover mode)
       → (stage : RecoverStage) → RecoverAt c mode (all scene) stage
       → Decides said (starts.Recover mode) (recover_at c mode stage)
@@ -136,7 +143,7 @@ module _ {T : Type 0} (scene : Scene T) (inv : Inv scene) where
   recover_decides said mode here (recovers.Locks index lock) at frees asks s k = both_ways (is_question (lock_want lock)) (lock_asks_none lock) asks
   recover_decides said mode here recovers.LoadsCounterAgain at frees asks s k = absurd (cc)
 
-  -- each answer to a question of any call that stands at its place shows what it has to
+  -- each answer to a question of any call that stands at its stage keeps the invariant (`Shows`)
   pub decision_moves : (said : Bool) (start : RobustStart) (flight : RobustFlight) → IsHere scene start
       → At c (all scene) start flight → Decides said start flight
   decision_moves said (starts.Acquire owner) (calls.Acquire run) here at =
@@ -156,11 +163,11 @@ module _ {T : Type 0} (scene : Scene T) (inv : Inv scene) where
   decision_moves said starts.IsLocked (calls.IsLocked run) here at = λ frees asks s k. absurd (cc)
   decision_moves said start flight here at = absurd at
 
--- ---- the laws of the family
+-- ---- the laws that the frame asks of the family
 
--- `c` is the capacity, `t` the run so far, and `s` what is sound of it
+-- `c` is the capacity, `t` the run so far, and `s` says that the invariant holds after it
 module _ {T : Type 0} (by : GoneBy) (code : Coding T) (c : ℕ) (t : Trace T) (s : frame.Sound (family_by by code c) t) where
-  -- the turn of a call of this party
+  -- the turn of the party `p`, whose call is `x`
   abbrev pub scene_of : ℕ → Party T → ℕ → Scene T
   scene_of p x since =
       record {
@@ -178,7 +185,7 @@ module _ {T : Type 0} (by : GoneBy) (code : Coding T) (c : ℕ) (t : Trace T) (s
         events = t.events;
       }
 
-  -- the counter has room, as of the words that the state holds
+  -- the counter has room in the words of the state, where it has in those of the machine
   room_there : HasRoom by t.world.words → HasRoom by s.state.words
   room_there room = subst (HasRoom by) s.fit.words room
 
@@ -188,71 +195,76 @@ module _ {T : Type 0} (by : GoneBy) (code : Coding T) (c : ℕ) (t : Trace T) (s
 
   -- `x` is the call of party `p`
   module _ (p : ℕ) (x : Party T) (since : ℕ) (found : party_of p t.world.latest ≡ Some x) where
+    -- the invariant holds before the step, where the counter has room
     pub inv_with : HasRoom by t.world.words → Inv (scene_of p x since)
     inv_with = grind (arith, room_there)
 
+    -- the invariant holds before the step, while fewer than 2 ^ 64 - 2 turns were made
     pub inv_of : t.world.turns < 2 ^ 64 - 2 → Inv (scene_of p x since)
     inv_of small = inv_with (has_room small)
 
-    -- its call stands there by the events
+    -- the party's call stands at its stage, by the events, and knows what the stage says
     pub record IsThere (start : RobustStart) (flight : RobustFlight) : Type 0 where
       pub here : IsHere (scene_of p x since) start
       pub at : At c (all (scene_of p x since)) start flight
       pub steps : x.steps ≤ standing.number_of c flight x.backs
       pub knows : Knows c flight (now (scene_of p x since))
 
+    -- the call that stands in the machine stands in the set
     pub is_there : (start : RobustStart) (flight : RobustFlight)
         → StandsThere (family_by by code c) t s p x since (Robust start) (flights.Robust flight)
         → IsThere start flight
     is_there start flight stands_there = grind arith
 
-    -- the rows that it has passed
+    -- where no row refuses the turn, the call acts for nobody dead, and is told no yes about a living owner
     pub passes : (flight : RobustFlight) (said : Option Bool)
         → first_row (going_rows code (registries.Owners s.state.dead) (Some (flights.Robust flight)) said) ≡ None
         → (acts_for_dead s.state.dead flight ≡ false) × (frees_living s.state.dead flight said ≡ false)
-    passes flight said r = grind arith
+    passes flight said not_refused = grind arith
 
-    -- it may decide so
+    -- a decision that no row refuses may be taken
     pub decides_by : (b : GoneBy) (flight : RobustFlight) (said : Bool)
         → first_row (going_rows code (registries.Owners s.state.dead) (Some (flights.Robust flight)) (Some said)) ≡ None
         → MayDecide b s.state.dead flight said
-    decides_by Death flight said r = (passes flight (Some said) r).1
-    decides_by Word flight said r = tt
+    decides_by Death flight said not_refused = (passes flight (Some said) not_refused).1
+    decides_by Word flight said not_refused = tt
 
     -- ---- a step
 
-    -- a step of a call that stands there and passes the rows comes from there to a sound machine
-    comes : HasRoom by t.world.words → (start : Start T) (flight : Flight T)
+    -- a step of a call that stands in the machine, and that no row refuses, leaves a
+    -- machine with the invariant
+    comes : HasRoom by t.world.words → {start : Start T} {flight : Flight T}
         → first_row (going_rows code (registries.Owners s.state.dead) (Some flight) None) ≡ None
         → StandsThere (family_by by code c) t s p x since start flight
         → ComesFrom (family_by by code c) t s p x since code s.state.words (registries.Owners s.state.dead) start flight
-    comes room (Robust start) (flights.Robust flight) r stands_there =
+    comes room {start = (Robust start)} {flight = (flights.Robust flight)} not_refused stands_there =
         let there = is_there start flight stands_there in
-        let moves = step_moves (scene_of p x since) (inv_with room) start flight there.here there.at (passes flight None r).0 there.steps there.knows in
+        let moves = step_moves (inv_with room) start flight there.here there.at
+        (passes flight None not_refused).0 there.steps there.knows in
         record {
           state = _;
           fit = record { kept = refl; words = refl };
           holds = holds_more (scene_of p x since) _ (Open (Robust start) (wrote_of p t.events)) _ _ _ moves s.holds s.inv;
           owes = owes (scene_of p x since) _ (Open (Robust start) (wrote_of p t.events)) _ _ _ moves s.holds s.inv there.here;
         }
-    comes room start flight r stands_there = absurd stands_there.at
+    comes room not_refused stands_there = absurd stands_there.at
 
     -- ---- a decision
 
-    -- what a call that is one of the set may decide
+    -- the call may be told this, if it is one of the set
     abbrev pub MayDecideIn : Flight T → Bool → Type 0
     MayDecideIn (flights.Robust flight) said = MayDecide by s.state.dead flight said
     MayDecideIn flight said = Unit {0}
 
-    -- a decision that a call that stands there is told comes from there to a sound machine
-    pub decides : HasRoom by t.world.words → (said : Bool) (start : Start T) (flight : Flight T)
+    -- a decision for a call that stands in the machine leaves a machine with the invariant
+    pub decides : HasRoom by t.world.words → (said : Bool) {start : Start T} {flight : Flight T}
         → MayDecideIn flight said → is_question (want_of code flight) ≡ true
         → StandsThere (family_by by code c) t s p x since start flight
         → DecidesFrom (family_by by code c) t s p x since code (number_of said) s.state.words (registries.Owners s.state.dead) start flight
-    decides room said (Robust start) (flights.Robust flight) may_decide asks stands_there =
+    decides room said {start = (Robust start)} {flight = (flights.Robust flight)} may_decide asks stands_there =
         let there = is_there start flight stands_there in
         let moves =
-        decision_moves (scene_of p x since) (inv_with room) said start flight there.here there.at
+        decision_moves (inv_with room) said start flight there.here there.at
         may_decide asks there.steps there.knows in
         record {
           state = _;
@@ -260,9 +272,9 @@ module _ {T : Type 0} (by : GoneBy) (code : Coding T) (c : ℕ) (t : Trace T) (s
           holds = holds_more (scene_of p x since) _ (Open (Robust start) (wrote_of p t.events)) _ _ _ moves s.holds s.inv;
           owes = owes (scene_of p x since) _ (Open (Robust start) (wrote_of p t.events)) _ _ _ moves s.holds s.inv there.here;
         }
-    decides room said start flight may_decide asks stands_there = absurd stands_there.at
+    decides room said may_decide asks stands_there = absurd stands_there.at
 
-    -- one that passes the machine's rows may
+    -- a decision that no row refuses may be told
     pub passes_in : (flight : Flight T) (said : Bool)
         → first_row (going_rows code (registries.Owners s.state.dead) (Some flight) (Some said)) ≡ None → MayDecideIn flight said
     passes_in = grind (arith, decides_by)
@@ -270,15 +282,15 @@ module _ {T : Type 0} (by : GoneBy) (code : Coding T) (c : ℕ) (t : Trace T) (s
   -- ---- a call begins
 
   module _ (p : ℕ) where
-    -- a call of the set that begins comes to a sound machine, with its begin as the one event
-    begins_now : (start : RobustStart) (flight : RobustFlight)
+    -- a begin whose call is at its first stage leaves a machine with the invariant
+    begins_now : {start : RobustStart} {flight : RobustFlight}
         → IsFirst T by c s.state.words t.events p t.world.changes start flight
         → span_of p (t.events ++ Begun p (Robust start) ∷ []) ≡ Open (Robust start) []
         → MayBegin t.world p (Robust start)
         → frame.Comes (family_by by code c) t p (registries.Owners s.state.dead) s.state.words
         (party_at_begin (Robust start) (flights.Robust flight) t.world.changes)
         (Begun p (Robust start) ∷ []) t.world.changes
-    begins_now start flight known span may =
+    begins_now {start = start} {flight = flight} known span may =
         let party_after : Party T = party_at_begin (Robust start) (flights.Robust flight) t.world.changes in
         let scene = scene_of p party_after t.world.changes in
         let does = begins scene s.holds.good (Robust start) in
@@ -306,10 +318,11 @@ module _ {T : Type 0} (by : GoneBy) (code : Coding T) (c : ℕ) (t : Trace T) (s
           owes = owes scene s.state.words (span_of p t.events) party_after (Begun p (Robust start) ∷ []) t.world.changes shows s.holds s.inv refl;
         }
 
+    -- the span of a party whose call begins is open with nothing written
     span_begun : (start : RobustStart) → span_of p (t.events ++ Begun p (Robust start) ∷ []) ≡ Open (Robust start) []
     span_begun start = span_of-own p t.events (Begun p (Robust start) ∷ []) (refl, tt)
 
-    -- any call that the set begins, and whose begin passes the rows, comes to a sound machine
+    -- any begin that no row refuses leaves a machine with the invariant
     begin_comes : (start : Start T) (flight : Flight T) → MayBegin t.world p start
         → first_of kinds.Robust c start (registries.Owners s.state.dead) ≡ Some flight
         → first_row ((begin_of kinds.Robust c start).rows (registries.Owners s.state.dead) p) ≡ None
@@ -318,18 +331,17 @@ module _ {T : Type 0} (by : GoneBy) (code : Coding T) (c : ℕ) (t : Trace T) (s
     begin_comes (Robust start) (flights.Robust flight) may named passed =
         let own = begins_own T c (registries.Owners s.state.dead) (Robust start) (flights.Robust flight) named in
         let set_good = s.holds.good in
-        begins_now start flight
-        (subst (λ f. IsFirst T by c s.state.words t.events p t.world.changes start f) own.0
-        (first_is by c s.state.words t.events p t.world.changes set_good.some set_good.owned start own.1 s.state.dead passed
+        begins_now
+        (rw (← own.0) (first_is by c s.state.words p t.world.changes set_good.some set_good.owned start own.1 s.state.dead passed
         (ap (λ a. set_acts (wrote_in a)) (span_begun start))))
         (span_begun start) may
     begin_comes start flight may named passed = absurd (begins_own T c (registries.Owners s.state.dead) start flight named)
 
   -- ---- an owner dies
 
-  -- the death of an owner who may die comes to a sound machine
-  death_comes : (o : ℕ) → MayDie t.world o → frame.ComesByDeath (family_by by code c) t s o
-  death_comes o may =
+  -- the death of an owner who may die leaves a machine with the invariant
+  death_comes : {o : ℕ} → MayDie t.world o → frame.ComesByDeath (family_by by code c) t s o
+  death_comes {o = o} may =
       let set_good = s.holds.good in
       let alive : is_dead o t.events ≡ false = sym (set_good.died o) ∙ subst (λ kept. families.is_dead kept o ≡ false) s.fit.kept may.lives in
       record {
@@ -352,21 +364,22 @@ module _ {T : Type 0} (by : GoneBy) (code : Coding T) (c : ℕ) (t : Trace T) (s
       }
 
 module _ {T : Type 0} (by : GoneBy) where
-  -- the counter of the machine has room
+  -- the turn may be taken: the counter of the machine has room
   abbrev pub May : Trace T → Turn T → Type 0
   May t turn = HasRoom by t.world.words
 
-  -- each turn of a set may be taken, as the frame asks it of a family
+  -- each begin, step, decision and death keeps what holds of the set
   turns : (code : Coding T) (c : ℕ) → Turns (outline by) code c May
   turns code c =
       record {
         begin = λ t s p start flight may named rows. begin_comes by code c t s p start flight may named rows;
-        step = λ t s p x since room found start flight rows here. comes by code c t s p x since found room start flight rows here;
-        decision = λ t s p x since said room found start flight rows asks here. decides by code c t s p x since found room said start flight
+        step = λ t s p x since room found start flight rows here. comes by code c t s p x since found room rows here;
+        decision = λ t s p x since said room found start flight rows asks here. decides by code c t s p x since found room said
             (passes_in by code c t s p x since found flight said rows) asks here;
-        death = λ t o s may. death_comes by code c t s o may;
+        death = λ t o s may. death_comes by code c t s may;
       }
 
+  -- the laws of the family: each turn keeps the invariant
   pub laws_by : (code : Coding T) (c : ℕ) → frame.LawsWhere (family_by by code c) May
   laws_by code c = laws.laws (outline by) code c May (turns code c)
 
@@ -377,14 +390,16 @@ module _ {T : Type 0} (by : GoneBy) where
         state = record { words = opening_words c; dead = []; events = [] };
         kept = refl;
         words = refl;
-        holds = record { same = refl; begun = λ p x found. absurd (cc); good = opening_good by c some few; asks = Each-nil _ };
+        holds = record { same = refl; begun = λ p x found. absurd (cc); good = opening_good some few; asks = Each-nil _ };
       }
 
+  -- the invariant holds of the opening, at each capacity from 1 to below 2 ^ 32
   pub opening_sound : (code : Coding T) (c parties : ℕ) → 1 ≤ c → c < 2 ^ 32
       → frame.Sound (family_by by code c) (opening code kinds.Robust c parties)
   opening_sound code c parties some few = laws.opening_sound (outline by) code c (opens code c some few) parties
 
-  -- all turns of a set are sound, if the counter has room
+  -- the set opens with the invariant and each turn keeps it, at every capacity that is admitted, if the
+  -- counter has room
   pub all_turns : AllTurns (outline by) May
   all_turns =
       record {
@@ -393,5 +408,6 @@ module _ {T : Type 0} (by : GoneBy) where
         few = λ code c t turn s small. has_room by code c t s small;
       }
 
+-- the invariant of the set holds after each run that a machine may come to
 pub reached_sound : {T : Type 0} (t : Trace T) → t.world.kind ≡ kinds.Robust → IsReached t → frame.Sound (family t.world.coding t.world.capacity) t
 reached_sound = laws.reached_sound (outline Death) (May Death) (all_turns Death)

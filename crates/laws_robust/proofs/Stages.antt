@@ -1,4 +1,5 @@
--- What a step of a call of the robust index set has to show, and how a call goes on or ends.
+-- What a step of a call of the robust index set has to show (`Leads`, `StepOf`), and the lemmas for a call
+-- that goes on and for one that ends.
 use Rattle.laws_robust.proofs.Names.{◌≡◌, ◌≢◌, ℕ, ◌+◌, ◌≤◌, ◌==◌, ⊎_elim, inl, inr, if◌then◌else◌, Bool, true, false}
 use Rattle.laws_robust.proofs.Names.{Option, Some, None, List, [], ◌∷◌, ◌++◌, get_or, set, fold, refl, sym, ap, subst}
 use Rattle.laws_robust.proofs.Names.{◌∙◌, append-nil, arith, eq-eqb, ne_eqb, nat_tests, set-get_or, flat_map-append}
@@ -23,7 +24,7 @@ use Rattle.laws_robust.proofs.CallProgress.{At}
 use Rattle.laws_robust.proofs.Rights.{Right, right_after}
 use Rattle.laws_robust.proofs.Cases.{on_bool}
 
--- the words stay, or their changes go up
+-- a step leaves the words as they are, or the number of changes goes up
 pub is_seen : (words : List ℕ) (ask : Option Ask) (changes : ℕ) → IsSeen words (words_after words ask) changes (changes + change_of words ask)
 is_seen words None changes = inl (refl, omega arith)
 is_seen words (Some ask) changes =
@@ -36,12 +37,15 @@ is_seen words (Some ask) changes =
 
 -- ---- the operations that the calls ask for
 
+-- a load of a word
 abbrev pub loads : ℕ → Ask
 loads word = record { word = word; op = Load }
 
+-- an exchange of a word
 abbrev pub exchanges : ℕ → ℕ → ℕ → Ask
 exchanges word from to = record { word = word; op = Exchange from to }
 
+-- a load leaves the words
 pub loads_same : (words : List ℕ) (word : ℕ) → words_after words (Some (loads word)) ≡ words
 loads_same words word = set-get_or words word 0
 
@@ -49,25 +53,29 @@ loads_same words word = set-get_or words word 0
 pub fails_same : (words : List ℕ) (word from to : ℕ) → get_or words word 0 ≢ from → words_after words (Some (exchanges word from to)) ≡ words
 fails_same = grind (arith, set, ne_eqb, set-get_or)
 
+-- an exchange whose word has the expected value sets it
 pub exchange_sets : (words : List ℕ) (word from to : ℕ) → get_or words word 0 ≡ from → words_after words (Some (exchanges word from to)) ≡ set words word to
 exchange_sets = grind (arith, set, eq-eqb)
 
 module _ {T : Type 0} where
-  -- a call of the kind as one of any
+  -- a call of the set as one of any family
   abbrev pub any_call : After RobustFlight (Answer T) → After (Flight T) (Answer T)
   any_call after = as_call flights.Robust (λ answer. answer) after
 
-  -- events that make a span longer
+  -- events that make an open span longer, and do not end it
   abbrev pub Lengthens : List (Event T) → Type 0
   Lengthens es =
       (start : RobustStart) (w : List (Event T)) → fold own_after (Open (Robust start) w) es ≡ Open (Robust start) (w ++ es)
 
+  -- the empty list of events lengthens an open span by nothing
   pub none_lengthens : Lengthens []
   none_lengthens start w = ap (λ es. Open (Robust start) es) (sym (append-nil w))
 
+-- `c` is the capacity, `p` the party that takes the step
 module _ {T : Type 0} (scene : Scene T) where
   open scene use {by as by, capacity as c, party as p, steps as steps, backs as backs, since as since, changes as changes, events as events}
 
+  -- the words of the set before the step
   abbrev pub ws : List ℕ
   ws = scene.set.words
 
@@ -75,6 +83,7 @@ module _ {T : Type 0} (scene : Scene T) where
   abbrev pub wrote : List (Event T)
   wrote = wrote_of p events
 
+  -- what the call under way has done to the set
   abbrev pub all : List SetAct
   all = set_acts_of p events
 
@@ -87,64 +96,75 @@ module _ {T : Type 0} (scene : Scene T) where
   abbrev party : RobustStart → Party T
   party start = record { start = Robust start; steps = steps; backs = backs; doing = Over 0 }
 
+  -- the party after the step
   abbrev pub party_then : RobustStart → Option Ask → Bool → After RobustFlight (Answer T) → Party T
   party_then start ask back after =
       party_after (party start) since changes (step_count ask) (change_of ws ask)
       (record { after = any_call after; back = back; wrote = []; kept = registries.Owners scene.set.dead })
 
+  -- how often words had changed when the call began, not counting this step
   abbrev pub since_then : Option Ask → ℕ
   since_then ask = since + change_of ws ask
 
+  -- how often words have changed after a step with this operation
   abbrev pub changes_then : Option Ask → ℕ
   changes_then ask = changes + change_of ws ask
 
+  -- how often the call has turned back after this step
   abbrev pub backs_then : Bool → ℕ
   backs_then back = backs + one_if back
 
-  -- what the call sees now, and after a step that writes these events
+  -- what the call sees before the step
   abbrev pub now : View T
   now = view by ws events p since changes backs
 
+  -- what the call sees after a step with this operation, where the events are then `later`
   abbrev pub seen : Option Ask → Bool → List (Event T) → View T
   seen ask back later = view by (words_after ws ask) later p (since_then ask) (changes_then ask) (backs_then back)
 
+  -- what it sees after a step that writes the events `es`
   abbrev pub then_sees : Option Ask → Bool → List (Event T) → View T
   then_sees ask back es = seen ask back (events ++ es)
 
-  -- after a step that writes nothing
+  -- what it sees after a step that writes nothing
   abbrev pub sees : Option Ask → Bool → View T
   sees ask back = seen ask back events
 
-  -- a step with this operation that did this, after which the call goes on or is done
+  -- a step with the operation `ask` that wrote `did`, after which the call is as `after` says, keeps the
+  -- invariant (`Shows`, Invariant)
   abbrev pub Leads : RobustStart → Option Ask → Bool → List (Event T) → After RobustFlight (Answer T) → Type 0
   Leads start ask back did after =
       Shows scene (words_after ws ask) (Open (Robust start) (wrote_of p events)) (party_then start ask back after)
       (did ++ ending_of p (Robust start) (answer_in (any_call after))) (changes + change_of ws ask)
 
-  -- the step of a call that is handed this answer
+  -- the turn in which this call gets the answer `answer` keeps the invariant (`Shows`)
   abbrev pub AnswerOf : RobustStart → RobustFlight → Option Ask → ℕ → Type 0
   AnswerOf start flight ask answer =
       Leads start ask (goes_back flight answer) (effects p flight answer) (after flight answer)
 
+  -- the next step of this call keeps the invariant (`Shows`)
   abbrev pub StepOf : RobustStart → RobustFlight → Type 0
   StepOf start flight = AnswerOf start flight (ask_of (want flight)) (old_of ws (ask_of (want flight)))
 
+  -- a decision for this call keeps the invariant (`Shows`)
   abbrev pub DecisionOf : RobustStart → RobustFlight → Bool → Type 0
   DecisionOf start flight said = AnswerOf start flight None (number_of said)
 
-  -- ---- what a step leaves of what the call knows of the counts
+  -- ---- what the call knows of the counts after a step
 
+  -- turns back that are paid, one more unless `P` holds, are paid
   pub paid_of : (P : Type 0) → PaidUnless P now → IsPaid now
   paid_of P paid_unless = ⊎_elim (λ k. k.1) (λ k. omega arith) paid_unless
 
+  -- turns back that are paid stay so after a step of the call itself
   pub paid_then : (ask : Option Ask) (later : List (Event T)) → IsPaid now → IsPaid (seen ask false later)
   paid_then ask later paid = omega arith
 
-  -- a number that the counter does not have any more pays for a turn back
+  -- a counter that has moved on from the number that the call holds pays for a turn back
   pub paid_back : (number : ℕ) (ask : Option Ask) (later : List (Event T)) → counter_of ws ≢ number → Holding number now → IsPaid (seen ask true later)
   paid_back number ask later other holding = ⊎_elim (λ k. absurd (other k.0)) (λ k. omega arith) holding.paid
 
-  -- a step that leaves the counter leaves what is known of it
+  -- a step that leaves the counter leaves what the call knows of it
   pub holds_on : (number : ℕ) (ask : Option Ask) (later : List (Event T))
       → counter_of (words_after ws ask) ≡ counter_of ws → Holding number now → Holding number (seen ask false later)
   holds_on number ask later same holding = grind arith
@@ -152,18 +172,20 @@ module _ {T : Type 0} (scene : Scene T) where
   -- ---- what the party has written
 
   module _ (start : RobustStart) (here : IsHere start) (es : List (Event T)) (own : AreOwn p es) (longer : Lengthens es) where
+    -- the party has written after the step what it had written and the events of the step
     wrote_more : wrote_of p (events ++ es) ≡ wrote_of p events ++ es
     wrote_more = grind (arith, span_of-own, fold)
 
+    -- the acts of the party after the step are those before it and those of the step
     pub set_acts_more : set_acts_of p (events ++ es) ≡ set_acts_of p events ++ set_acts es
     set_acts_more = ap set_acts wrote_more ∙ flat_map-append set_act (wrote_of p events) es
 
-  -- ---- the call goes on, or is done
+  -- ---- the call goes on, or ends
 
-  -- a call goes on to its next stage, where it stands and knows what the stage tells, with the
-  -- steps that are left to it
+  -- a step after which the call goes on keeps the invariant (`Shows`), where the call stands at its next
+  -- stage, knows what that stage says, and is within its bound of steps
   pub goes_on :
-      (start : RobustStart) (flight : RobustFlight) (ask : Option Ask) (back : Bool) (did : List (Event T)) → IsHere start → Lengthens (did ++ [])
+      {start : RobustStart} {flight : RobustFlight} (ask : Option Ask) (back : Bool) (did : List (Event T)) → IsHere start → Lengthens (did ++ [])
       → Does scene (words_after ws ask) (did ++ [])
       → AllFollow (Stands promise c) (Open (Robust start) (wrote_of p events)) (did ++ [])
       → AreRight (AsksBy by) events (did ++ [])
@@ -171,7 +193,7 @@ module _ {T : Type 0} (scene : Scene T) where
       → At c (set_acts_of p events ++ set_acts (did ++ [])) start flight
       → Knows c flight (then_sees ask back (did ++ []))
       → Leads start ask back did (GoOn flight)
-  goes_on start flight ask back did here longer does stands asks few at known =
+  goes_on {start = start} ask back did here longer does stands asks few at known =
       record {
         does = does;
         stands = stands;
@@ -180,22 +202,23 @@ module _ {T : Type 0} (scene : Scene T) where
             record {
               span = longer start (wrote_of p events) ∙ ap (λ es. Open (Robust start) es) (sym (wrote_more start here (did ++ []) does.own longer));
               steps = few;
-              at = subst (λ d. At c d start flight) (sym (set_acts_more start here (did ++ []) does.own longer)) at;
+              at = rw (set_acts_more start here (did ++ []) does.own longer) at;
             };
         knows = known;
         seen = is_seen ws ask changes;
       }
 
-  -- a call ends, within its steps, and writes its end last
+  -- a step that ends the call keeps the invariant (`Shows`), where the call is within its bound of steps
+  -- and its end is right
   pub ends :
-      (start : RobustStart) (answer : Answer T) (ask : Option Ask) (back : Bool) (did : List (Event T)) → IsHere start → Lengthens did
+      {start : RobustStart} (answer : Answer T) (ask : Option Ask) (back : Bool) (did : List (Event T)) → IsHere start → Lengthens did
       → Does scene (words_after ws ask) (did ++ Finished p (Robust start) answer ∷ [])
       → AllFollow (Stands promise c) (Open (Robust start) (wrote_of p events)) (did ++ Finished p (Robust start) answer ∷ [])
       → AreRight (AsksBy by) events (did ++ Finished p (Robust start) answer ∷ [])
       → steps + step_count ask ≤ most_steps c start (backs_then back)
       → IsPaid (then_sees ask back (did ++ Finished p (Robust start) answer ∷ []))
       → Leads start ask back did (Done answer)
-  ends start answer ask back did here longer does stands asks few paid =
+  ends {start = start} answer ask back did here longer does stands asks few paid =
       record {
         does = does;
         stands = stands;
@@ -213,24 +236,24 @@ module _ {T : Type 0} (scene : Scene T) where
         seen = is_seen ws ask changes;
       }
 
-  -- ---- the same of a step that writes nothing but an end, and leaves the cells
+  -- ---- a step that writes nothing but an end, and leaves the cells
 
   module _ (inv : Inv scene) where
-    -- a call goes on so
+    -- a step that writes nothing, and after which the call goes on, keeps the invariant (`Shows`)
     pub goes_quietly :
-        (start : RobustStart) (flight : RobustFlight) (ask : Option Ask) (back : Bool) → IsHere start → Stays scene (words_after ws ask)
+        {start : RobustStart} {flight : RobustFlight} (ask : Option Ask) (back : Bool) → IsHere start → Stays scene (words_after ws ask)
         → steps + step_count ask ≤ standing.number_of c flight (backs_then back)
         → At c (set_acts_of p events) start flight
         → Knows c flight (view by (words_after ws ask) events p (since_then ask) (changes_then ask) (backs_then back))
         → Leads start ask back [] (GoOn flight)
-    goes_quietly start flight ask back here stays few at known =
-        goes_on start flight ask back [] here none_lengthens (quietly scene inv (words_after ws ask) [] stays.leaves quiet_none tt tt tt) tt tt few
-        (subst (λ d. At c d start flight) (sym (append-nil (set_acts_of p events))) at)
-        (subst (λ es. Knows c flight (view by (words_after ws ask) es p (since_then ask) (changes_then ask) (backs_then back))) (sym (append-nil events)) known)
+    goes_quietly {start = start} {flight = flight} ask back here stays few at known =
+        goes_on ask back [] here none_lengthens (quietly scene inv (words_after ws ask) [] stays.leaves quiet_none tt tt tt) tt tt few
+        (rw (append-nil (set_acts_of p events)) at)
+        (rw (append-nil events) known)
 
-    -- a call ends so
+    -- a step that writes nothing but the end of the call keeps the invariant (`Shows`)
     pub ends_quietly :
-        (start : RobustStart) (answer : Answer T) (ask : Option Ask) (back : Bool) → IsHere start → Stays scene (words_after ws ask)
+        {start : RobustStart} {answer : Answer T} (ask : Option Ask) (back : Bool) → IsHere start → Stays scene (words_after ws ask)
         → ((i : ℕ) (o : Option ℕ) → settled_after i o (Finished p (Robust start) answer) ≡ o)
         → ((i : ℕ) (r : Right) → right_after i r (Finished p (Robust start) answer) ≡ r)
         → AnswersBy by (IsWorn by (words_after ws ask)) c events (Finished p (Robust start) answer)
@@ -238,8 +261,8 @@ module _ {T : Type 0} (scene : Scene T) where
         → steps + step_count ask ≤ most_steps c start (backs_then back)
         → IsPaid (then_sees ask back (Finished p (Robust start) answer ∷ []))
         → Leads start ask back [] (Done answer)
-    ends_quietly start answer ask back here stays settles rights right done few paid =
-        ends start answer ask back [] here none_lengthens
+    ends_quietly {start = start} {answer = answer} ask back here stays settles rights right done few paid =
+        ends answer ask back [] here none_lengthens
         (quietly scene inv (words_after ws ask) (Finished p (Robust start) answer ∷ []) stays.leaves
         (quiet_end p (Robust start) answer settles rights) (refl, tt) (tt, tt) (right, tt))
         ((refl, done), tt) (tt, tt) few paid

@@ -1,6 +1,7 @@
--- Who is gone, and what nobody does for him. Where owners die, gone are the dead. Where nobody sees a death, as between
--- threads, gone are also those of whom a recovery was told to free an index, and those for whom a container's recovery
--- was begun: its yes, or its begin, is the word that they are.
+-- Which owners are gone, and what nobody does for them. Where owners die, the dead are gone. Where nobody
+-- sees an owner die, as between threads, also those owners are gone of whom a recovery was told to free an
+-- index (its yes says that they are), and those for whom a container's recovery was begun (its begin says
+-- that they are).
 use Rattle.std.specs.Prelude.{◌≡◌, ◌≢◌, ◌⊎◌, ℕ, ◌<◌, ◌==◌, ◌||◌, Bool, true, false, Some, List, fold}
 use Rattle.steps.specs.declared.indices.enums.ReleaseMode.TheVariants.{LockIfLastIndex}
 use Rattle.steps.specs.declared.indices.enums.ReleaseState.TheVariants.{Unlocked}
@@ -17,7 +18,8 @@ use Rattle.model.specs.Families.Indices.Robust.Reading.{Asks, Yes, filled_of, is
 use Rattle.model.specs.Moments.{HeldSometime}
 use Rattle.model.specs.Reading.{Each, Span, Open, span_of}
 
--- what makes an owner gone: that he has died, or that a recovery was told so
+-- what makes an owner gone: `Death` is that the owner has died, `Word` also that a recovery was told so, or
+-- begun for the owner
 pub data GoneBy : Type 0 where
   Death : GoneBy
   Word : GoneBy
@@ -47,7 +49,8 @@ module _ {T : Type 0} where
       is_gone Word owner before ≡ false
   GivesBackRight owner before span = Unit {0}
 
-  -- no index is filled, granted or given back for an owner who is gone, and no add for him ends with one
+  -- no index is filled, granted or given back for an owner who is gone, and no add for such an owner ends
+  -- with an index
   abbrev pub ActsForRight : List (Event T) → Event T → Type 0
   ActsForRight before (Filled p index owner) = is_gone Word owner before ≡ false
   ActsForRight before (Granted p index owner) = is_gone Word owner before ≡ false
@@ -56,27 +59,28 @@ module _ {T : Type 0} where
       is_gone Word owner before ≡ false
   ActsForRight before e = Unit {0}
 
-  -- nobody acts for an owner who is gone
+  -- an honest run: nobody acts in it for an owner who is gone
   abbrev pub IsHonest : List (Event T) → Type 0
   IsHonest events = Each ActsForRight events
 
-  -- a run is honest; where owners die this asks for nothing, since the machine refuses what is not
+  -- the run is honest; where owners die this asks for nothing, since the machine refuses a
+  -- turn for a dead owner
   abbrev pub IsHonestBy : GoneBy → List (Event T) → Type 0
   IsHonestBy Death events = Unit {0}
   IsHonestBy Word events = IsHonest events
 
-  -- a run is well-formed and honest: of such runs it is said who holds an index
+  -- the run is well-formed and honest; only of such runs is it proved who holds an index
   abbrev pub IsCalm : GoneBy → List (Event T) → Type 0
   IsCalm by events = IsWellFormed events × IsHonestBy by events
 
   -- ---- what a recovery is told, and how it answers
 
-  -- a recovery may be told to free an index of this owner: where owners die, of one who is dead
+  -- a recovery may be told to free an index of this owner; where owners die the owner has to be dead
   abbrev pub MayBeTold : GoneBy → ℕ → List (Event T) → Type 0
   MayBeTold Death owner before = is_dead owner before ≡ true
   MayBeTold Word owner before = Unit {0}
 
-  -- a recovery asks right, and is told to free only indices of owners who are gone where that is known
+  -- a recovery asks rightly, and is told to free only indices of owners of whom `MayBeTold` holds
   abbrev pub AsksBy : GoneBy → List (Event T) → Event T → Type 0
   AsksBy by before (Told p index owner) = MayBeTold by owner before
   AsksBy by before e = AsksRight before e
@@ -89,8 +93,8 @@ module _ {T : Type 0} where
     pub gone : IsHonestBy by events → (index owner : ℕ) → IsOneOf (Yes index owner) (set_acts_of p events)
         → filled_of index events ≢ Some owner
 
-  -- What an answer says; where the counter may be worn, at its end by now, an acquire that was granted no index and a
-  -- lock that was not made say no more than that it is.
+  -- What an answer says. `worn` is that the counter may be at its end by now; then that may be the reason
+  -- of an acquire that answers `OutOfIndices`, and of a release that did not lock.
   abbrev pub AnswersBy : GoneBy → Type 0 → ℕ → List (Event T) → Event T → Type 0
   AnswersBy by worn capacity before (Finished p (Robust (Acquire owner)) (NoIndex OutOfIndices)) =
       IsUnlocked before

@@ -1,6 +1,6 @@
--- Runs of a robust index set, or of a container, where nobody sees an owner die, as between threads: no owner dies, and
--- neither a yes of a recovery nor the begin of a container's is refused; and neither turns nor parties have a bound.
--- And what holds of a robust index set that such a run leads to.
+-- Open runs of a robust index set, or of a container, in which nobody sees an owner die, as between
+-- threads: no owner dies, no yes of a recovery and no begin of a container's recovery is refused, and
+-- neither turns nor parties have a bound. And what holds of a robust index set that such a run leads to.
 use Rattle.std.specs.Prelude.{◌≡◌, ℕ, ◌<◌, ◌==◌, Bool, true, false, not, Option, is_some, is_none, List, [], ◌∷◌, slice_index}
 use Rattle.steps.specs.Indices.Robust.Parts.{cell_word, locked, greatest}
 use Rattle.model.specs.declared.event.Start.TheVariants.{Container}
@@ -21,7 +21,7 @@ use Rattle.model.specs.World.{World, Trace, flight_in}
 use Rattle.laws_robust.specs.Gone.{Word, IsHonest, AsksBy, AnswersBy}
 
 module _ {T : Type 0} where
-  -- what is tested of a turn, in order
+  -- what is tested of a turn of an open run, in order
   abbrev pub open_rows : World T → Turn T → List (Bool × Refusal)
   open_rows w (Decide p said) =
       (is_none (flight_in w p), Idle)
@@ -34,30 +34,30 @@ module _ {T : Type 0} where
       ∷ []
   open_rows w turn = call_rows w turn
 
-  -- why a turn is refused, if it is
+  -- why an open run refuses a turn, if it does
   abbrev pub open_refusal : World T → Turn T → Option Refusal
   open_refusal w turn = first_row (open_rows w turn)
 
-  -- a turn, which changes nothing where it is refused
+  -- the run with one turn more, which changes nothing where it is refused
   abbrev pub attempt_open : Trace T → Turn T → Trace T
   attempt_open = attempt_by open_refusal
 
-  -- turns one after another, of which refused ones change nothing
+  -- the run with these turns, one after another, of which those that are refused change nothing
   abbrev pub run_open : List (Turn T) → Trace T → Trace T
   run_open = run_by open_refusal
 
-  -- an open run leads here from the opening
+  -- turns of an open run lead from the opening to this trace
   abbrev pub IsReachedOpen : Trace T → Type 0
   IsReachedOpen = IsReachedBy open_refusal
 
-  -- what its cells hold and whether it is locked, by its events; what each event says; and who holds an index, in a run
-  -- that is well-formed and honest
+  -- What holds of a robust index set after an open run: what its cells hold and whether it is locked, by
+  -- the events; what each event says; and who holds an index, in a well-formed and honest run.
   pub record IsOpenSet (t : Trace T) : Type 0 where
-    -- indices are filled, granted, freed and locked right
+    -- each event fills, grants or frees an index, or locks the set, only as `SetDoes` allows
     pub does : Each (SetDoes t.world.capacity) t.events
-    -- recoveries ask right
+    -- each question of a recovery is one that `AsksBy` allows
     pub asks : Each (AsksBy Word) t.events
-    -- each answer is right
+    -- each answer says what `AnswersBy` asks of it
     pub answers : Each (AnswersBy Word (slice_index t.world.words 0 ≡ greatest) t.world.capacity) t.events
     -- in a well-formed and honest run no index is granted that is held
     pub holds : IsWellFormed t.events → IsHonest t.events → Each HoldsRight t.events

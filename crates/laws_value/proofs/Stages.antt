@@ -1,4 +1,5 @@
--- What a step of a call of the single value has to show.
+-- What a step of a call of the single value has to show (`StepOf`), and two common ways to show it: the call
+-- goes on and changes neither the version nor the value (`quiet`), or it ends (`ends`).
 use Rattle.std.proofs.Common.{◌≡◌, ◌≢◌, ℕ, ◌+◌, ◌≤◌, Bool, false, Option, List, [], ◌∷◌, ◌++◌, fold, arith}
 use Rattle.laws_value.proofs.Names.{Ask, After, GoOn, Done, Answer, Event, Atomic, Flight, AtomicStart, AtomicFlight}
 use Rattle.laws_value.proofs.Names.{Party, ask_of, want, after, goes_back, old_of, change_of, Scene, Inv}
@@ -20,14 +21,16 @@ use Rattle.laws_value.proofs.Invariant.{Value, Shows, outline, family}
 use Rattle.laws_value.proofs.Knows.{At, KnowsFlight}
 
 module _ {T : Type 0} where
-  -- a call of the value as one of any family
+  -- what becomes of a call of the value, as what becomes of any call
   abbrev pub any_call : After (AtomicFlight T) (Answer T) → After (Flight T) (Answer T)
   any_call after = as_call flights.Atomic (λ answer. answer) after
 
-  -- the events of a step, the end of the call last
+  -- the events of a step that ends the call or goes on: its act if it acts, and its end last
   abbrev pub told_after : ℕ → AtomicStart T → After (AtomicFlight T) (Answer T) → List (Event T)
   told_after p start after = acted p start (answer_in after) ++ ending_of p (Atomic start) (answer_in (any_call after))
 
+-- `scene` is a turn of party `p` with the machine before it: `ho` holds the producer's role, and `k` is what
+-- the words hold
 module _ {T : Type 0} (scene : Scene T Value) where
   open scene use {coding as code, party as p}
   open scene.state use {holder as ho, core as k}
@@ -35,19 +38,20 @@ module _ {T : Type 0} (scene : Scene T Value) where
   abbrev words : List ℕ
   words = layout ho k
 
-  -- the party after a step that does this operation
+  -- the party after a step with the operation `ask`, by what becomes of its call
   abbrev pub party_then : AtomicStart T → Option Ask → Bool → After (AtomicFlight T) (Answer T) → Party T
   party_then start ask back after =
       families.party_then outline scene (Atomic start) ask
       (record { after = any_call after; back = back; wrote = []; kept = registries.Atomic ho })
 
-  -- how often words have changed then
+  -- how often words have changed after the step
   abbrev pub changes_then : Option Ask → ℕ
   changes_then ask = scene.changes + change_of words ask
 
-  -- a step after which the call is this, which leaves the role with this holder and writes these events
-  abbrev pub Leaves : Option ℕ → List (Event T) → AtomicStart T → Option Ask → Bool → After (AtomicFlight T) (Answer T) → Type 0
-  Leaves holder' es start ask back after =
+  -- what has to be shown of a step by which the call becomes `after`, that leaves the role with this holder
+  -- and writes these events
+  abbrev pub StepShowsWith : Option ℕ → List (Event T) → AtomicStart T → Option Ask → Bool → After (AtomicFlight T) (Answer T) → Type 0
+  StepShowsWith holder' es start ask back after =
       (k' : Core) × (words_after words ask ≡ layout holder' k')
       × Shows scene (record { holder = holder'; core = k' }) (Open (Atomic start) []) (party_then start ask back after) es (changes_then ask)
 
@@ -55,14 +59,16 @@ module _ {T : Type 0} (scene : Scene T Value) where
   abbrev pub old_for : AtomicFlight T → ℕ
   old_for flight = old_of words (ask_of (want code flight))
 
-  abbrev pub Comes : AtomicStart T → Option Ask → Bool → After (AtomicFlight T) (Answer T) → Type 0
-  Comes start ask back after = Leaves (producer_after p start (answer_in after) ho) (told_after p start after) start ask back after
+  -- what has to be shown of a step that leaves the role where it is
+  abbrev pub StepShowsBy : AtomicStart T → Option Ask → Bool → After (AtomicFlight T) (Answer T) → Type 0
+  StepShowsBy start ask back after = StepShowsWith (producer_after p start (answer_in after) ho) (told_after p start after) start ask back after
 
+  -- what has to be shown of a step of this call: it is handed the old value of its word
   abbrev pub StepOf : AtomicStart T → AtomicFlight T → Type 0
-  StepOf start flight = Comes start (ask_of (want code flight)) (goes_back flight (old_for flight)) (after code flight (old_for flight))
+  StepOf start flight = StepShowsBy start (ask_of (want code flight)) (goes_back flight (old_for flight)) (after code flight (old_for flight))
 
   module _ (inv : Inv outline scene) where
-    -- the call goes on, and the version and the value that stands stay
+    -- a call goes on, and the step leaves the version and the value that stands
     pub quiet :
         (back : Bool) (start : AtomicStart T) (ask : Option Ask) (flight : AtomicFlight T) (k' : Core)
         → k'.version ≡ k.version → k'.now ≡ k.now → Good code.size k' → words_after words ask ≡ layout ho k'
@@ -70,10 +76,10 @@ module _ {T : Type 0} (scene : Scene T Value) where
         → At code ho k' p start flight
         → KnowsFlight k' (scene.since + change_of words ask) (changes_then ask) (scene.backs + one_if back) flight
         → ((q : ℕ) → q ≢ p → (s : AtomicStart T) (f : AtomicFlight T) → At code ho k q s f → At code ho k' q s f)
-        → Leaves ho [] start ask back (GoOn flight)
+        → StepShowsWith ho [] start ask back (GoOn flight)
     quiet = grind arith
 
-    -- the call is done, and nothing acted
+    -- a call ends that does not act on the value
     pub ends :
         (holder' : Option ℕ) (start : AtomicStart T) (answer : Answer T) (ask : Option Ask)
         → [] ≡ moments_of start answer → AnswersRight code scene.events (Finished p (Atomic start) answer)
@@ -81,5 +87,5 @@ module _ {T : Type 0} (scene : Scene T Value) where
         → fold holder_after ho (Finished p (Atomic start) answer ∷ []) ≡ holder'
         → scene.steps + step_count ask ≤ most_steps code.size start (scene.backs + 0) → scene.backs ≡ 0 → words_after words ask ≡ layout holder' k
         → ((q : ℕ) → q ≢ p → (s : AtomicStart T) (f : AtomicFlight T) → At code ho k q s f → At code holder' k q s f)
-        → Leaves holder' (Finished p (Atomic start) answer ∷ []) start ask false (Done answer)
+        → StepShowsWith holder' (Finished p (Atomic start) answer ∷ []) start ask false (Done answer)
     ends = grind arith

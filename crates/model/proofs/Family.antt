@@ -11,13 +11,16 @@ use Rattle.model.proofs.Scenes.{asked}
 
 -- where a party's call stands, with the machine around it
 pub record Scene (T State : Type 0) : Type 0 where
+  -- the machine: its coding and capacity, and the state of the family that it holds
   pub coding : Coding T
   pub capacity : ℕ
   pub state : State
+  -- the party, the counts of its call, and the changes of words before the call and by it (`since`)
   pub party : ℕ
   pub steps : ℕ
   pub backs : ℕ
   pub since : ℕ
+  -- all changes of words, the latest calls, the events and the number of turns
   pub changes : ℕ
   pub latest : List (ℕ × Party T)
   pub events : List (Event T)
@@ -34,15 +37,16 @@ pub record Outline (T : Type 0) : Type 1 where
   pub no_loan : is_loan kind ≡ false  -- it is no loan channel, which alone is made with two numbers
   pub promise : Promise T
   pub State : Type 0
-  pub words : State → List ℕ  -- the words that hold it
-  pub kept : State → Registry T  -- and what is kept beside them
-  pub Holds : Coding T → ℕ → State → List (ℕ × Party T) → List (Event T) → ℕ → Type 0  -- what is so of it, after so many turns
+  pub words : State → List ℕ  -- the words that hold a state
+  pub kept : State → Registry T  -- what the machine keeps beside these words
+  pub Holds : Coding T → ℕ → State → List (ℕ × Party T) → List (Event T) → ℕ → Type 0  -- what holds of a state, the calls and the events after some turns
   pub written : ℕ → State → ℕ → Flight T → List (Event T)  -- what a party's call under way has written since its begin, at this capacity
-  pub number : Coding T → ℕ → Flight T → ℕ → ℕ  -- how many steps it has taken at most, having turned back so often
-  pub At : Coding T → ℕ → State → ℕ → Start T → Flight T → Type 0  -- where it stands
-  pub Knows : Coding T → ℕ → State → ℕ → List (Event T) → ℕ → ℕ → ℕ → Flight T → Type 0  -- what it knows of the events and of the counts
-  -- what a turn of the scene's party preserves that makes the state this, where its call under way was this one, if any,
-  -- leaves the party so and writes these events; words have then changed so often
+  pub number : Coding T → ℕ → Flight T → ℕ → ℕ  -- the most steps of the call so far, by how often it has turned back
+  pub At : Coding T → ℕ → State → ℕ → Start T → Flight T → Type 0  -- a call under way may stand at this stage
+  pub Knows : Coding T → ℕ → State → ℕ → List (Event T) → ℕ → ℕ → ℕ → Flight T → Type 0  -- what a call under way knows of events and counts
+  -- What a turn of the scene's party preserves: it makes this of the family's state, where the party's call
+  -- under way was this one, if any, leaves the party as this, writes these events, and leaves this number of
+  -- changes of words.
   pub Preserves : Scene T State → State → Option (Flight T) → Party T → List (Event T) → ℕ → Type 0
 
 module _ {T : Type 0} (K : Outline T) where
@@ -64,9 +68,12 @@ module _ {T : Type 0} (K : Outline T) where
       }
 
   module _ (scene : Scene T K.State) where
+    -- The family of the scene's machine, as the frame takes it.
     abbrev F : Family T
     F = family scene.coding scene.capacity
 
+    -- The invariant at the scene: what the family says of its state holds, and the frame's
+    -- invariant does.
     pub record Inv : Type 0 where
       pub holds : K.Holds scene.coding scene.capacity scene.state scene.latest scene.events scene.turns
       pub frame : frame.Inv F scene.state scene.latest scene.events scene.changes
@@ -79,11 +86,13 @@ module _ {T : Type 0} (K : Outline T) where
       pub here : frame.Fits F s' scene.party (Some y) (fold own_after from es)
       pub knows : frame.KnowsDoing F s' scene.party (scene.events ++ es) changes' y.backs y.doing
 
+    -- What a turn shows that preserves what the family asks, from the flight of the party's call before it.
     abbrev pub ShowsFrom : Option (Flight T) → K.State → Span T → Party T → List (Event T) → ℕ → Type 0
     ShowsFrom was s' from y es changes' = Shows (K.Preserves scene s' was y es changes') s' from y es changes'
 
     -- ---- a step
 
+    -- The words of the scene's machine.
     abbrev pub words : List ℕ
     words = K.words scene.state
 
@@ -102,6 +111,8 @@ module _ {T : Type 0} (K : Outline T) where
     Leaves s' es start flight ask step =
         ShowsFrom (Some flight) s' (Open start (K.written scene.capacity scene.state scene.party flight)) (party_then start ask step) es (changes_then ask)
 
+    -- A step of the call leads to a state of the family, whose words and registry are those after the step,
+    -- and keeps the invariant (`Leaves`).
     pub record Moves (start : Start T) (flight : Flight T) (ask : Option Ask) (step : Step (Flight T) (Registry T) T) : Type 0 where
       pub state : K.State
       pub kept : step.kept ≡ K.kept state
@@ -117,11 +128,16 @@ module _ {T : Type 0} (K : Outline T) where
 
     -- ---- a begin
 
+    -- A begin leads to a state of the family, in which the call stands where it starts and has
+    -- written nothing.
     pub record Begins (start : Start T) (flight : Flight T) : Type 0 where
+      -- the state after the begin, which the registry and the words hold
       pub state : K.State
       pub kept : kept_after_begin scene.coding scene.capacity start scene.party (K.kept scene.state) ≡ K.kept state
       pub words : K.words scene.state ≡ K.words state
+      -- what the family asks each turn to preserve
       pub preserves : K.Preserves scene state None (party_at_begin start flight scene.changes) (Begun scene.party start ∷ []) scene.changes
+      -- the call stands at its first stage, has written nothing, and knows what its stage says
       pub at : K.At scene.coding scene.capacity state scene.party start flight
       pub wrote : K.written scene.capacity state scene.party flight ≡ []
       pub knows : K.Knows scene.coding scene.capacity state scene.party (scene.events ++ Begun scene.party start ∷ []) scene.changes scene.changes 0 flight

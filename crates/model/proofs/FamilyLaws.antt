@@ -28,6 +28,7 @@ module _ {T : Type 0} (K : Outline T) where
   -- ---- a turn of the scene's party that preserves what it has to, and writes events of its own alone
 
   module _ (scene : Scene T K.State) (s' : K.State) (was : Option (Flight T)) (y : Party T) (es : List (Event T)) (changes' : ℕ) where
+    -- What the family states holds of its state after the turn, if it held before and the turn preserves it.
     abbrev Holding : Type 0
     Holding =
         flight_of (doing_of (party_of scene.party scene.latest)) ≡ was → K.Preserves scene s' was y es changes'
@@ -51,9 +52,11 @@ module _ {T : Type 0} (K : Outline T) where
 
   -- what a step writes down before the end of its call: what it did to the structure, then the acts
   pub record Writes (t : Trace T) (turn : Turn T) (step : Step (Flight T) (Registry T) T) : Type 0 where
+    -- what the step did to the structure, then the calls that acted
     pub effects : List (Event T)
     pub acts : List (Event T)
     pub is : step.wrote ≡ effects ++ acts
+    -- each event is of its sort, and each act is one that the promise allows
     pub are_effects : AllByRecursion (IsEffectOf turn) effects
     pub are_acts : AllByRecursion IsAct acts
     pub right : AllByRecursion (ActsRight K.promise t turn) acts
@@ -84,19 +87,23 @@ module _ {T : Type 0} (K : Outline T) where
 
   -- what a family owes of its turns at this coding and this capacity, where such turns may be taken
   pub record Turns (code : Coding T) (c : ℕ) (May : Trace T → Turn T → Type 0) : Type 1 where
+    -- A begin that is admitted leads to a state of the family.
     pub begin : (t : Trace T) (s : Sound (family K code c) t) (p : ℕ) (start : Start T) (flight : Flight T) → MayBegin t.world p start
         → first_of K.kind c start (K.kept s.state) ≡ Some flight → first_row ((begin_of K.kind c start).rows (K.kept s.state) p) ≡ None
         → Comes (family K code c) t p (kept_after_begin code c start p (K.kept s.state)) (K.words s.state)
         (party_at_begin start flight t.world.changes) (Begun p start ∷ []) t.world.changes
+    -- A step that is not refused leads to a state of the family.
     pub step : (t : Trace T) (s : Sound (family K code c) t) (p : ℕ) (x : Party T) (since : ℕ) → May t (Next p) → party_of p t.world.latest ≡ Some x
         → (start : Start T) (flight : Flight T) → first_row (going_rows code (K.kept s.state) (Some flight) None) ≡ None
         → StandsThere (family K code c) t s p x since start flight
         → ComesFrom (family K code c) t s p x since code (K.words s.state) (K.kept s.state) start flight
+    -- A decision that is not refused leads to a state of the family.
     pub decision : (t : Trace T) (s : Sound (family K code c) t) (p : ℕ) (x : Party T) (since : ℕ) (said : Bool) → May t (Decide p said)
         → party_of p t.world.latest ≡ Some x → (start : Start T) (flight : Flight T)
         → first_row (going_rows code (K.kept s.state) (Some flight) (Some said)) ≡ None
         → is_question (want_of code flight) ≡ true → StandsThere (family K code c) t s p x since start flight
         → DecidesFrom (family K code c) t s p x since code (number_of said) (K.words s.state) (K.kept s.state) start flight
+    -- The death of an owner leads to a state of the family.
     pub death : (t : Trace T) (owner : ℕ) (s : Sound (family K code c) t) → MayDie t.world owner → ComesByDeath (family K code c) t s owner
 
   -- what a family owes in its place whose turns write events of their own party alone, and that has neither questions nor owners
@@ -111,16 +118,18 @@ module _ {T : Type 0} (K : Outline T) where
     pub begin : (t : Trace T) (s : Sound (family K code c) t) (p : ℕ) (start : Start T) (flight : Flight T) → MayBegin t.world p start
         → first_of K.kind c start (K.kept s.state) ≡ Some flight → first_row ((begin_of K.kind c start).rows (K.kept s.state) p) ≡ None
         → Begins K (scene_of K code c t s p 0 0 t.world.changes) start flight
+    -- A step of a call under way leads to a state of the family, and keeps the invariant (`StepOf`).
     pub step : (t : Trace T) (s : Sound (family K code c) t) (p : ℕ) (x : Party T) (since : ℕ) → May t (Next p) → party_of p t.world.latest ≡ Some x
         → (start : Start T) (flight : Flight T) → StandsThere (family K code c) t s p x since start flight
         → StepOf K (scene_of K code c t s p x.steps x.backs since) start flight
     pub no_question : (s : K.State) (p : ℕ) (start : Start T) (flight : Flight T) → K.At code c s p start flight → is_question (want_of code flight) ≡ false
     pub no_owners : (s : K.State) → has_owners (K.kept s) ≡ false
 
+  -- What a turn comes to holds also of registries and words that are equal to those of which it is known.
   comes_at : (F : Family T) (t : Trace T) (p : ℕ) (kept kept' : Registry T) (words words' : List ℕ) (y : Party T) (es : List (Event T)) (changes : ℕ)
       → kept ≡ kept' → words ≡ words' → Comes F t p kept' words' y es changes → Comes F t p kept words y es changes
-  comes_at F t p kept kept' words words' y es changes e f comes =
-      subst (λ k. Comes F t p k words y es changes) (sym e) (subst (λ ws. Comes F t p kept' ws y es changes) (sym f) comes)
+  comes_at F t p kept kept' words words' y es changes same_kept same_words comes =
+      subst (λ k. Comes F t p k words y es changes) (sym same_kept) (subst (λ ws. Comes F t p kept' ws y es changes) (sym same_words) comes)
 
   module _ (code : Coding T) (c : ℕ) (May : Trace T → Turn T → Type 0) (A : Alone code c May) where
     module _ (t : Trace T) (s : Sound (family K code c) t) (p : ℕ) where
@@ -129,14 +138,14 @@ module _ {T : Type 0} (K : Outline T) where
           → flight_in t.world p ≡ was → span_of p t.events ≡ from
           → ShowsFrom K (scene_of K code c t s p steps backs since) was s' from y es changes'
           → Comes (family K code c) t p (K.kept s') (K.words s') y es changes'
-      shown steps backs since s' was from y es changes' under is shows =
+      shown steps backs since s' was from y es changes' under span_is shows =
           let scene = scene_of K code c t s p steps backs since in
           record {
             state = s';
             fit = record { kept = refl; words = refl };
             holds = A.holds_on scene s' was y es changes' under shows.preserves s.holds;
             owes =
-                frame.owes (family K code c) s.state s' from p y t.world.latest t.events es t.world.changes changes' is s.inv
+                frame.owes (family K code c) s.state s' from p y t.world.latest t.events es t.world.changes changes' span_is s.inv
                 (record {
                   own = shows.own;
                   stands = shows.stands;
@@ -152,16 +161,16 @@ module _ {T : Type 0} (K : Outline T) where
           → Begins K (scene_of K code c t s p 0 0 t.world.changes) start flight
           → Comes (family K code c) t p (kept_after_begin code c start p (K.kept s.state)) (K.words s.state)
           (party_at_begin start flight t.world.changes) (Begun p start ∷ []) t.world.changes
-      begins_alone start flight free is =
-          comes_at (family K code c) t p _ _ _ _ _ _ _ is.kept is.words
-          (shown 0 0 t.world.changes is.state None (span_of p t.events) (party_at_begin start flight t.world.changes) (Begun p start ∷ []) t.world.changes
+      begins_alone start flight free begins =
+          comes_at (family K code c) t p _ _ _ _ _ _ _ begins.kept begins.words
+          (shown 0 0 t.world.changes begins.state None (span_of p t.events) (party_at_begin start flight t.world.changes) (Begun p start ∷ []) t.world.changes
           free refl
           (record {
-            preserves = is.preserves;
+            preserves = begins.preserves;
             own = (refl, tt);
             stands = (frame.shut (family K code c) s.state p (party_of p t.world.latest) (span_of p t.events) free (s.inv.calls p), tt);
-            here = record { span = ap (λ es. Open start es) (sym is.wrote); steps = omega arith; at = is.at };
-            knows = is.knows;
+            here = record { span = ap (λ es. Open start es) (sym begins.wrote); steps = omega arith; at = begins.at };
+            knows = begins.knows;
           }))
 
       -- a step that writes events of its own party alone comes to a machine that keeps the invariant
@@ -203,6 +212,7 @@ module _ {T : Type 0} (K : Outline T) where
     pub tells : (t : Trace T) (turn : Turn T) → refusal_of t.world turn ≡ None → Sound (family K code c) t → K.promise.tells t turn (after_turn t turn)
 
   module _ (code : Coding T) (c : ℕ) where
+    -- The family of machines with this coding and capacity.
     abbrev F : Family T
     F = family K code c
 
@@ -210,6 +220,7 @@ module _ {T : Type 0} (K : Outline T) where
       asks_here : (flight : Flight T) → is_question (want_of t.world.coding flight) ≡ true → is_question (want_of code flight) ≡ true
       asks_here flight asks = subst (λ (z : Coding T). is_question (want_of z flight) ≡ true) s.coding asks
 
+      -- The tests that a call passes in the machine it passes in the family's state.
       rows_here : (flight : Flight T) (said : Option Bool) → first_row (going_rows t.world.coding t.world.kept (Some flight) said) ≡ None
           → first_row (going_rows code (K.kept s.state) (Some flight) said) ≡ None
       rows_here flight said rows = rw (s.coding, s.fit.kept) at rows
@@ -222,8 +233,8 @@ module _ {T : Type 0} (K : Outline T) where
           → MayBegin t.world p start → first_of t.world.kind t.world.capacity start t.world.kept ≡ Some flight
           → Comes F t p (kept_after_begin t.world.coding t.world.capacity start p t.world.kept) t.world.words
           (party_at_begin start flight t.world.changes) (Begun p start ∷ []) t.world.changes
-      begin_comes turns start flight may e =
-          let named : first_of K.kind c start (K.kept s.state) ≡ Some flight = rw (s.kind, s.capacity, s.fit.kept) at e in
+      begin_comes turns start flight may call_is =
+          let named : first_of K.kind c start (K.kept s.state) ≡ Some flight = rw (s.kind, s.capacity, s.fit.kept) at call_is in
           let rows : first_row ((begin_of K.kind c start).rows (K.kept s.state) p) ≡ None = rw (s.kind, s.capacity, s.fit.kept) at may.rows in
           comes_at F t p _ _ _ _ _ _ _ (kept_here start) s.fit.words (turns.begin t s p start flight may named rows)
 
@@ -297,6 +308,7 @@ module _ {T : Type 0} (K : Outline T) where
       pub laws_there : frame.LawsWhere (family K t.world.coding t.world.capacity) May
       laws_there = laws t.world.coding t.world.capacity May (all.turns t.world.coding t.world.capacity coded admits)
 
+      -- The opening of the machine, which is of the family's kind, is sound.
       pub opening_there : Sound (family K t.world.coding t.world.capacity) (opening t.world.coding t.world.kind t.world.capacity t.world.parties)
       opening_there =
           subst (λ kind. Sound (family K t.world.coding t.world.capacity) (opening t.world.coding kind t.world.capacity t.world.parties)) (sym is)
@@ -304,18 +316,18 @@ module _ {T : Type 0} (K : Outline T) where
 
     -- every machine of the kind that turns have reached keeps the invariant
     pub reached_sound : (t : Trace T) → t.world.kind ≡ K.kind → IsReached t → Sound (family K t.world.coding t.world.capacity) t
-    reached_sound t is reached =
+    reached_sound t of_kind reached =
         let F = family K t.world.coding t.world.capacity in
         frame.reached_sound F
-        (frame.laws_with F (λ u turn s small. all.few t.world.coding t.world.capacity u turn s small) (laws_there t is reached.coded reached.admitted)) t
-        (ap is_loan is ∙ K.no_loan) (opening_there t is reached.coded reached.admitted) reached
+        (frame.laws_with F (λ u turn s small. all.few t.world.coding t.world.capacity u turn s small) (laws_there t of_kind reached.coded reached.admitted)) t
+        (ap is_loan of_kind ∙ K.no_loan) (opening_there t of_kind reached.coded reached.admitted) reached
 
   -- the same where neither turns nor parties have a bound, nor turns another premise
   pub reached_on_sound : (all : AllTurns (λ t turn. Unit {0})) (t : Trace T) → t.world.kind ≡ K.kind → IsReachedOn t
       → Sound (family K t.world.coding t.world.capacity) t
-  reached_on_sound all t is reached_on =
-      frame.reached_on_sound (family K t.world.coding t.world.capacity) (laws_there (λ t turn. Unit {0}) all t is reached_on.coded reached_on.admitted) t
-      (opening_there (λ t turn. Unit {0}) all t is reached_on.coded reached_on.admitted) reached_on
+  reached_on_sound all t of_kind reached_on =
+      frame.reached_on_sound (family K t.world.coding t.world.capacity) (laws_there (λ t turn. Unit {0}) all t of_kind reached_on.coded reached_on.admitted) t
+      (opening_there (λ t turn. Unit {0}) all t of_kind reached_on.coded reached_on.admitted) reached_on
 
   -- what it owes of its promises at every such capacity
   abbrev pub OwesAll : Type 1
@@ -326,6 +338,7 @@ module _ {T : Type 0} (K : Outline T) where
       owed_there : Owed t.world.coding t.world.capacity
       owed_there = owes t.world.coding t.world.capacity coded (admits May all t is coded admitted)
 
+      -- A sound machine whose family keeps its promise keeps all that is promised of its kind.
       pub kept_by : Sound (family K t.world.coding t.world.capacity) t → K.promise.holds t → IsKept t
       kept_by sound promised =
           subst (λ P. IsKeptBy P t) (sym (ap (promise_of {T = T}) is ∙ owed_there.promise))

@@ -18,53 +18,63 @@ use Rattle.model.proofs.Readings.{AreRight, Each-append, AreOwn, AllFollow, span
 pub use Rattle.model.proofs.Rows.{is_true}
 use Rattle.model.proofs.Rows.{may_begin, may_die, must_be_due, next_passes, decision_passes, passes, MayBegin, MayDie}
 
--- what a family gives
+-- A family of machines as the frame takes it: its structure, what its states are, and what holds of its calls under way.
 pub record Family (T : Type 0) : Type 1 where
   pub coding : Coding T
   pub kind : Kind
   pub promise : Promise T
   pub capacity : ℕ
   pub State : Type 0  -- what the words and what is kept beside them hold
-  pub Represents : Registry T → List ℕ → State → Type 0  -- they hold it
-  pub Holds : State → List (ℕ × Party T) → List (Event T) → ℕ → Type 0  -- what is so of it and of the events, after so many turns
+  pub Represents : Registry T → List ℕ → State → Type 0  -- what is kept and the words hold this state
+  pub Holds : State → List (ℕ × Party T) → List (Event T) → ℕ → Type 0  -- what holds of a state, the calls and the events after a number of turns
   pub written : State → ℕ → Flight T → List (Event T)  -- what a party's call under way has written since its begin
-  pub number : List (Event T) → Flight T → ℕ → ℕ  -- how many steps it has taken at most, having written this and turned back so often
-  pub At : State → ℕ → Start T → Flight T → Type 0  -- where it stands
-  pub Knows : State → ℕ → List (Event T) → ℕ → ℕ → ℕ → Flight T → Type 0  -- what it knows of the events and of the counts
+  pub number : List (Event T) → Flight T → ℕ → ℕ  -- the most steps of the call so far, by what it has written and how often it has turned back
+  pub At : State → ℕ → Start T → Flight T → Type 0  -- a call under way may stand at this stage
+  pub Knows : State → ℕ → List (Event T) → ℕ → ℕ → ℕ → Flight T → Type 0  -- what a call under way knows of the events and of the counts
 
 module _ {T : Type 0} (F : Family T) where
   -- ---- a party's latest call beside its span
 
+  -- A call under way: its span is open with what it has written, its steps are bounded, and it
+  -- stands where the family says.
   pub record IsUnderWay (s : F.State) (p : ℕ) (x : Party T) (flight : Flight T) (seen : Span T) : Type 0 where
     pub span : seen ≡ Open x.start (F.written s p flight)
     pub steps : x.steps ≤ F.number (F.written s p flight) flight x.backs
     pub at : F.At s p x.start flight
 
+  -- A call that has ended: its span has its answer, and its steps are within the promised bound.
   pub record HasEnded (x : Party T) (seen : Span T) : Type 0 where
     pub answer : Answer T
     pub wrote : List (Event T)
     pub span : seen ≡ Ended x.start answer wrote
     pub steps : x.steps ≤ F.promise.most_steps F.capacity F.coding.size x.start x.backs
 
+  -- The party's latest call, under way or over, fits its span.
   abbrev pub FitsDoing : F.State → ℕ → Party T → Doing T → Span T → Type 0
   FitsDoing s p x (Going flight since) span = IsUnderWay s p x flight span
   FitsDoing s p x (Over others) span = HasEnded x span
 
+  -- The party's latest call fits its span. A party that has begun none has an empty span.
   abbrev pub Fits : F.State → ℕ → Option (Party T) → Span T → Type 0
   Fits s p None span = span ≡ Never
   Fits s p (Some x) span = FitsDoing s p x x.doing span
 
+  -- What is known of a call: while it is under way what the family says, and once it is over that
+  -- it turned back at most as often as other parties changed words.
   abbrev pub KnowsDoing : F.State → ℕ → List (Event T) → ℕ → ℕ → Doing T → Type 0
   KnowsDoing s p events changes backs (Going flight since) = F.Knows s p events since changes backs flight
   KnowsDoing s p events changes backs (Over others) = backs ≤ others
 
-  -- what is known of a party by its latest call: of a call under way what the family knows of it
+  -- what is known of a party by its latest call: of a call under way what the family knows of it, and of one that is over
+  -- that it turned back at most as often as others changed words
   abbrev pub KnowsParty : F.State → ℕ → List (Event T) → ℕ → Option (Party T) → Type 0
   KnowsParty s p events changes None = Unit {0}
   KnowsParty s p events changes (Some x) = KnowsDoing s p events changes x.backs x.doing
 
   -- ---- the invariant
 
+  -- The invariant: each event stands where it may, each party's latest call fits its span, and
+  -- what is known of it holds.
   pub record Inv (s : F.State) (latest : List (ℕ × Party T)) (events : List (Event T)) (changes : ℕ) : Type 0 where
     pub spans : Each (StandsRight F.promise F.capacity) events
     pub calls : (p : ℕ) → Fits s p (party_of p latest) (span_of p events)
@@ -89,17 +99,19 @@ module _ {T : Type 0} (F : Family T) where
         knows = λ q. ⊎_elim (mine_knows q) (theirs_know q) (cases_eq q p);
       }
     where
+      -- After the turn the call of its own party fits that party's span.
       mine : (q : ℕ) → q ≡ p → Fits s' q (party_of q (put p y latest)) (span_of q (events ++ es))
-      mine q e =
-          subst (λ n. Fits s' n (party_of n (put p y latest)) (span_of n (events ++ es))) (sym e)
+      mine q same_party =
+          subst (λ n. Fits s' n (party_of n (put p y latest)) (span_of n (events ++ es))) (sym same_party)
           (subst (λ o. Fits s' p o (span_of p (events ++ es))) (sym (party_put_same p y latest)) owes.here)
 
       theirs : (q : ℕ) → q ≢ p → Fits s' q (party_of q (put p y latest)) (span_of q (events ++ es))
       theirs q ne = subst (λ o. Fits s' q o (span_of q (events ++ es))) (sym (party_put_other q p y latest ne)) (owes.others q ne)
 
+      -- After the turn what is known of its own party's call holds.
       mine_knows : (q : ℕ) → q ≡ p → KnowsParty s' q (events ++ es) changes' (party_of q (put p y latest))
-      mine_knows q e =
-          subst (λ n. KnowsParty s' n (events ++ es) changes' (party_of n (put p y latest))) (sym e)
+      mine_knows q same_party =
+          subst (λ n. KnowsParty s' n (events ++ es) changes' (party_of n (put p y latest))) (sym same_party)
           (subst (KnowsParty s' p (events ++ es) changes') (sym (party_put_same p y latest)) owes.knows)
 
       -- what is known of the other parties stands
@@ -110,10 +122,13 @@ module _ {T : Type 0} (F : Family T) where
 
   -- what it shows, where its span was this
   pub record Shows (s s' : F.State) (from : Span T) (p : ℕ) (y : Party T) (events es : List (Event T)) (changes changes' : ℕ) : Type 0 where
+    -- all its events are of its party, and each stands where it may
     pub own : AreOwn p es
     pub stands : AllFollow (Stands F.promise F.capacity) from es
+    -- the call of its party fits its span, and what is known of it holds
     pub here : Fits s' p (Some y) (fold own_after from es)
     pub knows : KnowsDoing s' p (events ++ es) changes' y.backs y.doing
+    -- the calls of other parties stand where they stood, and know what they knew
     pub others : (q : ℕ) → q ≢ p → (start : Start T) (flight : Flight T) → F.At s q start flight
         → F.At s' q start flight × (F.written s' q flight ≡ F.written s q flight)
     pub others_know : (q : ℕ) → q ≢ p → (since backs : ℕ) (flight : Flight T)
@@ -123,7 +138,7 @@ module _ {T : Type 0} (F : Family T) where
   module _ (s s' : F.State) (q : ℕ)
       (others : (start : Start T) (flight : Flight T) → F.At s q start flight
       → F.At s' q start flight × (F.written s' q flight ≡ F.written s q flight)) where
-    -- what another party is doing fits its span as before
+    -- What another party is doing still fits its span after the turn.
     doing_fits : (x : Party T) (doing : Doing T) (span : Span T) → FitsDoing s q x doing span → FitsDoing s' q x doing span
     doing_fits x (Going flight since) span fits_doing =
         let both = others x.start flight fits_doing.at in
@@ -135,6 +150,7 @@ module _ {T : Type 0} (F : Family T) where
     doing_fits x (Over others) span fits_doing =
         record { answer = fits_doing.answer; wrote = fits_doing.wrote; span = fits_doing.span; steps = fits_doing.steps }
 
+    -- The latest call of another party fits its span after the turn.
     pub still_fits : (o : Option (Party T)) (span : Span T) → Fits s q o span → Fits s' q o span
     still_fits None span fits = fits
     still_fits (Some x) span fits = doing_fits x x.doing span fits
@@ -142,23 +158,26 @@ module _ {T : Type 0} (F : Family T) where
   module _ (s s' : F.State) (q : ℕ) (events es : List (Event T)) (changes changes' : ℕ)
       (others : (since backs : ℕ) (flight : Flight T) → F.Knows s q events since changes backs flight
       → F.Knows s' q (events ++ es) since changes' backs flight) where
+    -- What another party's call knows it still knows after the turn.
     doing_knows : (backs : ℕ) (doing : Doing T) → KnowsDoing s q events changes backs doing → KnowsDoing s' q (events ++ es) changes' backs doing
     doing_knows backs (Going flight since) knows_doing = others since backs flight knows_doing
     doing_knows backs (Over others) knows_doing = knows_doing
 
+    -- What is known of another party it is still known after the turn.
     pub still_knows : (o : Option (Party T)) → KnowsParty s q events changes o → KnowsParty s' q (events ++ es) changes' o
     still_knows None knows_party = tt
     still_knows (Some x) knows_party = doing_knows x.backs x.doing knows_party
 
-  -- a turn that writes events of its own party alone owes nothing else to the others
+  -- A turn that writes events of its own party alone owes what `Shows` says, and nothing
+  -- more to other parties.
   pub owes : (s s' : F.State) (from : Span T) (p : ℕ) (y : Party T) (latest : List (ℕ × Party T))
       (events es : List (Event T)) (changes changes' : ℕ)
       → span_of p events ≡ from → Inv s latest events changes
       → Shows s s' from p y events es changes changes' → Owes s' p y latest events es changes'
-  owes s s' from p y latest events es changes changes' is inv shows =
-      let span : span_of p (events ++ es) ≡ fold own_after from es = span_of-own p events es shows.own ∙ ap (λ a. fold own_after a es) is in
+  owes s s' from p y latest events es changes changes' span_is inv shows =
+      let span : span_of p (events ++ es) ≡ fold own_after from es = span_of-own p events es shows.own ∙ ap (λ a. fold own_after a es) span_is in
       record {
-        stands = spans_right (Stands F.promise F.capacity) p events es from is shows.own shows.stands;
+        stands = spans_right (Stands F.promise F.capacity) p events es from span_is shows.own shows.stands;
         here = subst (λ a. Fits s' p (Some y) a) (sym span) shows.here;
         knows = shows.knows;
         others = λ q ne.
@@ -172,13 +191,15 @@ module _ {T : Type 0} (F : Family T) where
   shut s p None seen e fits = subst IsShut (sym fits) tt
   shut s p (Some x) seen e fits = go x.doing e fits
     where
+      -- The cases are whether the party's latest call is under way or over.
       go : (doing : Doing T) → flight_of (Some doing) ≡ None → FitsDoing s p x doing seen → IsShut seen
-      go (Going flight since) e fits = absurd (cc)
-      go (Over others) e fits = subst IsShut (sym fits.span) tt
+      go (Going flight since) no_flight fits = absurd (cc)
+      go (Over others) no_flight fits = subst IsShut (sym fits.span) tt
 
+  -- A call under way that fits its span is as `IsUnderWay` says.
   pub under_way : (s : F.State) (p : ℕ) (x : Party T) (doing : Doing T) (flight : Flight T) (since : ℕ) (seen : Span T)
       → doing ≡ Going flight since → FitsDoing s p x doing seen → IsUnderWay s p x flight seen
-  under_way s p x doing flight since seen e fits_doing = subst (λ d. FitsDoing s p x d seen) e fits_doing
+  under_way s p x doing flight since seen same_doing fits_doing = subst (λ d. FitsDoing s p x d seen) same_doing fits_doing
 
   -- what is known of a call under way, from what is known of its party
   pub knows_now : (s : F.State) (p : ℕ) (events : List (Event T)) (changes : ℕ) (o : Option (Party T)) (x : Party T)
@@ -190,13 +211,18 @@ module _ {T : Type 0} (F : Family T) where
 
   -- ---- every turn
 
+  -- A machine that is sound: it is of this family, its words and registry hold a state of it, and
+  -- the invariant holds.
   pub record Sound (t : Trace T) : Type 0 where
+    -- the machine is one of the family
     pub coding : t.world.coding ≡ F.coding
     pub kind : t.world.kind ≡ F.kind
     pub capacity : t.world.capacity ≡ F.capacity
+    -- the state that its words and registry hold, and what the family says of it
     pub state : F.State
     pub fit : F.Represents t.world.kept t.world.words state
     pub holds : F.Holds state t.world.latest t.events t.world.turns
+    -- the invariant
     pub inv : Inv state t.world.latest t.events t.world.changes
 
   -- A turn after which the machine has `kept`, `words` and `changes`, party `p` is `y`, and `es` follow the events: the family's state
@@ -270,6 +296,7 @@ module _ {T : Type 0} (F : Family T) where
     pub doing : x.doing ≡ Going flight since
     pub is : flight_in t.world p ≡ Some flight
 
+  -- A party whose latest call goes on has it under way.
   under : (t : Trace T) (p : ℕ) (x : Party T) (flight : Flight T) (since : ℕ) → party_of p t.world.latest ≡ Some x
       → x.doing ≡ Going flight since → IsUnder t p x flight since
   under t p x flight since e d = record { found = e; doing = d; is = ap (λ o. flight_of (doing_of o)) e ∙ ap (λ d. flight_of (Some d)) d }
@@ -280,20 +307,20 @@ module _ {T : Type 0} (F : Family T) where
       → ComesByStep t p x flight since (ask_of (want_of t.world.coding flight)) (old_of t.world.words (ask_of (want_of t.world.coding flight))))
       → (o : Option (Party T)) → party_of p t.world.latest ≡ o
       → Sound record { world = after_next t.world p o; events = t.events ++ events_of_next t.world p o }
-  next_sound t p sound comes None e = same t sound
-  next_sound t p sound comes (Some x) e =
+  next_sound t p sound comes None found = same t sound
+  next_sound t p sound comes (Some x) found =
       let ask : Doing T → Option Ask = ask_of_doing t.world.coding in
       answered t p x (ask x.doing) (old_of t.world.words (ask x.doing)) x.doing sound (λ flight since d.
-      subst (λ a. ComesByStep t p x flight since a (old_of t.world.words a)) (sym (ap ask d)) (comes x flight since (under t p x flight since e d)))
+      subst (λ a. ComesByStep t p x flight since a (old_of t.world.words a)) (sym (ap ask d)) (comes x flight since (under t p x flight since found d)))
 
   -- an answer to a question of a call leaves a sound machine sound
   pub decision_sound : (t : Trace T) (p : ℕ) (said : Bool) → Sound t
       → ((x : Party T) (flight : Flight T) (since : ℕ) → IsUnder t p x flight since → ComesByStep t p x flight since None (number_of said))
       → (o : Option (Party T)) → party_of p t.world.latest ≡ o
       → Sound record { world = after_decision t.world p said o; events = t.events ++ events_of_decision t.world p said o }
-  decision_sound t p said sound comes None e = same t sound
-  decision_sound t p said sound comes (Some x) e =
-      answered t p x None (number_of said) x.doing sound (λ flight since d. comes x flight since (under t p x flight since e d))
+  decision_sound t p said sound comes None found = same t sound
+  decision_sound t p said sound comes (Some x) found =
+      answered t p x None (number_of said) x.doing sound (λ flight since d. comes x flight since (under t p x flight since found d))
 
   -- a begin leaves a sound machine sound
   pub begin_sound : (t : Trace T) (p : ℕ) (start : Start T) → is_none (first_of t.world.kind t.world.capacity start t.world.kept) ≡ false → Sound t
@@ -302,22 +329,25 @@ module _ {T : Type 0} (F : Family T) where
       (party_at_begin start flight t.world.changes) (Begun p start ∷ []) t.world.changes)
       → (o : Option (Flight T)) → first_of t.world.kind t.world.capacity start t.world.kept ≡ o
       → Sound record { world = after_begin t.world p start o; events = t.events ++ Begun p start ∷ [] }
-  begin_sound t p start call sound comes None e =
-      let none = rw e at call in
+  begin_sound t p start call sound comes None named =
+      let none = rw named at call in
       absurd (cc)
-  begin_sound t p start call sound comes (Some flight) e = comes_sound t p _ _ _ _ _ sound (comes flight e)
+  begin_sound t p start call sound comes (Some flight) named = comes_sound t p _ _ _ _ _ sound (comes flight named)
 
   -- what a family owes, of a call that passes its rows, in a turn that may be taken
   pub record LawsWhere (May : Trace T → Turn T → Type 0) : Type 0 where
+    -- A step of a call under way that is not refused comes to a state of the family.
     pub step : (t : Trace T) (p : ℕ) (x : Party T) (flight : Flight T) (since : ℕ) → Sound t → May t (Next p)
         → first_row (going_rows t.world.coding t.world.kept (Some flight) None) ≡ None
         → party_of p t.world.latest ≡ Some x → x.doing ≡ Going flight since
         → ComesByStep t p x flight since (ask_of (want_of t.world.coding flight)) (old_of t.world.words (ask_of (want_of t.world.coding flight)))
+    -- A decision for a call under way that is not refused comes to a state of the family.
     pub decision : (t : Trace T) (p : ℕ) (x : Party T) (flight : Flight T) (since : ℕ) (said : Bool) → Sound t
         → May t (Decide p said) → first_row (going_rows t.world.coding t.world.kept (Some flight) (Some said)) ≡ None
         → party_of p t.world.latest ≡ Some x → x.doing ≡ Going flight since
         → is_question (want_of t.world.coding flight) ≡ true
         → ComesByStep t p x flight since None (number_of said)
+    -- A begin that is not refused comes to a state of the family.
     pub begin : (t : Trace T) (p : ℕ) (start : Start T) (flight : Flight T) → Sound t → May t (Begin p start)
         → MayBegin t.world p start → first_of t.world.kind t.world.capacity start t.world.kept ≡ Some flight
         → Comes t p (kept_after_begin t.world.coding t.world.capacity start p t.world.kept) t.world.words
@@ -352,21 +382,21 @@ module _ {T : Type 0} (F : Family T) where
 
     -- every turn that is not refused leaves a sound machine sound
     pub turn_sound : (t : Trace T) (turn : Turn T) → call_refusal t.world turn ≡ None → May t turn → Sound t → Sound (after_turn t turn)
-    turn_sound t (Begin p start) e may sound =
-        let begins = may_begin t.world p start e in
+    turn_sound t (Begin p start) not_refused may sound =
+        let begins = may_begin t.world p start not_refused in
         begin_sound t p start begins.call sound (λ flight is. laws.begin t p start flight sound may begins is)
         (first_of t.world.kind t.world.capacity start t.world.kept) refl
-    turn_sound t (Next p) e may sound =
+    turn_sound t (Next p) not_refused may sound =
         next_sound t p sound (λ x flight since u. laws.step t p x flight since sound may
-        (subst (λ o. first_row (going_rows t.world.coding t.world.kept o None) ≡ None) u.is (next_passes t.world p e)) u.found u.doing)
+        (subst (λ o. first_row (going_rows t.world.coding t.world.kept o None) ≡ None) u.is (next_passes t.world p not_refused)) u.found u.doing)
         (party_of p t.world.latest) refl
-    turn_sound t (Decide p said) e may sound =
-        let due = is_true (is_due t.world.coding (flight_in t.world p)) (must_be_due t.world p said e) in
+    turn_sound t (Decide p said) free may sound =
+        let due = is_true (is_due t.world.coding (flight_in t.world p)) (must_be_due t.world p said free) in
         decision_sound t p said sound (λ x flight since u. laws.decision t p x flight since said sound may
-        (subst (λ o. first_row (going_rows t.world.coding t.world.kept o (Some said)) ≡ None) u.is (decision_passes t.world p said e)) u.found u.doing
+        (subst (λ o. first_row (going_rows t.world.coding t.world.kept o (Some said)) ≡ None) u.is (decision_passes t.world p said free)) u.found u.doing
         (subst (λ o. is_due t.world.coding o ≡ true) u.is due))
         (party_of p t.world.latest) refl
-    turn_sound t (Die owner) e may sound = death_sound t owner (may_die t.world owner e) sound
+    turn_sound t (Die owner) not_refused may sound = death_sound t owner (may_die t.world owner not_refused) sound
 
   -- the laws of a machine that can take a turn more
   abbrev pub Laws : Type 0

@@ -21,14 +21,16 @@ by_peek = grind (arith, set-get_or)
 by_look : (words : List ℕ) (word : ℕ) → words_after words (ask_of (ring.load word)) ≡ words
 by_look words word = set-get_or words word 0
 
+-- The exchange of a version for itself leaves the words as they are.
 by_check : (words : List ℕ) (version : ℕ) → words_after words (Some (record { word = 0; op = Exchange version version })) ≡ words
 by_check words version = go (get_or words 0 0 == version) refl
   where
+    -- The cases are whether the version is the one that the load expects.
     go : (b : Bool) → (get_or words 0 0 == version) ≡ b → words_after words (Some (record { word = 0; op = Exchange version version })) ≡ words
-    go true t =
+    go true test =
         let same : get_or words 0 0 ≡ version = grind (arith, nat_tests) in
-        rw t (ap (set words 0) (sym same) ∙ set-get_or words 0 0)
-    go false t = rw t (set-get_or words 0 0)
+        rw test (ap (set words 0) (sym same) ∙ set-get_or words 0 0)
+    go false test = rw test (set-get_or words 0 0)
 
 by_load : (words : List ℕ) (stage : LoadStage) → words_after words (ask_of (load_asks stage)) ≡ words
 by_load = grind (arith, set-get_or, by_check)

@@ -1,10 +1,11 @@
--- A moment of a call, once it has come, stays one of its moments until the party begins another call; so does what came
--- since it began.
+-- A moment of a call stays a moment of it until its party begins another call, and what has come since the
+-- call began stays behind its begin.
 use Rattle.model.proofs.Names.{BeginsNone, Begun, Event, HeldSometime, List, SinceBegin, Start, [], append-nil}
 use Rattle.model.proofs.Names.{append_assoc, arith, sym, ℕ, ◌++◌, ◌∙◌, ◌∷◌, ◌≡◌, ◌≢◌}
 use Rattle.model.proofs.Readings.{AreOwn}
 
 module _ {T : Type 0} where
+  -- A party that begins no call in two lists of events begins none in both together.
   pub begins_none_more : (p : ℕ) (es more : List (Event T)) → BeginsNone p es → BeginsNone p more → BeginsNone p (es ++ more)
   begins_none_more p [] more first_begins_none second_begins_none = second_begins_none
   begins_none_more p (Begun q start ∷ es) more first_begins_none second_begins_none =
@@ -22,6 +23,7 @@ module _ {T : Type 0} where
   pub held_now : (p : ℕ) (P : List (Event T) → Type 0) (events : List (Event T)) → P events → HeldSometime p P events
   held_now = grind (arith, append-nil)
 
+  -- A moment of the party's call is still one after events in which the party begins no call.
   pub held_later : (p : ℕ) (P : List (Event T) → Type 0) (events es : List (Event T)) → BeginsNone p es
       → HeldSometime p P events → HeldSometime p P (events ++ es)
   held_later = grind (arith, append_assoc, begins_none_more)
@@ -33,10 +35,13 @@ module _ {T : Type 0} where
 
   -- ---- since the latest call began
 
+  -- What holds since the party's call began can be carried on over events in which the party
+  -- begins no call.
   pub since_more : (p : ℕ) (P Q : List (Event T) → List (Event T) → Type 0) (events es : List (Event T))
       → BeginsNone p es → (h : SinceBegin p P events) → Q h.before (h.since ++ es) → SinceBegin p Q (events ++ es)
   since_more = grind (arith, append_assoc, begins_none_more)
 
+  -- Right after its begin a call has nothing since its begin.
   pub since_now : (p : ℕ) (P : List (Event T) → List (Event T) → Type 0) (events : List (Event T)) (start : Start T)
       → P events [] → SinceBegin p P (events ++ Begun p start ∷ [])
   since_now = grind arith

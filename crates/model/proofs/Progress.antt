@@ -1,4 +1,5 @@
--- Each call keeps the guarantee of its kind: the table by cases, and every run by its bounds.
+-- Each call of a run has taken no more steps than its guarantee (wait-free or obstruction-free) allows: the
+-- table of guarantees is within the promised bounds, which every run keeps.
 use Rattle.model.proofs.Names.{IsKept, Kind, Option, Progresses, Promise, QueueKind, QueueStart, Span, Start, Trace}
 use Rattle.model.proofs.Names.{arith, promise_of, ℕ, ◌*◌, ◌+◌, ◌-◌, ◌≡◌, ◌≤◌}
 use Rattle.model.specs.declared.event.Start.TheVariants as starts
@@ -26,6 +27,7 @@ at_most = omega arith
 paid : (fewer more each : ℕ) → fewer ≤ more → fewer * each ≤ more * each
 paid fewer more each le = let rest : more ≡ fewer + (more - fewer) = omega arith in rw rest (spread fewer (more - fewer) each)
   where
+    -- A number times `each` is at most a greater number times `each`.
     spread : (a b each : ℕ) → a * each ≤ (a + b) * each
     spread = omega arith
 
@@ -39,32 +41,37 @@ module _ {T : Type 0} where
   abbrev peeking : Start T
   peeking = starts.Queues queues.Peek
 
+  -- The bounds that a queue promises of its calls are within the guarantees of the table.
   queue_guaranteed : (kind : QueueKind) (capacity size : ℕ) (start : Start T)
       → IsGuaranteed (queue_promises.promise kind) capacity size start (in_queue size kind start)
   queue_guaranteed kind capacity size (starts.Queues start) = of_call kind start
     where
+      -- The promised bound of a push of an index is within its guarantee in each kind of queue.
       push : (kind : QueueKind) (index : ℕ) → IsGuaranteed (queue_promises.promise kind) capacity size (pushing index) (of_push size kind)
       push queue_kinds.IndexQueue index = λ backs. at_most _
       push queue_kinds.Overflow index = λ backs. at_most _
       push queue_kinds.Queue index = λ backs. at_most _
 
+      -- The promised bound of a push of a value is within its guarantee in each kind of queue.
       push_value : (kind : QueueKind) (value : T)
           → IsGuaranteed (queue_promises.promise kind) capacity size (starts.Queues (queues.Push value)) (of_push size kind)
       push_value queue_kinds.IndexQueue value = λ backs. at_most _
       push_value queue_kinds.Overflow value = λ backs. at_most _
       push_value queue_kinds.Queue value = λ backs. at_most _
 
+      -- The promised bound of a pop is within its guarantee in each kind of queue.
       pop : (kind : QueueKind) → IsGuaranteed (queue_promises.promise kind) capacity size popping (of_pop size kind)
       pop queue_kinds.IndexQueue = λ backs. at_most _
       pop queue_kinds.Overflow = λ backs. omega arith
       pop queue_kinds.Queue = λ backs. at_most _
 
+      -- The promised bound of a peek is within its guarantee in each kind of queue.
       peek : (kind : QueueKind) → IsGuaranteed (queue_promises.promise kind) capacity size peeking (of_peek size kind)
       peek queue_kinds.IndexQueue = λ backs. at_most _
       peek queue_kinds.Overflow = λ backs. at_most _
       peek queue_kinds.Queue = λ backs. at_most _
 
-      -- each call of a queue keeps its kind's promise within the constants that are stated for it
+      -- the promised bound of each call of a queue is within the guarantee that the table states for it
       of_call : (kind : QueueKind) (start : QueueStart T)
           → IsGuaranteed (queue_promises.promise kind) capacity size (starts.Queues start) (in_queue size kind (starts.Queues start))
       of_call kind queues.AcquireProducer = λ backs. at_most _
@@ -122,11 +129,14 @@ guaranteed =
 module _ {T : Type 0} where
   -- ---- every run
 
+  -- A call that is within the promised bound has taken no more steps than its guarantee allows.
   within : (promise : Promise T) (capacity size : ℕ) (start : Start T) (g : Progress) (guarantee : Guarantee)
       → IsGuaranteed promise capacity size start guarantee → IsBounded promise capacity size start g
       → IsWithin guarantee g
   within = grind (arith, paid)
 
+  -- A party's latest call, if it progresses as promised, has taken no more steps than its
+  -- guarantee allows.
   latest_within : (promise : Promise T) (capacity size : ℕ) (guarantee : Start T → Guarantee)
       → ((start : Start T) → IsGuaranteed promise capacity size start (guarantee start))
       → (span : Span T) (g : Option Progress) → Progresses promise capacity size span g

@@ -1,4 +1,4 @@
--- How the worked runs are written: calls of parties, so many turns each, from an opening.
+-- How the worked runs are written: from an opening, calls of parties, each with a number of turns.
 use Rattle.model.proofs.Names.{Begin, Begun, Coding, Event, Finished, Kind, List, Next, Queues, Start, Trace, Truth}
 use Rattle.model.proofs.Names.{Turn, [], opening, replicate, run, true, ℕ, ◌++◌, ◌∷◌}
 use Rattle.steps.specs.Words.{words_of_u128, value_of_u128}
@@ -9,11 +9,11 @@ use Rattle.model.specs.Coding.{coding_of}
 abbrev pub two_words : Coding ℕ
 two_words = coding_of 2 words_of_u128 value_of_u128
 
--- the party's call goes on by so many turns
+-- The party's call goes on by this number of turns.
 abbrev pub nexts : ℕ → ℕ → List (Turn ℕ)
 nexts p count = replicate count (Next p)
 
--- the party's call begins and goes on by so many turns
+-- The party's call begins and goes on by this number of turns.
 abbrev pub begins : ℕ → Start ℕ → ℕ → List (Turn ℕ)
 begins p start count = Begin p start ∷ nexts p count
 
@@ -30,6 +30,6 @@ roles_told =
     ∷ Finished 1 (Queues AcquireConsumer) (Truth true)
     ∷ []
 
--- what comes of these turns
+-- The machine and its events after these turns, from the opening.
 abbrev pub ran : Coding ℕ → Kind → ℕ → ℕ → List (Turn ℕ) → Trace ℕ
 ran code kind capacity parties turns = run turns (opening code kind capacity parties)

@@ -7,6 +7,7 @@ use Rattle.model.proofs.Names.{step_count, step_of, want_of, words_after, ℕ, �
 use Rattle.model.proofs.Frame.{Family, Sound, Comes, ComesByStep, under_way, knows_now}
 
 module _ {T : Type 0} where
+  -- The operation that a call under way asks for, if any.
   abbrev pub asked : Coding T → Flight T → Option Ask
   asked z flight = ask_of (want_of z flight)
 
@@ -15,6 +16,7 @@ module _ {T : Type 0} where
     abbrev pub answered_from : Coding T → ℕ → List ℕ → Registry T → Start T → Flight T → Step (Flight T) (Registry T) T
     answered_from z answer words kept start flight = step_of z words (beside_of words kept t.world.latest p) p start flight answer kept
 
+    -- The step of a call that is handed the old value of its word.
     abbrev pub step_from : Coding T → List ℕ → Registry T → Start T → Flight T → Step (Flight T) (Registry T) T
     step_from z words kept start flight = answered_from z (old_of words (asked z flight)) words kept start flight
 
@@ -23,6 +25,8 @@ module _ {T : Type 0} where
     InOrder promise z words kept start flight =
         WritesInOrder promise t (Next p) (t.events ++ events_of_step p start (step_from z words kept start flight))
 
+    -- A step writes its events in order in words and registries that are equal to those of which
+    -- it is known.
     pub in_order_from : (promise : Promise T) (z : Coding T) (words : List ℕ) (kept : Registry T) (start : Start T) (flight : Flight T)
         → t.world.words ≡ words → t.world.kept ≡ kept → InOrder promise z words kept start flight
         → InOrder promise z t.world.words t.world.kept start flight
@@ -33,6 +37,8 @@ module _ {T : Type 0} where
     DecidedInOrder promise said z words kept start flight =
         WritesInOrder promise t (Decide p said) (t.events ++ events_of_step p start (answered_from z (number_of said) words kept start flight))
 
+    -- A decision writes its events in order in words and registries that are equal to those of
+    -- which it is known.
     pub decided_in_order_from : (promise : Promise T) (said : Bool) (z : Coding T) (words : List ℕ) (kept : Registry T) (start : Start T) (flight : Flight T)
         → t.world.words ≡ words → t.world.kept ≡ kept → DecidedInOrder promise said z words kept start flight
         → DecidedInOrder promise said z t.world.words t.world.kept start flight
@@ -59,12 +65,15 @@ module _ {T : Type 0} where
         (events_of_step p start (step_from t p z words kept start flight))
         (t.world.changes + change_of words (asked z flight))
 
+    -- What a step comes to in a family's words and registry it comes to in the machine, whose
+    -- words and registry are equal.
     pub comes_from : (words : List ℕ) (kept : Registry T) (flight : Flight T) → t.world.words ≡ words
         → t.world.kept ≡ kept → ComesFrom F.coding words kept x.start flight
         → ComesByStep F t p x flight since (asked t.world.coding flight) (old_of t.world.words (asked t.world.coding flight))
     comes_from = grind arith
 
-    -- the same of a decision, of which the call is handed `answer`
+    -- What a decision comes to in a family's words and registry: the call is handed `answer`, and no
+    -- operation is done.
     abbrev pub DecidesFrom : Coding T → ℕ → List ℕ → Registry T → Start T → Flight T → Type 0
     DecidesFrom z answer words kept start flight =
         Comes F t p (answered_from t p z answer words kept start flight).kept (words_after words None)
@@ -72,6 +81,8 @@ module _ {T : Type 0} where
         (events_of_step p start (answered_from t p z answer words kept start flight))
         (t.world.changes + change_of words None)
 
+    -- What a decision comes to in a family's words and registry it comes to in the machine, whose
+    -- words and registry are equal.
     pub decides_from : (said : Bool) (words : List ℕ) (kept : Registry T) (flight : Flight T) → t.world.words ≡ words
         → t.world.kept ≡ kept → DecidesFrom F.coding (number_of said) words kept x.start flight
         → ComesByStep F t p x flight since None (number_of said)

@@ -17,12 +17,14 @@ more_changes : {T : Type 0} (changes more : ℕ) (doing : Doing T) → HasSmallC
 more_changes = grind arith
 
 module _ {T : Type 0} where
+  -- Each party's latest call has counts that are small for this number of turns and changes.
   abbrev AllSmall : ℕ → ℕ → List (ℕ × Party T) → Type 0
   AllSmall turns changes latest = (p : ℕ) (x : Party T) → party_of p latest ≡ Some x → HasSmallCounts turns changes x
 
   later : (turns changes more : ℕ) (x : Party T) → HasSmallCounts turns changes x → HasSmallCounts (turns + 1) (changes + more) x
   later = grind (arith, more_changes)
 
+  -- After a turn all parties' counts are small, if those of its own party are.
   all_put : (turns changes more p : ℕ) (y : Party T) (latest : List (ℕ × Party T))
       → HasSmallCounts (turns + 1) (changes + more) y → AllSmall turns changes latest
       → AllSmall (turns + 1) (changes + more) (put p y latest)
@@ -30,8 +32,8 @@ module _ {T : Type 0} where
     where
       -- the party that took the turn has the counts that are given for it
       mine : q ≡ p → HasSmallCounts (turns + 1) (changes + more) x
-      mine e =
-          let at : party_of p (put p y latest) ≡ Some x = subst (λ n. party_of n (put p y latest) ≡ Some x) e found in
+      mine same_party =
+          let at : party_of p (put p y latest) ≡ Some x = subst (λ n. party_of n (put p y latest) ≡ Some x) same_party found in
           let both : Some y ≡ Some x = sym (party_put_same p y latest) ∙ at in
           let same : y ≡ x = cc in
           subst (HasSmallCounts (turns + 1) (changes + more)) same here
@@ -53,6 +55,7 @@ module _ {T : Type 0} where
         latest = subst (λ n. AllSmall (w.turns + 1) n (put p party w.latest)) same (all_put w.turns w.changes 0 p party w.latest here small.latest);
       }
 
+  -- A call counts no more changes than there are after its step.
   doing_small : (changes since change : ℕ) (after : After (Flight T) (Answer T)) → since ≤ changes
       → HasSmallCount (changes + change) (doing_after (changes + change) (since + change) after)
   doing_small = grind arith
@@ -84,12 +87,14 @@ module _ {T : Type 0} where
   answer_small w p x ask answer (Going flight since) below steps backs small is_small =
       step_small w p x since ask (step_in w p x flight answer) below steps backs small is_small
 
+  -- A turn `Next` keeps the counts of a machine small.
   next_small : (w : World T) (p : ℕ) (o : Option (Party T)) → party_of p w.latest ≡ o → w.turns < 2 ^ 64 - 2 → IsSmall w → IsSmall (after_next w p o)
-  next_small w p None e below small = small
-  next_small w p (Some x) e below small =
-      let here = small.latest p x e in
+  next_small w p None found below small = small
+  next_small w p (Some x) found below small =
+      let here = small.latest p x found in
       answer_small w p x (ask_of_doing w.coding x.doing) (old_of w.words (ask_of_doing w.coding x.doing)) x.doing below here.steps here.backs here.doing small
 
+  -- A decision keeps the counts of a machine small.
   decision_small : (w : World T) (p : ℕ) (said : Bool) (o : Option (Party T)) → party_of p w.latest ≡ o
       → w.turns < 2 ^ 64 - 2 → IsSmall w → IsSmall (after_decision w p said o)
   decision_small = grind (arith, answer_small, number_of)
@@ -97,12 +102,14 @@ module _ {T : Type 0} where
   death_small : (w : World T) (owner : ℕ) → w.turns < 2 ^ 64 - 2 → IsSmall w → IsSmall (after_death w owner)
   death_small = grind (arith, later)
 
+  -- Each turn that is not refused keeps the counts of a machine small.
   turn_small : (w : World T) (turn : Turn T) → refusal_of w turn ≡ None → IsSmall w → IsSmall (world_after w turn)
-  turn_small w (Begin p start) e small = begin_small w p start (first_of w.kind w.capacity start w.kept) (passes w (Begin p start) e).turns small
-  turn_small w (Next p) e small = next_small w p (party_of p w.latest) refl (passes w (Next p) e).turns small
-  turn_small w (Decide p said) e small = decision_small w p said (party_of p w.latest) refl (passes w (Decide p said) e).turns small
-  turn_small w (Die owner) e small = death_small w owner (passes w (Die owner) e).turns small
+  turn_small w (Begin p start) free small = begin_small w p start (first_of w.kind w.capacity start w.kept) (passes w (Begin p start) free).turns small
+  turn_small w (Next p) not_refused small = next_small w p (party_of p w.latest) refl (passes w (Next p) not_refused).turns small
+  turn_small w (Decide p said) not_refused small = decision_small w p said (party_of p w.latest) refl (passes w (Decide p said) not_refused).turns small
+  turn_small w (Die owner) not_refused small = death_small w owner (passes w (Die owner) not_refused).turns small
 
+  -- In each machine that turns reach the counts are small.
   pub reached_small : (t : Trace T) → IsReached t → IsSmall t.world
   reached_small t reached =
       kept_by_runs (λ t. IsSmall t.world) (λ t turn e h. turn_small t.world turn e h) t

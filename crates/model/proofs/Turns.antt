@@ -22,6 +22,7 @@ later = omega arith
 
 -- ---- a change of a word
 
+-- The change that a test counts: none if the word has kept its value, else one.
 abbrev counts_for : Bool → ℕ
 counts_for b = cond b 0 1
 
@@ -33,30 +34,35 @@ unchanged_words = grind (arith, change_is, nat_tests)
 
 -- a word that keeps its value leaves all of them
 pub kept_words : (words : List ℕ) (at value : ℕ) → get_or (set words at value) at 0 ≡ get_or words at 0 → set words at value ≡ words
-kept_words words at value e = ⊎_elim within past (cases_lt at (length words))
+kept_words words at value same_word = ⊎_elim within past (cases_lt at (length words))
   where
+    -- Within the words, setting a word to its own value changes none.
     within : at < length words → set words at value ≡ words
     within at_below =
-        let now : value ≡ get_or words at 0 = sym (get_or-set_same words at value 0 at_below) ∙ e in
+        let now : value ≡ get_or words at 0 = sym (get_or-set_same words at value 0 at_below) ∙ same_word in
         ap (set words at) now ∙ set-get_or words at 0
 
     past : length words ≤ at → set words at value ≡ words
-    past h = set_past words at value h
+    past past_end = set_past words at value past_end
 
+-- An operation that changes the words counts as one change.
 pub changed_words : (words : List ℕ) (ask : Option Ask) → words_after words ask ≢ words → change_of words ask ≡ 1
 changed_words words None ne = absurd (ne refl)
 changed_words words (Some ask) ne = go (get_or (words_after words (Some ask)) ask.word 0 == get_or words ask.word 0) refl
   where
+    -- The cases are whether the word has its old value after the operation.
     go : (b : Bool) → (get_or (words_after words (Some ask)) ask.word 0 == get_or words ask.word 0) ≡ b → counts_for b ≡ 1
-    go true t =
+    go true test =
         let same : get_or (words_after words (Some ask)) ask.word 0 ≡ get_or words ask.word 0 = grind (arith, nat_tests) in
         absurd (ne (kept_words words ask.word (written ask.op (get_or words ask.word 0)) same))
-    go false t = refl
+    go false test = refl
 
+-- The steps of a call grow by one if an operation was asked for.
 one_more_if : (o : Option Ask) (n : ℕ) → n + step_count o ≡ cond (is_some o) (n + 1) n
 one_more_if None n = omega arith
 one_more_if (Some ask) n = refl
 
+-- The turns back of a call stay, or grow by one.
 one_or_more : (old : ℕ) (back : Bool) → (old + one_if back ≡ old) ⊎ (old + one_if back ≡ old + 1)
 one_or_more old true = inr refl
 one_or_more old false = inl (omega arith)
@@ -73,10 +79,12 @@ module _ {T : Type 0} where
   same_but_turns : (w : World T) (turn : Turn T) → (world_after w turn).turns ≡ w.turns + 1 → IsOneTurnLater w (world_after w turn)
   same_but_turns = grind (arith, turn_making)
 
+  -- An admitted begin counts one turn.
   begin_turns : (w : World T) (p : ℕ) (start : Start T) (o : Option (Flight T)) → is_none o ≡ false → (after_begin w p start o).turns ≡ w.turns + 1
   begin_turns w p start None some = absurd (cc)
   begin_turns w p start (Some flight) some = refl
 
+  -- An answer to a call under way counts one turn.
   answer_turns : (w : World T) (p : ℕ) (x : Party T) (ask : Option Ask) (answer : ℕ) (flight : Flight T) (doing : Doing T)
       → flight_of (Some doing) ≡ Some flight → (after_answer w p x ask answer doing).turns ≡ w.turns + 1
   answer_turns = grind arith
@@ -84,28 +92,31 @@ module _ {T : Type 0} where
   next_turns : (w : World T) (p : ℕ) (flight : Flight T) (o : Option (Party T)) → flight_of (doing_of o) ≡ Some flight → (after_next w p o).turns ≡ w.turns + 1
   next_turns = grind (arith, answer_turns)
 
+  -- A decision for a call under way counts one turn.
   decision_turns : (w : World T) (p : ℕ) (said : Bool) (flight : Flight T) (o : Option (Party T))
       → flight_of (doing_of o) ≡ Some flight → (after_decision w p said o).turns ≡ w.turns + 1
   decision_turns = grind (arith, answer_turns, number_of)
 
   -- after a turn the number of turns has risen by one, and what the machine was made with is the same
   pub one_turn_later : (w : World T) (turn : Turn T) → call_refusal w turn ≡ None → IsOneTurnLater w (world_after w turn)
-  one_turn_later w (Begin p start) e =
-      same_but_turns w (Begin p start) (begin_turns w p start (first_of w.kind w.capacity start w.kept) (may_begin w p start e).call)
-  one_turn_later w (Next p) e =
-      let may = may_next w p e in
+  one_turn_later w (Begin p start) not_refused =
+      same_but_turns w (Begin p start) (begin_turns w p start (first_of w.kind w.capacity start w.kept) (may_begin w p start not_refused).call)
+  one_turn_later w (Next p) not_refused =
+      let may = may_next w p not_refused in
       same_but_turns w (Next p) (next_turns w p may.flight (party_of p w.latest) may.is)
-  one_turn_later w (Decide p said) e =
-      let may = may_decide w p said e in
+  one_turn_later w (Decide p said) not_refused =
+      let may = may_decide w p said not_refused in
       same_but_turns w (Decide p said) (decision_turns w p said may.flight (party_of p w.latest) may.is)
-  one_turn_later w (Die owner) e = record { coding = refl; kind = refl; capacity = refl; parties = refl; turns = refl }
+  one_turn_later w (Die owner) not_refused = record { coding = refl; kind = refl; capacity = refl; parties = refl; turns = refl }
 
   -- ---- one word
 
+  -- A begin changes no word.
   begin_word : (w : World T) (p : ℕ) (start : Start T) (flight : Option (Flight T)) → (after_begin w p start flight).words ≡ w.words
   begin_word w p start None = refl
   begin_word w p start (Some flight) = refl
 
+  -- After an answer to a call the words are those after the operation that the call asked for.
   answer_word : (w : World T) (p : ℕ) (x : Party T) (answer : ℕ) (doing : Doing T)
       → (after_answer w p x (ask_of_doing w.coding doing) answer doing).words
       ≡ words_after w.words (ask_of_flight w.coding (flight_of (Some doing)))
@@ -117,6 +128,7 @@ module _ {T : Type 0} where
   decided_word : (w : World T) (p : ℕ) (x : Party T) (answer : ℕ) (doing : Doing T) → (after_answer w p x None answer doing).words ≡ w.words
   decided_word = grind arith
 
+  -- A decision changes no word.
   decision_word : (w : World T) (p : ℕ) (said : Bool) (o : Option (Party T)) → (after_decision w p said o).words ≡ w.words
   decision_word w p said None = refl
   decision_word w p said (Some x) = decided_word w p x (number_of said) x.doing
@@ -131,10 +143,12 @@ module _ {T : Type 0} where
       → party_of p (after_step w p x since ask s).latest ≡ Some (party_after x since w.changes (step_count ask) (change_of w.words ask) s)
   step_here = grind (arith, party_put_same)
 
+  -- A party's call stands where its latest step has led it.
   stands : (changes since : ℕ) (after : After (Flight T) (Answer T)) (w : World T) (p : ℕ) (x : Party T)
       → party_of p w.latest ≡ Some x → x.doing ≡ doing_after changes since after → StandsAt w p after
   stands = grind arith
 
+  -- After a step the party's call stands where the step has led it.
   goes : (w : World T) (p : ℕ) (x : Party T) (flight : Flight T) (since : ℕ) (ask : Option Ask) (answer : ℕ)
       → (step_in w p x flight answer).after ≡ goes_of w.coding p flight answer w.kept
       → StandsAt (after_step w p x since ask (step_in w p x flight answer)) p (goes_of w.coding p flight answer w.kept)
@@ -165,6 +179,7 @@ module _ {T : Type 0} where
   decision_goes w p said tells None found = tt
   decision_goes w p said tells (Some x) found = go x.doing refl
     where
+      -- The cases are whether the party's call is under way or over.
       go : (doing : Doing T) → x.doing ≡ doing
           → IfSome (flight_of (Some doing))
           (λ flight. StandsAt (after_answer w p x None (number_of said) doing) p (goes_of w.coding p flight (number_of said) w.kept))
@@ -174,11 +189,12 @@ module _ {T : Type 0} where
   begin_goes : (w : World T) (p : ℕ) (start : Start T) (o : Option (Flight T)) → is_none o ≡ false → flight_in (after_begin w p start o) p ≡ o
   begin_goes = grind (arith, party_put_same)
 
+  -- Each turn that is not refused leaves its party's call where `GoesOn` says.
   pub goes_on : (w : World T) (turn : Turn T) → GoesAsTold w → call_refusal w turn ≡ None → GoesOn w turn (world_after w turn)
-  goes_on w (Begin p start) tells e = begin_goes w p start (first_of w.kind w.capacity start w.kept) (may_begin w p start e).call
-  goes_on w (Next p) tells e = next_goes w p tells (party_of p w.latest) refl
-  goes_on w (Decide p said) tells e = decision_goes w p said tells (party_of p w.latest) refl
-  goes_on w (Die owner) tells e = tt
+  goes_on w (Begin p start) tells not_refused = begin_goes w p start (first_of w.kind w.capacity start w.kept) (may_begin w p start not_refused).call
+  goes_on w (Next p) tells not_refused = next_goes w p tells (party_of p w.latest) refl
+  goes_on w (Decide p said) tells not_refused = decision_goes w p said tells (party_of p w.latest) refl
+  goes_on w (Die owner) tells not_refused = tt
 
   -- ---- its counts
 
@@ -189,7 +205,7 @@ module _ {T : Type 0} where
       → BothGoOn asks (is_none (flight_of (doing_of (Some (party_after x since changes steps change s)))))
       (progress_after changes (Some x))
       (progress_after (changes + change) (Some (party_after x since changes steps change s)))
-  going_on changes since steps change asks s x flight e count = go s.after
+  going_on changes since steps change asks s x flight same_doing count = go s.after
     where
       -- whether the step ends the call or not, it counts itself, and one more turn back if it was turned back
       go : (after : After (Flight T) (Answer T))
@@ -202,21 +218,21 @@ module _ {T : Type 0} where
           })))
       go (GoOn next) =
           let same = later changes since change in
-          rw e (record { steps = count; backs = one_or_more x.backs s.back; others = same; finished = refl })
+          rw same_doing (record { steps = count; backs = one_or_more x.backs s.back; others = same; finished = refl })
       go (Done answer) =
           let same = later changes since change in
-          rw e (record { steps = count; backs = one_or_more x.backs s.back; others = same; finished = refl })
+          rw same_doing (record { steps = count; backs = one_or_more x.backs s.back; others = same; finished = refl })
 
-  -- the same of the party in the machine
+  -- The counts of a party's call before and after its own step in the machine are as `BothGoOn` says.
   counted : (w : World T) (p : ℕ) (x : Party T) (flight : Flight T) (since : ℕ) (ask : Option Ask) (answer : ℕ)
       → party_of p w.latest ≡ Some x → x.doing ≡ Going flight since
       → BothGoOn (is_some ask) (is_none (flight_in (after_step w p x since ask (step_in w p x flight answer)) p))
       (progress_in w p) (progress_in (after_step w p x since ask (step_in w p x flight answer)) p)
-  counted w p x flight since ask answer found e =
+  counted w p x flight since ask answer found same_doing =
       let s = step_in w p x flight answer in
       let y = party_after x since w.changes (step_count ask) (change_of w.words ask) s in
       let here = step_here w p x since ask s in
-      let goal = going_on w.changes since (step_count ask) (change_of w.words ask) (is_some ask) s x flight e (one_more_if ask x.steps) in
+      let goal = going_on w.changes since (step_count ask) (change_of w.words ask) (is_some ask) s x flight same_doing (one_more_if ask x.steps) in
       rw (here, found) goal
 
   -- a step counts itself, and the changes of others that its call has seen
@@ -255,24 +271,26 @@ module _ {T : Type 0} where
       go (Over others) same_doing = tt
       go (Going flight since) same_doing = counted w p x flight since None (number_of said) found same_doing
 
+  -- A call that has just begun has counted nothing.
   begin_counts : (w : World T) (p : ℕ) (start : Start T) (o : Option (Flight T)) → is_none o ≡ false
       → progress_in (after_begin w p start o) p ≡ Some record { steps = 0; backs = 0; others = 0; finished = false }
   begin_counts = grind (arith, party_put_same)
 
   -- each turn counts what it did
   pub counts_turn : (w : World T) (turn : Turn T) → call_refusal w turn ≡ None → CountsTurn w turn (world_after w turn)
-  counts_turn w (Begin p start) e = begin_counts w p start (first_of w.kind w.capacity start w.kept) (may_begin w p start e).call
-  counts_turn w (Next p) e = next_counts w p (party_of p w.latest) refl
-  counts_turn w (Decide p said) e = decision_counts w p said (party_of p w.latest) refl
-  counts_turn w (Die owner) e = tt
+  counts_turn w (Begin p start) not_refused = begin_counts w p start (first_of w.kind w.capacity start w.kept) (may_begin w p start not_refused).call
+  counts_turn w (Next p) not_refused = next_counts w p (party_of p w.latest) refl
+  counts_turn w (Decide p said) not_refused = decision_counts w p said (party_of p w.latest) refl
+  counts_turn w (Die owner) not_refused = tt
 
-  -- ---- the counts of the others
+  -- ---- the counts of the other parties
 
   -- a change of the words is one more change, and no change is none
   record Tells (old new : World T) : Type 0 where
     pub same : new.words ≡ old.words → new.changes ≡ old.changes
     pub changed : new.words ≢ old.words → new.changes ≡ old.changes + 1
 
+  -- Another party's latest call counts at most one change of a word's value in the turn.
   sees : (old new : World T) (x : Party T) → Tells old new → HasSmallCount old.changes x.doing
       → BothSee old new (progress_after old.changes (Some x)) (progress_after new.changes (Some x))
   sees old new x tells small = go x.doing refl small
@@ -291,6 +309,7 @@ module _ {T : Type 0} where
           })
       go (Over others) same_doing small_count = rw same_doing (record { steps = refl; backs = refl; finished = refl; same = λ s. refl; changed = λ ne. refl })
 
+  -- A party whose latest call is the same before and after the turn counts at most one change of a word.
   seen : (old new : World T) (q : ℕ) (o : Option (Party T)) → party_of q old.latest ≡ o → party_of q new.latest ≡ o
       → Tells old new → IsSmall old → BothSee old new (progress_in old q) (progress_in new q)
   seen = grind (arith, sees)
@@ -301,19 +320,23 @@ module _ {T : Type 0} where
   step_tells : (w : World T) (p : ℕ) (x : Party T) (since : ℕ) (ask : Option Ask) (s : Step (Flight T) (Registry T) T) → Tells w (after_step w p x since ask s)
   step_tells = grind (arith, unchanged_words, changed_words)
 
+  -- A begin leaves every other party's counts as `BothSee` says.
   begin_others : (w : World T) (p : ℕ) (start : Start T) (o : Option (Flight T)) (q : ℕ) → q ≢ p → IsSmall w
       → BothSee w (after_begin w p start o) (progress_in w q) (progress_in (after_begin w p start o) q)
   begin_others = grind (arith, seen, still_tells, party_put_other)
 
+  -- An answer to one party's call leaves every other party's counts as `BothSee` says.
   answer_others : (w : World T) (p : ℕ) (x : Party T) (ask : Option Ask) (answer : ℕ) (doing : Doing T) (q : ℕ)
       → q ≢ p → IsSmall w
       → BothSee w (after_answer w p x ask answer doing) (progress_in w q) (progress_in (after_answer w p x ask answer doing) q)
   answer_others = grind (arith, seen, still_tells, step_in, after_step, party_put_other, step_tells)
 
+  -- A turn `Next` leaves every other party's counts as `BothSee` says.
   next_others : (w : World T) (p : ℕ) (o : Option (Party T)) (q : ℕ) → q ≢ p → IsSmall w
       → BothSee w (after_next w p o) (progress_in w q) (progress_in (after_next w p o) q)
   next_others = grind (arith, seen, still_tells, answer_others)
 
+  -- A decision leaves every other party's counts as `BothSee` says.
   decision_others : (w : World T) (p : ℕ) (said : Bool) (o : Option (Party T)) (q : ℕ) → q ≢ p → IsSmall w
       → BothSee w (after_decision w p said o) (progress_in w q) (progress_in (after_decision w p said o) q)
   decision_others = grind (arith, seen, still_tells, answer_others, number_of)

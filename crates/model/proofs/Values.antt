@@ -17,7 +17,7 @@ turns =
     ++ (begins 0 (Queues (Push 18446744073709551618)) 4
     ++ (begins 1 (Queues Pop) 2 ++ (nexts 0 1 ++ begins 0 (Queues Len) 4)))
 
--- the events of these turns, up to the length that counts the value
+-- The events of `turns`, up to the length that counts the value.
 abbrev told : List (Event ℕ)
 told =
     roles_told
@@ -73,6 +73,8 @@ no_early_pop book = let read = book.read in cc
 abbrev half_pushed : List (Turn ℕ)
 half_pushed = roles ++ begins 0 (Queues (Push 18446744073709551618)) 3
 
+-- A history is refused in which a push has published its value, while the write position in the
+-- words has not moved.
 pub no_early_push : IsBook two_words Queue (record {
   world = (ran two_words any_kinds.Queue 1 2 half_pushed).world;
   events = roles_told ++ Begun 0 (Queues (Push 18446744073709551618)) ∷ Published 0 (Value 18446744073709551618) ∷ [];

@@ -22,7 +22,7 @@ turns =
     roles
     ++ (begins 0 (Queues (PushIndex 5)) 3 ++ (begins 1 (Queues Pop) 3 ++ nexts 0 1))
 
--- the events of these turns, up to the end of the push
+-- The events of `turns`, up to the end of the push.
 abbrev told : List (Event ℕ)
 told =
     roles_told
@@ -35,15 +35,20 @@ told =
     ∷ Finished 0 (Queues (PushIndex 5)) (Truth true)
     ∷ []
 
+-- The events that the machine writes in `turns` are those of `told`.
 pub stopped_push : (ran one_word IndexQueue 1 2 turns).events ≡ told
 stopped_push = refl
 
+-- After `turns` the write position is 1, the read position 0, both roles are taken, and the cell
+-- holds the pushed 5.
 pub stopped_push_words : (ran one_word IndexQueue 1 2 turns).world.words ≡ 1 ∷ 0 ∷ 0 ∷ 0 ∷ 5 ∷ []
 stopped_push_words = refl
 
+-- After `turns` the one value that waits is the pushed 5.
 pub one_waits : waiting told ≡ Index 5 ∷ []
 one_waits = refl
 
+-- The pop acts before the push, on an empty list, so it rightly answers that there is none.
 pub pop_before_push : IsLegal (bounded_list 1) (moments told)
 pop_before_push = refl
 
@@ -53,7 +58,7 @@ length_turns =
     begins 0 (Queues AcquireProducer) 1
     ++ (begins 1 (Queues Len) 2 ++ (begins 0 (Queues (PushIndex 5)) 4 ++ nexts 1 5))
 
--- the events of these turns
+-- The events of `length_turns`.
 abbrev length_told : List (Event ℕ)
 length_told =
     Begun 0 (Queues AcquireProducer)
@@ -65,12 +70,15 @@ length_told =
     ∷ Finished 0 (Queues (PushIndex 5)) (Truth true)
     ∷ []
 
+-- The length, which began before the push, answers 1.
 pub length_again : (ran one_word IndexQueue 1 2 length_turns).events ≡ length_told ++ Finished 1 (Queues Len) (Number 1) ∷ []
 length_again = refl
 
+-- The length has taken 7 steps and begun again once, while the push changed words twice.
 pub length_counts : progress_in (ran one_word IndexQueue 1 2 length_turns).world 1 ≡ Some (record { steps = 7; backs = 1; others = 2; finished = true })
 length_counts = refl
 
+-- The answer 1 of the length is right: at the end of `length_told` one value waits.
 pub one_waited : TellsLength 1 length_told (Finished 1 (Queues Len) (Number 1))
 one_waited = record { part = length_told; rest = []; is = refl; within = tt; held = refl }
 
@@ -92,11 +100,11 @@ none_waited =
 
 -- ---- an overflowing queue
 
--- roles as above, and 1 is pushed into a queue of capacity 1
+-- Party 0 takes the producer's role, party 1 the consumer's, and 1 is pushed into a queue of capacity 1.
 abbrev holding_one : List (Turn ℕ)
 holding_one = roles ++ begins 0 (Queues (PushIndex 1)) 4
 
--- the events of these turns
+-- The events of `holding_one`.
 abbrev holding_one_told : List (Event ℕ)
 holding_one_told =
     roles_told
@@ -112,7 +120,7 @@ room_turns =
     begins 0 (Queues (PushIndex 2)) 4
     ++ (begins 2 (Queues Len) 4 ++ (begins 1 (Queues Pop) 4 ++ nexts 0 1))
 
--- the events of these turns: the push acts as the pop makes room
+-- The events of `room_turns`: the push acts as the pop makes room.
 abbrev room_told : List (Event ℕ)
 room_told =
     Begun 0 (Queues (PushIndex 2))
@@ -127,9 +135,11 @@ room_told =
     ∷ Finished 0 (Queues (PushIndex 2)) PoppedNone
     ∷ []
 
+-- In `holding_one` and then `room_turns` the machine writes `holding_one_told` and then `room_told`.
 pub pop_makes_room : (ran one_word Overflow 1 3 (holding_one ++ room_turns)).events ≡ holding_one_told ++ room_told
 pop_makes_room = refl
 
+-- The answers are those of an overflowing list of capacity 1.
 pub room_is_legal : IsLegal (overflowing_list 1) (moments (holding_one_told ++ room_told))
 room_is_legal = refl
 
@@ -137,7 +147,7 @@ room_is_legal = refl
 abbrev again_turns : List (Turn ℕ)
 again_turns = begins 1 (Queues Pop) 3 ++ (begins 0 (Queues (PushIndex 2)) 6 ++ nexts 1 3)
 
--- the events of these turns: the push has taken out what the pop had read
+-- The events of `again_turns`: the push has taken out what the pop had read.
 abbrev again_told : List (Event ℕ)
 again_told =
     Begun 1 (Queues Pop)
@@ -151,13 +161,16 @@ again_told =
     ∷ Finished 1 (Queues Pop) (PoppedIndex 2)
     ∷ []
 
+-- In `holding_one` and then `again_turns` the machine writes `holding_one_told` and then `again_told`.
 pub pop_reads_again : (ran one_word Overflow 1 3 (holding_one ++ again_turns)).events ≡ holding_one_told ++ again_told
 pop_reads_again = refl
 
+-- The pop has taken 6 steps and begun its loop once again, while others changed words three times.
 pub pop_counts : progress_in (ran one_word Overflow 1 3 (holding_one ++ again_turns)).world 1
     ≡ Some (record { steps = 6; backs = 1; others = 3; finished = true })
 pop_counts = refl
 
+-- The answers are those of an overflowing list of capacity 1.
 pub again_is_legal : IsLegal (overflowing_list 1) (moments (holding_one_told ++ again_told))
 again_is_legal = refl
 
@@ -183,6 +196,7 @@ no_bounded_push_hands_out stands = let h : Queues (PushIndex 5) ≡ Queues Pop =
 pub no_lost_overflow : wrote {T = ℕ} kinds.Overflow 1 (Queues (PushIndex 5)) PoppedNone (Acted 0 (Queues (PushIndex 5)) PoppedNone ∷ []) → ⊥
 no_lost_overflow wrote = let p = wrote.published in cc
 
+-- In an overflowing queue without capacity a push does not publish its value, which it hands back.
 pub no_place : wrote {T = ℕ} kinds.Overflow 0 (Queues (PushIndex 5)) (PoppedIndex 5)
     (Published 0 (Index 5) ∷ Acted 0 (Queues (PushIndex 5)) (PoppedIndex 5) ∷ [])
     → ⊥
@@ -220,28 +234,30 @@ no_blind_pop right = cc
 abbrev earlier : List (Event ℕ)
 earlier = Published 0 (Index 5) ∷ HandedOut 0 (Index 5) ∷ Begun 1 (Queues Len) ∷ []
 
+-- The answer that one value waits.
 abbrev one : Answer ℕ
 one = Number 1
 
+-- One value waits after these events.
 abbrev IsOne : List (Event ℕ) → Type 0
 IsOne part = one ≡ Number (length (waiting part))
 
 -- at no moment before the call began was the number of waiting values what the length answers
 not_one : (part rest : List (Event ℕ)) → earlier ≡ part ++ rest → BeginsNone 1 rest → IsOne part → ⊥
-not_one [] rest is within held = cc
-not_one (a ∷ []) rest is within held =
+not_one [] rest split within held = cc
+not_one (a ∷ []) rest split within held =
     let after : HandedOut 0 (Index 5) ∷ Begun 1 (Queues Len) ∷ [] ≡ rest = cc in
     let none = subst (BeginsNone 1) (sym after) within in
     none.0 refl
-not_one (a ∷ b ∷ []) rest is within held =
+not_one (a ∷ b ∷ []) rest split within held =
     let same : Published 0 (Index 5) ∷ HandedOut 0 (Index 5) ∷ [] ≡ a ∷ b ∷ [] = cc in
     let zero = subst IsOne (sym same) held in
     cc
-not_one (a ∷ b ∷ d ∷ []) rest is within held =
+not_one (a ∷ b ∷ d ∷ []) rest split within held =
     let same : earlier ≡ a ∷ b ∷ d ∷ [] = cc in
     let zero = subst IsOne (sym same) held in
     cc
-not_one (a ∷ b ∷ d ∷ e ∷ part) rest is within held = cc
+not_one (a ∷ b ∷ d ∷ e ∷ part) rest split within held = cc
 
 pub no_length_from_before : TellsLength 1 earlier (Finished 1 (Queues Len) (Number 1)) → ⊥
 no_length_from_before told = not_one told.part told.rest told.is told.within told.held

@@ -17,13 +17,15 @@ use Rattle.model.specs.Families.Queues.Promises as queues
 use Rattle.model.proofs.Runs.{begins, ran}
 
 same_is_more : (n : ℕ) → n ≡ n + 1 → ⊥
-same_is_more n e = absurd (omega arith)
+same_is_more n same = absurd (omega arith)
 
 -- ---- queues: both positions are 0
 
+-- An index queue of capacity 1 as it opens.
 abbrev fresh : Trace ℕ
 fresh = opening one_word kinds.IndexQueue 1 2
 
+-- This operation on this word.
 abbrev ask_of : ℕ → Op → Option Ask
 ask_of word op = Some (record { word = word; op = op })
 
@@ -55,6 +57,7 @@ no_act_of_role t ask acts_right = acts_right
 
 -- ---- decisions: an owner holds an index
 
+-- A find of owner 7, which has index 0, waits at its question.
 abbrev held : Trace ℕ
 held = ran one_word kinds.Robust 2 2 (begins 0 (Robust (Acquire 7)) 4 ++ begins 0 (Robust (Find 7)) 1)
 
@@ -62,6 +65,7 @@ held = ran one_word kinds.Robust 2 2 (begins 0 (Robust (Acquire 7)) 4 ++ begins 
 pub no_deaf_find : FindsUpTo held (Decide 0 false) held → ⊥
 no_deaf_find found = same_is_more 5 (ap length (found 0 7 refl (refl, tt)).ends)
 
+-- A recovery waits at its question about index 0 of owner 7, who is dead.
 abbrev asked : Trace ℕ
 asked = ran one_word kinds.Robust 2 2 (begins 0 (Robust (Acquire 7)) 4 ++ Die 7 ∷ begins 1 (Robust (Recover Default)) 2)
 

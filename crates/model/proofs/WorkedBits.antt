@@ -16,6 +16,7 @@ use Rattle.model.specs.declared.turn.Kind.TheVariants as kinds
 use Rattle.model.specs.Families.Bits.Promises.{IsBitSet, IsCountingSet, AnswersCount, HasCleared, HasTaken, CameTo, BitsWrote, bits_stand, counts_stand}
 use Rattle.model.specs.Families.Bits.Reading.{is_set_of, is_clear_of, sets, clears, standing, position_after, count_at}
 
+-- A bit set, or a counting bit set, of this capacity after these turns.
 abbrev set_of : Kind → ℕ → List (Turn ℕ) → Trace ℕ
 set_of kind capacity turns = run turns (opening one_word kind capacity 2)
 
@@ -25,6 +26,7 @@ set_of kind capacity turns = run turns (opening one_word kind capacity 2)
 four_words : length (set_of kinds.Bits 130 []).world.words ≡ 4
 four_words = refl
 
+-- A counting set of capacity 0 has no words.
 no_words : (set_of kinds.Counts 0 []).world.words ≡ []
 no_words = refl
 
@@ -170,6 +172,7 @@ looked_told : looked.events
     ∷ []
 looked_told = refl
 
+-- Party 0 counts place 1 up, and party 1 then reads its count.
 abbrev looked_up : Trace ℕ
 looked_up =
     set_of kinds.Counts 2
@@ -185,19 +188,23 @@ looked_up_told : looked_up.events
     ∷ []
 looked_up_told = refl
 
+-- A look at place 8 of a set of 8 bits is refused.
 look_past_the_capacity : refusal_of (set_of kinds.Bits 8 []).world (Begin 0 (Bits (IsSet 8))) ≡ Some BadIndex
 look_past_the_capacity = refl
 
+-- A bit set has no call `Count`.
 no_count_of_bits : refusal_of (set_of kinds.Bits 8 []).world (Begin 0 (Bits (Count 1))) ≡ Some WrongCall
 no_count_of_bits = refl
 
+-- A counting set has no call `IsSet`.
 no_look_of_counts : refusal_of (set_of kinds.Counts 8 []).world (Begin 0 (Bits (IsSet 1))) ≡ Some WrongCall
 no_look_of_counts = refl
 
--- a place past the capacity, and a call that counts have not
+-- A set of place 8 of a set of 8 bits is refused.
 past_the_capacity : refusal_of (set_of kinds.Bits 8 []).world (Begin 0 (Bits (Set 8))) ≡ Some BadIndex
 past_the_capacity = refl
 
+-- A counting set has no call `ResetNext`.
 no_next_of_counts : refusal_of (set_of kinds.Counts 8 []).world (Begin 0 (Bits ResetNext)) ≡ Some WrongCall
 no_next_of_counts = refl
 
@@ -222,16 +229,19 @@ with_events kind words events =
       events = events;
     }
 
--- a bit that stands and that nobody set, and one that is lost
+-- A history is refused in which bit 0 of a set stands and nobody set it.
 stands_unset : IsBitSet (with_events kinds.Bits (0 ∷ 1 ∷ []) []) → ⊥
 stands_unset bit_set = let e = bit_set.conserved 0 in cc
 
+-- A history is refused in which bit 1 was set and never cleared, but does not stand.
 bit_lost : IsBitSet (with_events kinds.Bits (0 ∷ 0 ∷ []) (told.Set 0 1 ∷ [])) → ⊥
 bit_lost bit_set = let e = bit_set.conserved 1 in cc
 
+-- A history is refused in which bit 1 is set twice with no clear between.
 set_twice : IsBitSet (with_events kinds.Bits (0 ∷ 2 ∷ []) (told.Set 0 1 ∷ told.Set 1 1 ∷ [])) → ⊥
 set_twice bit_set = let e = bit_set.conserved 1 in cc
 
+-- A history is refused in which bit 2 of a set of two bits is set.
 set_past_the_capacity : IsBitSet (with_events kinds.Bits (0 ∷ 4 ∷ []) (told.Set 0 2 ∷ [])) → ⊥
 set_past_the_capacity bit_set = let e = bit_set.within 2 (omega arith) in cc
 
@@ -244,13 +254,15 @@ abbrev false_set : List (Event ℕ)
 false_set =
     Begun 0 (Bits (Set 1)) ∷ Finished 0 (Bits (Set 1)) (Truth false) ∷ []
 
+-- A bit set refuses the history of `false_set`.
 false_without_bit : IsBitSet (with_events kinds.Bits (0 ∷ 0 ∷ []) false_set) → ⊥
 false_without_bit bit_set = never_stood 0 1 (Begun 0 (Bits (Set 1)) ∷ []) refl (bit_set.answers (Begun 0 (Bits (Set 1)) ∷ []) [] _ refl)
 
--- a set that answers true and sets nothing, or the bit beside its own
+-- It is refused that a set of bit 1 answers true and has set nothing.
 true_without_event : BitsWrote {T = ℕ} 2 (Bits (Set 1)) (Truth true) [] → ⊥
 true_without_event bits_wrote = let e = bits_wrote.0 in cc
 
+-- It is refused that a set of bit 1 answers true and has set bit 0.
 other_bit : BitsWrote {T = ℕ} 2 (Bits (Set 1)) (Truth true) (told.Set 0 0 ∷ []) → ⊥
 other_bit bits_wrote = let e = bits_wrote.1 in cc
 
@@ -263,39 +275,43 @@ abbrev skipping : List (Event ℕ)
 skipping =
     told.Set 1 0 ∷ told.Set 1 1 ∷ Begun 0 (Bits ResetNext) ∷ Cleared 0 1 ∷ []
 
--- none of these moves the position
-abbrev Leave : List (Event ℕ) → Type 0
-Leave [] = Unit {0}
-Leave (e ∷ es) = ((n : ℕ) → position_after n e ≡ n) × Leave es
+-- None of these events moves the reset position.
+abbrev LeavesPosition : List (Event ℕ) → Type 0
+LeavesPosition [] = Unit {0}
+LeavesPosition (e ∷ es) = ((n : ℕ) → position_after n e ≡ n) × LeavesPosition es
 
-leave_part : (xs ys : List (Event ℕ)) → Leave (xs ++ ys) → Leave xs
+-- Events that leave the position have beginnings that do.
+leave_part : (xs ys : List (Event ℕ)) → LeavesPosition (xs ++ ys) → LeavesPosition xs
 leave_part [] ys leave = tt
 leave_part (x ∷ xs) ys leave = (leave.0, leave_part xs ys leave.1)
 
-left_there : (n : ℕ) (xs : List (Event ℕ)) → Leave xs → fold position_after n xs ≡ n
+-- After events that leave the position it stands where it stood.
+left_there : (n : ℕ) (xs : List (Event ℕ)) → LeavesPosition xs → fold position_after n xs ≡ n
 left_there n [] leave = refl
 left_there n (x ∷ xs) leave = left_there (position_after n x) xs leave.1 ∙ leave.0 n
 
 -- at every moment since the call began, the bit of place 0 stands
 first_stood : (part rest : List (Event ℕ)) → skipping ≡ part ++ rest → BeginsNone 0 rest → standing 0 part ≡ 0 → ⊥
-first_stood [] rest is within clear = let none = subst (BeginsNone 0) (sym is) within in absurd (none.0 refl)
-first_stood (a ∷ part) rest is within clear =
+first_stood [] rest split within clear = let none = subst (BeginsNone 0) (sym split) within in absurd (none.0 refl)
+first_stood (a ∷ part) rest split within clear =
     let first : told.Set 1 0 ≡ a = cc in
     let here : standing 0 (told.Set 1 0 ∷ part) ≡ 0 = subst (λ (x : Event ℕ). standing 0 (x ∷ part) ≡ 0) (sym first) clear in
     let one : sets 0 (told.Set 1 0 ∷ part) ≡ 1 + sets 0 part =
     sum_by-cons (λ (e : Event ℕ). cond (is_set_of 0 e) 1 0) (told.Set 1 0) part in
     let all : clears 0 skipping ≡ clears 0 (a ∷ part) + clears 0 rest =
-    ap (clears 0) is ∙ sum_by-append (λ (e : Event ℕ). cond (is_clear_of 0 e) 1 0) (a ∷ part) rest in
+    ap (clears 0) split ∙ sum_by-append (λ (e : Event ℕ). cond (is_clear_of 0 e) 1 0) (a ∷ part) rest in
     let none : 0 ≡ clears 0 (told.Set 1 0 ∷ part) + clears 0 rest =
     subst (λ (x : Event ℕ). 0 ≡ clears 0 (x ∷ part) + clears 0 rest) (sym first) all in
     absurd (omega arith)
 
 not_next : (n : ℕ) → n ≡ n + 1 → ⊥
-not_next n e = absurd (omega arith)
+not_next n same = absurd (omega arith)
 
+-- A reset that has passed over a bit that stood is refused.
 skips : CameTo 0 2 1 skipping → ⊥
 skips came = go came.passed refl
   where
+    -- The search began at place 0, since none of the events moves the position.
     from : came.start ≡ 0
     from = grind (arith, at_most, left_there, leave_part)
 
@@ -339,13 +355,13 @@ count_after counting_set = go right.before right.is right.count
 
     -- the count at the moment before this one is not what the set answers
     go : (before : List (Event ℕ)) → Begun 0 (Bits (Set 1)) ∷ Counted 0 1 ∷ [] ≡ before ++ Counted 0 1 ∷ [] → 1 ≡ count_at 1 before → ⊥
-    go [] is e = cc
-    go (a ∷ []) is e =
+    go [] split counts_one = cc
+    go (a ∷ []) split counts_one =
         let same : Begun 0 (Bits (Set 1)) ≡ a = cc in
-        let none = subst (λ (x : Event ℕ). 1 ≡ count_at 1 (x ∷ [])) (sym same) e in
+        let none = subst (λ (x : Event ℕ). 1 ≡ count_at 1 (x ∷ [])) (sym same) counts_one in
         cc
-    go (a ∷ b ∷ []) is e = cc
-    go (a ∷ b ∷ c ∷ bs) is e = cc
+    go (a ∷ b ∷ []) split counts_one = cc
+    go (a ∷ b ∷ c ∷ bs) split counts_one = cc
 
 -- nothing is taken out of a count of 0
 taken_of_nothing : counts_stand {T = ℕ} (TakenOut 0 1 0) (Open (Bits ResetAll) []) → ⊥

@@ -42,6 +42,7 @@ update_state = Container UpdateState
 abbrev is_locked : Start ℕ
 is_locked = Container IsLocked
 
+-- A container of this capacity, with two parties and values of two words, after these turns.
 abbrev ran_on : ℕ → List (Turn ℕ) → Trace ℕ
 ran_on capacity turns = ran two_words kinds.Container capacity 2 turns
 
@@ -50,11 +51,13 @@ abbrev shown_to : Option (ContainerState ℕ) → ℕ → Option ℕ
 shown_to None i = None
 shown_to (Some state) i = shows state i
 
+-- What the state of the party shows at an index.
 abbrev shown_in : Trace ℕ → ℕ → ℕ → Option ℕ
 shown_in t p i = shown_to (state_in t.world.kept p) i
 
 -- ---- the opening: the counter, the cells, the changes, the numbers, and two words an element
 
+-- At the opening, a container of two indices with values of two words has these words.
 pub opening_of_two : (ran_on 2 []).world.words
     ≡ 0 ∷ (2 ^ 64 - 1) ∷ (2 ^ 64 - 1) ∷ 0 ∷ 0 ∷ 0 ∷ 0 ∷ 0 ∷ 0 ∷ 0 ∷ []
 opening_of_two = refl
@@ -90,6 +93,7 @@ pub half_written_events : (ran_on 1 half_written).events
     ∷ []
 half_written_events = refl
 
+-- The state of party 1 shows the value of the second add, not the half-written one.
 pub half_written_shows : shown_in (ran_on 1 half_written) 1 0 ≡ Some 7
 half_written_shows = refl
 
@@ -103,6 +107,7 @@ dead_adds_nothing = refl
 
 -- ---- a remove that stops after its release: its value can still be seen
 
+-- Party 0 adds a value and has freed its index in a remove, party 1 copies it, and the remove hides it.
 abbrev seen_late : List (Turn ℕ)
 seen_late =
     begins 0 (add 5 1) 9
@@ -127,6 +132,7 @@ seen_late_events = refl
 
 -- ---- a replace, and a state that is brought up to date
 
+-- Party 1 copies a value, party 0 replaces it, and party 1 brings its state up to date.
 abbrev replaced : List (Turn ℕ)
 replaced =
     begins 0 (add 5 1) 9
@@ -153,6 +159,7 @@ pub replaced_events : (ran_on 1 replaced).events
     ∷ []
 replaced_events = refl
 
+-- The state of party 1 shows the new value.
 pub replaced_shows : shown_in (ran_on 1 replaced) 1 0 ≡ Some 6
 replaced_shows = refl
 
@@ -178,6 +185,7 @@ pub half_replaced_update : (ran_on 1 (half_replaced ++ begins 1 update_state 1))
     ∷ []
 half_replaced_update = refl
 
+-- The state of party 1 still shows the value 5, which stood before the replace.
 pub half_replaced_shows : shown_in (ran_on 1 (half_replaced ++ begins 1 update_state 1)) 1 0 ≡ Some 5
 half_replaced_shows = refl
 
@@ -204,6 +212,7 @@ half_replaced_state = refl
 
 -- ---- whole calls: a new state, an update without a change, and one after a remove
 
+-- Party 0 adds a value, copies a new state, and then brings the state up to date.
 abbrev looked : List (Turn ℕ)
 looked = begins 0 (add 1234567 8192) 9 ++ (begins 0 get_state 6 ++ begins 0 update_state 1)
 
@@ -222,9 +231,11 @@ pub looked_events : (ran_on 2 looked).events
     ∷ []
 looked_events = refl
 
+-- The state shows the value at index 0, and none at index 1.
 pub looked_shows : (shown_in (ran_on 2 looked) 0 0 ≡ Some 1234567) × (shown_in (ran_on 2 looked) 0 1 ≡ None)
 looked_shows = (refl, refl)
 
+-- After `looked` the value is removed, and the state is brought up to date once more.
 abbrev looked_again : List (Turn ℕ)
 looked_again = looked ++ (begins 0 (remove 0 8192 Default) 6 ++ begins 0 update_state 3)
 
@@ -249,18 +260,21 @@ pub looked_again_events : (ran_on 2 looked_again).events
     ∷ []
 looked_again_events = refl
 
+-- The state shows no value at index 0.
 pub looked_again_shows : shown_in (ran_on 2 looked_again) 0 0 ≡ None
 looked_again_shows = refl
 
--- another call of the party leaves its state, and so does a look of another party
+-- A call of the party that is no look leaves its state as it was, and so does a look of another party.
 abbrev looked_on : List (Turn ℕ)
 looked_on =
     begins 0 (add 5 1) 9
     ++ (begins 1 get_state 5 ++ (begins 1 is_locked 1 ++ begins 0 get_state 5))
 
+-- The state of party 1 still shows the value 5.
 pub looked_on_shows : shown_in (ran_on 1 looked_on) 1 0 ≡ Some 5
 looked_on_shows = refl
 
+-- A begin of `IsLocked` is no look: the call copies no state.
 pub looked_on_is_no_look : is_look_of (ran_on 1 looked_on).world 1 (Begin 1 is_locked) ≡ false
 looked_on_is_no_look = refl
 
@@ -299,12 +313,15 @@ pub asked_events : (ran_on 2 asked).events
     ∷ []
 asked_events = refl
 
+-- A find of owner 1 has come to its question about the value 5.
 abbrev question : List (Turn ℕ)
 question = begins 0 (add 5 1) 9 ++ begins 1 (find 1) 5
 
+-- The find has put its question, so it takes no step before the decision.
 pub question_is_due : refusal_of (ran_on 1 question).world (Next 1) ≡ Some Undecided
 question_is_due = refl
 
+-- The find asks about the value 5 at index 0.
 pub question_is : question_at (ran_on 1 question) 1 ≡ Some (0, 5)
 question_is = refl
 
@@ -324,12 +341,13 @@ question_answered = refl
 -- ---- turns of a find and of a recovery that the definitions refuse
 
 same_is_more : (n : ℕ) → n ≡ n + 1 → ⊥
-same_is_more n e = absurd (omega arith)
+same_is_more n same = absurd (omega arith)
 
 -- a find that a no does not end
 pub no_deaf_find : FindsUpTo (ran_on 1 question) (Decide 1 false) (ran_on 1 question) → ⊥
 no_deaf_find found = same_is_more 7 (ap length (found 1 1 refl (refl, tt)).ends)
 
+-- A find of owner 1 is about to check that the value was copied whole.
 abbrev copying : Trace ℕ
 copying = ran_on 1 (begins 0 (add 5 1) 9 ++ begins 1 (find 1) 4)
 
@@ -337,6 +355,7 @@ copying = ran_on 1 (begins 0 (add 5 1) 9 ++ begins 1 (find 1) 4)
 pub no_silent_find : WritesRight copying (Next 1) copying (Copied 1 0 5) → ⊥
 no_silent_find writes_right = let asks = writes_right.1 in absurd (cc)
 
+-- A recovery of owner 1, who is dead, has come to its question.
 abbrev asking : Trace ℕ
 asking = ran_on 1 (begins 0 (add 5 1) 9 ++ Die 1 ∷ begins 1 (recover 1) 6)
 
@@ -350,21 +369,27 @@ no_late_told writes_right = absurd (cc)
 
 -- ---- refusals, and what is none
 
+-- No add begins for a dead owner.
 pub dead_begins_nothing : refusal_of (ran_on 1 (Die 7 ∷ [])).world (Begin 0 (add 5 7)) ≡ Some OwnerIsDead
 dead_begins_nothing = refl
 
+-- No remove begins for a dead owner, whatever its index.
 pub dead_removes_nothing : refusal_of (ran_on 1 (Die 7 ∷ [])).world (Begin 0 (remove 9 7 Default)) ≡ Some OwnerIsDead
 dead_removes_nothing = refl
 
+-- No replace begins for a dead owner, whatever its index.
 pub dead_replaces_nothing : refusal_of (ran_on 1 (Die 7 ∷ [])).world (Begin 0 (replace 9 5 7)) ≡ Some OwnerIsDead
 dead_replaces_nothing = refl
 
+-- No recovery of a living owner begins.
 pub living_is_not_recovered : refusal_of (ran_on 1 []).world (Begin 0 (recover 7)) ≡ Some OwnerLives
 living_is_not_recovered = refl
 
+-- A find of a dead owner's values may begin.
 pub dead_is_found : refusal_of (ran_on 1 (Die 7 ∷ [])).world (Begin 0 (find 7)) ≡ None
 dead_is_found = refl
 
+-- The number 2 ^ 64 - 1 marks a free cell, so no call names it as an owner.
 pub greatest_is_no_owner : refusal_of (ran_on 1 []).world (Begin 0 (add 5 (2 ^ 64 - 1))) ≡ Some WrongCall
 greatest_is_no_owner = refl
 
@@ -372,33 +397,39 @@ greatest_is_no_owner = refl
 abbrev past_the_end : List (Turn ℕ)
 past_the_end = begins 0 (remove (2 ^ 40) 7 Default) 1
 
+-- A remove of an index past the capacity is answered that the handle is not owned, and does nothing else.
 pub past_the_end_events : (ran_on 1 past_the_end).events
     ≡ Begun 0 (remove (2 ^ 40) 7 Default)
     ∷ Finished 0 (remove (2 ^ 40) 7 Default) (NotRemoved ContainerHandleNotOwnedByContainer)
     ∷ []
 past_the_end_events = refl
 
+-- The remove of an index past the capacity has taken no step.
 pub past_the_end_counts : progress_in (ran_on 1 past_the_end).world 0
     ≡ Some (record { steps = 0; backs = 0; others = 0; finished = true })
 past_the_end_counts = refl
 
 -- ---- counts: a copy that a remove and an add turn back
 
+-- A look has begun to copy index 0 when its value is removed and another one is added there.
 abbrev copies_again : List (Turn ℕ)
 copies_again =
     begins 0 (add 5 1) 9
     ++ (begins 1 get_state 4
     ++ (begins 0 (remove 0 1 Default) 6 ++ (begins 0 (add 6 1) 9 ++ nexts 1 4)))
 
+-- The look has taken 8 steps and begun a copy once again, while others changed words 9 times.
 pub copies_again_counts : progress_in (ran_on 1 copies_again).world 1
     ≡ Some (record { steps = 8; backs = 1; others = 9; finished = true })
 copies_again_counts = refl
 
+-- The state of party 1 shows the value of the second add.
 pub copies_again_shows : shown_in (ran_on 1 copies_again) 1 0 ≡ Some 6
 copies_again_shows = refl
 
 -- ---- what the definitions refuse
 
+-- Index 0 is filled for owner 7, granted to it, and has the value 5.
 abbrev stands : List (Event ℕ)
 stands = Filled 1 0 7 ∷ Granted 1 0 7 ∷ Placed 1 0 5 ∷ []
 

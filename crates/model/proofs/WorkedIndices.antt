@@ -24,6 +24,7 @@ release index = Indices (Release index Default)
 abbrev release_or_lock : ℕ → Start ℕ
 release_or_lock index = Indices (Release index LockIfLastIndex)
 
+-- A unique index set of this capacity as it opens.
 abbrev opened : ℕ → Trace ℕ
 opened capacity = opening one_word kinds.Indices capacity 2
 
@@ -54,7 +55,7 @@ falls_back =
     ∷ Next 1
     ∷ []
 
--- the events of these turns
+-- The events of `turns`.
 abbrev told : List (Event ℕ)
 told =
     Begun 0 acquire
@@ -71,6 +72,7 @@ told =
     ∷ Finished 1 acquire (Index 0)
     ∷ []
 
+-- The events that the machine writes in `falls_back` are those of `told`.
 pub falls_back_events : (run falls_back (opened 2)).events ≡ told
 falls_back_events = refl
 
@@ -79,16 +81,20 @@ falls_back_events = refl
 pub falls_back_words : (run falls_back (opened 2)).world.words ≡ (2 * 2 ^ 40 + 3 * 2 ^ 24 + 2) ∷ 1 ∷ 2 ∷ 3 ∷ []
 falls_back_words = refl
 
+-- The release has taken 5 steps, while others changed words twice.
 pub falls_back_counts : progress_in (run falls_back (opened 2)).world 0
     ≡ Some (record { steps = 5; backs = 0; others = 2; finished = true })
 falls_back_counts = refl
 
+-- The registry says that party 1 holds both indices.
 pub falls_back_kept : (run falls_back (opened 2)).world.kept ≡ registries.Indices (Some 1 ∷ Some 1 ∷ [])
 falls_back_kept = refl
 
+-- By the events, too, party 1 holds both indices, and index 2, which does not exist, is held by none.
 pub falls_back_holders : (holder_of 0 told ≡ Some 1) × (holder_of 1 told ≡ Some 1) × (holder_of 2 told ≡ None)
 falls_back_holders = (refl, refl, refl)
 
+-- Two indices are held, none is being acquired, and none is being released.
 pub falls_back_tally : tally_of told ≡ record { held = 2; taking = 0; giving = 0 }
 falls_back_tally = refl
 
@@ -135,23 +141,29 @@ locks_events = refl
 
 -- ---- words and refusals
 
+-- A set of 100 indices has 103 words: the head, 100 next indices, and their flags in two words.
 pub words_of_100 : length (opened 100).world.words ≡ 103
 words_of_100 = refl
 
+-- An index that nobody holds is not released.
 pub not_held : refusal_of (opened 2).world (Begin 0 (release 0)) ≡ Some NotHeld
 not_held = refl
 
+-- An index that another party holds is not released by party 0.
 pub not_held_by_it : refusal_of (run falls_back (opened 2)).world (Begin 0 (release 0)) ≡ Some NotHeld
 not_held_by_it = refl
 
+-- Index 2 of a set of two indices is not released.
 pub past_the_capacity : refusal_of (opened 2).world (Begin 0 (release 2)) ≡ Some BadIndex
 past_the_capacity = refl
 
+-- A queue has no call `Acquire` of an index.
 pub no_call_of_a_queue : refusal_of (opening {T = ℕ} one_word kinds.Queue 2 2).world (Begin 0 acquire) ≡ Some WrongCall
 no_call_of_a_queue = refl
 
 -- ---- what they refuse
 
+-- Party 0 has claimed index 1.
 abbrev held : List (Event ℕ)
 held = Claimed 0 1 ∷ []
 
@@ -173,10 +185,12 @@ no_missed_lock : AnswersRight 1 (Claimed 0 0 ∷ Begun 0 (release_or_lock 0) ∷
     → ⊥
 no_missed_lock = omega arith
 
+-- The indices that a call has freed.
 abbrev freed_in : Option SetActs → List ℕ
 freed_in None = []
 freed_in (Some d) = d.freed
 
+-- The first index that a call has claimed, or 0.
 abbrev claimed_in : Option SetActs → ℕ
 claimed_in None = 0
 claimed_in (Some d) = get_or d.claimed 0 0

@@ -27,9 +27,11 @@ called place p start response = record { place = place; party = p; start = start
 abbrev entry : Call ℕ → Answer ℕ → Call ℕ × Answer ℕ
 entry call answer = (call, answer)
 
+-- A call of the order was invoked in the history, and is a push or a pop.
 abbrev Invoked : List (Event ℕ) → Call ℕ × Answer ℕ → Type 0
 Invoked history x = (is_push_or_pop x.0.start ≡ true) × Contains (calls_of history) x.0
 
+-- The sequential history has the call with its answer, if it has responded and is a push or a pop.
 abbrev Completed : List (Call ℕ × Answer ℕ) → Call ℕ → Type 0
 Completed sequential call =
     IfSome call.response
@@ -43,6 +45,7 @@ no_less = omega arith
 
 -- ---- a pop runs inside a push and finds nothing: it stands before the push, which was invoked first
 
+-- A pop answers None within a push that answers true.
 abbrev overlapping : List (Event ℕ)
 overlapping = Begun 0 push ∷ Begun 1 pop ∷ Finished 1 pop PoppedNone ∷ Finished 0 push (Truth true) ∷ []
 
@@ -74,6 +77,7 @@ pop_inside_push =
 
 -- ---- a pop answers the value of a push that is pending: the push has an answer that it may yet give
 
+-- A pop answers the value of a push that is still pending.
 abbrev pending : List (Event ℕ)
 pending = Begun 0 push ∷ Begun 1 pop ∷ Finished 1 pop (PoppedIndex 5) ∷ []
 
@@ -102,6 +106,7 @@ pop_of_pending_push =
 
 -- ---- a pop that begins after the push has ended, and finds nothing
 
+-- A push ends with true, and a pop that begins after it answers None.
 abbrev too_late : List (Event ℕ)
 too_late = Begun 0 push ∷ Finished 0 push (Truth true) ∷ Begun 1 pop ∷ Finished 1 pop PoppedNone ∷ []
 
@@ -138,18 +143,19 @@ refuted (x ∷ y ∷ []) legal invoked first second once real_time =
     (λ is. ⊎_elim (λ front. swapped front is) (λ too. apart (ap (λ (x : Call ℕ × Answer ℕ). x.0) (sym is ∙ too))) (either x y (entry popped PoppedNone) second))
     (either x y (entry pushed (Truth true)) first)
   where
+    -- The order in which the pop comes after the push is not legal, since the pop answers None.
     in_turn : x ≡ entry pushed (Truth true) → y ≡ entry popped PoppedNone → ⊥
-    in_turn e f =
+    in_turn first_is second_is =
         not_legal
-        (subst (λ x. Legal (x ∷ entry popped PoppedNone ∷ [])) e (subst (λ y. Legal (x ∷ y ∷ [])) f legal))
+        (subst (λ x. Legal (x ∷ entry popped PoppedNone ∷ [])) first_is (subst (λ y. Legal (x ∷ y ∷ [])) second_is legal))
 
     -- the pop cannot come first, since the push had ended before it began
     swapped : x ≡ entry popped PoppedNone → y ≡ entry pushed (Truth true) → ⊥
-    swapped e f =
+    swapped first_is second_is =
         let never = real_time 0 1 x (omega arith) (omega arith) in
         let before : 1 < 2 = omega arith in
         never
-        (subst (λ (x : Call ℕ × Answer ℕ). Precedes y.0 x.0) (sym e) (subst (λ (y : Call ℕ × Answer ℕ). Precedes y.0 popped) (sym f) before))
+        (subst (λ (x : Call ℕ × Answer ℕ). Precedes y.0 x.0) (sym first_is) (subst (λ (y : Call ℕ × Answer ℕ). Precedes y.0 popped) (sym second_is) before))
 refuted (x ∷ y ∷ z ∷ rest) legal invoked first second once real_time =
     three_of_two pushed popped x.0 y.0 z.0
     (either pushed popped x.0 (invoked 0 x (omega arith)).1)

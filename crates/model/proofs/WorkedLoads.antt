@@ -14,18 +14,19 @@ use Rattle.model.proofs.WorkedLockFree.{from, full, one_word_codes, all_allowed,
 use Rattle.model.specs.Loads.{EndsLoad, begins_in, pending, load}
 use Rattle.model.specs.Fair.{own_steps}
 
+-- The load of a number of calls, by a bound at these numbers, if there is one.
 abbrev at : Option Bound → ℕ → ℕ → ℕ → ℕ → Option ℕ
 at None n capacity size calls = None
 at (Some bound) n capacity size calls = Some (load (bound n capacity size) calls)
 
--- of two parties that have a call each, and begin no other
+-- The loads of two parties that have one call each under way and begin no other, by kind.
 two_calls : (at (lock_free_bound IndexQueue) 2 8 1 2 ≡ Some 22) × ((at (lock_free_bound Overflow) 2 8 1 2 ≡ Some 62)
     × ((at (lock_free_bound Queue) 2 8 4 2 ≡ Some 26) × ((at (lock_free_bound Atomic) 2 1 1 2 ≡ Some 14)
     × ((at (lock_free_bound Bits) 2 64 1 2 ≡ Some 530) × ((at (lock_free_bound Counts) 2 8 1 2 ≡ Some 30)
     × (at (lock_free_bound Indices) 2 8 1 2 ≡ Some 98))))))
 two_calls = (refl, (refl, (refl, (refl, (refl, (refl, refl))))))
 
--- this is the load of two parties and a thousand calls beside
+-- The load of two parties that have one call each under way and begin a thousand others.
 thousand : at (lock_free_bound IndexQueue) 2 8 1 1002 ≡ Some 11022
 thousand = refl
 
@@ -40,33 +41,41 @@ started =
     ++ (Begin 0 (starts.Queues (queues.PushIndex 7))
     ∷ Begin 1 (starts.Queues queues.Len) ∷ [])) (opening one_word IndexQueue 1 2)
 
+-- Both parties take four steps each.
 abbrev both : List (Turn ℕ)
 both = nexts 0 4 ++ nexts 1 4
 
+-- Before these steps two calls are under way.
 pending_before : pending 2 started.world ≡ 2
 pending_before = refl
 
+-- After these steps no call is under way.
 pending_after : pending 2 (after_turns started both).world ≡ 0
 pending_after = refl
 
+-- None of these turns begins a call.
 none_begins : begins_in both ≡ 0
 none_begins = refl
 
+-- Each of the eight turns takes a step.
 steps_taken : steps_in started both ≡ 8
 steps_taken = refl
 
+-- One call had ended before these turns, and three have ended after them.
 both_end : (ends started.events ≡ 1) × (ends (after_turns started both).events ≡ 3)
 both_end = (refl, refl)
 
--- each in four of its own
+-- Each party takes four steps of its own.
 own_four : (own_steps 0 started both ≡ 4) × (own_steps 1 started both ≡ 4)
 own_four = (refl, refl)
 
 -- ---- a load that is met: the push of one party on a full overflowing queue takes six steps
 
+-- The push takes six steps, which is the load of one call of one party.
 push_met : (steps_in (from Overflow 1 1 full) (nexts 0 6) ≡ 6) × (at (lock_free_bound Overflow) 1 1 1 1 ≡ Some 6)
 push_met = (refl, refl)
 
+-- After these six steps no call is under way.
 push_ends : pending 1 (after_turns (from Overflow 1 1 full) (nexts 0 6)).world ≡ 0
 push_ends = refl
 

@@ -23,16 +23,19 @@ abbrev may : Option Refusal → Bool
 may None = true
 may (Some refusal) = false
 
+-- Whether none of the turns is refused.
 abbrev are_taken : Trace ℕ → List (Turn ℕ) → Bool
 are_taken t [] = true
 are_taken t (turn ∷ turns) = may (call_refusal t.world turn) && are_taken (after_turn t turn) turns
 
+-- Whether the turn is of a party below n, as `IsBelow` says.
 abbrev is_below : ℕ → Turn ℕ → Bool
 is_below n (Begin p start) = nat_lt p n
 is_below n (Next p) = nat_lt p n
 is_below n (Decide p said) = nat_lt p n
 is_below n (Die owner) = true
 
+-- Whether each turn is of a party below n.
 abbrev are_below : ℕ → List (Turn ℕ) → Bool
 are_below n [] = true
 are_below n (turn ∷ turns) = is_below n turn && are_below n turns
@@ -42,9 +45,10 @@ may_is None may_true = refl
 may_is (Some refusal) may_true = absurd (cc)
 
 both : (a b : Bool) → (a && b) ≡ true → (a ≡ true) × (b ≡ true)
-both true b e = (refl, e)
-both false b e = absurd (cc)
+both true b both_true = (refl, both_true)
+both false b both_true = absurd (cc)
 
+-- If the test `are_taken` says that turns are taken, then none of them is refused.
 pub all_allowed : (t : Trace ℕ) (turns : List (Turn ℕ)) → are_taken t turns ≡ true → AreAllowedOn t turns
 all_allowed t [] are_taken_true = tt
 all_allowed t (turn ∷ turns) are_taken_true =
@@ -54,34 +58,40 @@ all_allowed t (turn ∷ turns) are_taken_true =
 low : (p n : ℕ) → nat_lt p n ≡ true → p < n
 low = grind (arith, nat_tests)
 
+-- If the test `is_below` says so of a turn, then it is of a party below n.
 one_below : (n : ℕ) (turn : Turn ℕ) → is_below n turn ≡ true → IsBelow n turn
 one_below n (Begin p start) is_below_true = low p n is_below_true
 one_below n (Next p) is_below_true = low p n is_below_true
 one_below n (Decide p said) is_below_true = low p n is_below_true
 one_below n (Die owner) is_below_true = tt
 
+-- If the test `are_below` says so of turns, then each is of a party below n.
 pub all_below : (n : ℕ) (turns : List (Turn ℕ)) → are_below n turns ≡ true → AllByRecursion (IsBelow n) turns
 all_below n [] are_below_true = tt
 all_below n (turn ∷ turns) are_below_true =
     let here = both (is_below n turn) (are_below n turns) are_below_true in
     (one_below n turn here.0, all_below n turns here.1)
 
--- ---- so many steps without an end leave no bound that is less
+-- ---- a run of n steps in which no call ends leaves no bound below n
 
 none_more : (before after ended : ℕ) → before ≡ ended → after ≡ ended → before < after → ⊥
-none_more before after ended was is less = absurd (omega arith)
+none_more before after ended was leads less = absurd (omega arith)
 
 more_steps : (most steps here : ℕ) → steps ≡ here → most < here → most < steps
 more_steps = omega arith
 
--- these turns take so many steps, and no call ends
+-- From the machine `t`, which turns reach, parties below n take these turns: `steps` steps in which no call
+-- ends (`ended` calls had ended before, and have after).
 record IsEndless (t : Trace ℕ) (kind : Kind) (c n steps ended : ℕ) (turns : List (Turn ℕ)) : Type 0 where
+  -- the machine: turns reach it, and its numbers
   pub reached : IsReachedOn t
   pub is : t.world.kind ≡ kind
   pub capacity : t.world.capacity ≡ c
   pub size : t.world.coding.size ≡ 1
+  -- the turns: none is refused, and all are of parties below n
   pub taken : are_taken t turns ≡ true
   pub below : are_below n turns ≡ true
+  -- the steps of these turns, and the calls that had ended before them and after
   pub many : steps_in t turns ≡ steps
   pub before : ends t.events ≡ ended
   pub after : ends (after_turns t turns).events ≡ ended

@@ -23,7 +23,7 @@ turns =
     ++ (begins 1 (Queues Peek) 2
     ++ (begins 0 (Queues (PushIndex 5)) 4 ++ (begins 1 (Queues Peek) 3 ++ (begins 1 (Queues Peek) 3 ++ begins 1 (Queues Pop) 4))))
 
--- the events of these turns: both peeks answer the value that the pop then takes
+-- The events of `turns`: both peeks answer the value that the pop then takes.
 abbrev told : List (Event ℕ)
 told =
     roles_told
@@ -43,10 +43,11 @@ told =
     ∷ Finished 1 (Queues Pop) (PoppedIndex 5)
     ∷ []
 
+-- The events that the machine writes in `turns` are those of `told`.
 pub looked : (ran one_word kinds.IndexQueue 1 2 turns).events ≡ told
 looked = refl
 
--- a value of two words is read in four steps
+-- A value of two words, which a peek reads in four steps.
 abbrev first : ℕ
 first = 18446744073709551618
 
@@ -95,7 +96,7 @@ version_turns =
     ++ (begins 1 (Atomic values.HasProducer) 1
     ++ (begins 0 (Atomic (values.Store first)) 4 ++ begins 1 (Atomic values.Version) 1)))
 
--- the events of these turns: the version before the store, and after it
+-- The events of `version_turns`: the version before the store, and after it.
 abbrev version_told : List (Event ℕ)
 version_told =
     Begun 1 (Atomic values.Version)
@@ -110,15 +111,18 @@ version_told =
     ∷ Begun 1 (Atomic values.Version)
     ∷ []
 
+-- The second look at the version answers 2, one more than the number of stores.
 pub version_looked : (ran two_words kinds.Atomic 1 2 version_turns).events
     ≡ version_told ++ Finished 1 (Atomic values.Version) (Number 2) ∷ []
 version_looked = refl
 
 -- ---- refusals of the machine
 
+-- An overflowing queue has no call `Peek`.
 pub no_peek_of_overflow : refusal_of (ran one_word kinds.Overflow 1 2 roles).world (Begin 1 (Queues Peek)) ≡ Some WrongCall
 no_peek_of_overflow = refl
 
+-- A party without the consumer's role may not peek.
 pub peek_without_role : refusal_of (ran one_word kinds.IndexQueue 1 2 roles).world (Begin 0 (Queues Peek)) ≡ Some NoRole
 peek_without_role = refl
 
@@ -128,17 +132,22 @@ peek_without_role = refl
 abbrev two_wait : List (Event ℕ)
 two_wait = Published 0 (Index 5) ∷ Published 0 (Index 7) ∷ Begun 1 (Queues Peek) ∷ []
 
+-- A peek that answers the newer of the two values that wait is refused.
 pub no_peek_of_newest : TellsLength 2 two_wait (Finished 1 (Queues Peek) (PoppedIndex 7)) → ⊥
 no_peek_of_newest = λ told. cc
 
+-- A peek that answers that no value waits, while two do, is refused.
 pub no_peek_of_none : TellsLength 2 two_wait (Finished 1 (Queues Peek) PoppedNone) → ⊥
 no_peek_of_none = λ told. cc
 
+-- Party 0 has the producer's role, and has begun to look whether somebody has it.
 abbrev held : List (Event ℕ)
 held = Finished 0 (Queues AcquireProducer) (Truth true) ∷ Begun 1 (Queues HasProducer) ∷ []
 
+-- Party 0 has the producer's role, and a look that answers false is refused.
 pub no_look_past_holder : GrantsRight held (Finished 1 (Queues HasProducer) (Truth false)) → ⊥
 no_look_past_holder = λ told. cc
 
+-- After a store the version is 2, and a look that answers 1 is refused.
 pub no_version_without_store : AnswersRight two_words version_told (Finished 1 (Atomic values.Version) (Number 1)) → ⊥
 no_version_without_store = λ told. cc

@@ -34,6 +34,7 @@ find owner = Robust (Find owner)
 abbrev recover : Start ℕ
 recover = Robust (Recover Default)
 
+-- A robust set of this capacity after these turns.
 abbrev ran_on : ℕ → List (Turn ℕ) → Trace ℕ
 ran_on capacity turns = ran one_word kinds.Robust capacity 2 turns
 
@@ -73,6 +74,7 @@ late_words = refl
 
 -- ---- a recovery: owner 1 has 0 and 2, and owner 2 has 1
 
+-- Owner 1 acquires indices 0 and 2, and owner 2 acquires index 1.
 abbrev three_filled : List (Turn ℕ)
 three_filled = begins 0 (acquire 1) 4 ++ (begins 0 (acquire 2) 5 ++ begins 0 (acquire 1) 6)
 
@@ -118,20 +120,25 @@ pub with_death_events : (ran_on 3 with_death).events
     ∷ []
 with_death_events = refl
 
+-- After the recovery only index 1 has an owner: the cells of 0 and 2 say that they are free.
 pub with_death_words : (ran_on 3 with_death).world.words ≡ 5 ∷ (2 ^ 64 - 1) ∷ 2 ∷ (2 ^ 64 - 1) ∷ []
 with_death_words = refl
 
+-- The registry says that owner 1 is dead.
 pub with_death_kept : (ran_on 3 with_death).world.kept ≡ registries.Owners (1 ∷ [])
 with_death_kept = refl
 
 -- without the death: a yes about a living owner is refused, and the question stays due
 
+-- Party 1 begins a recovery while all owners live, and comes to its question about index 0.
 abbrev without_death : List (Turn ℕ)
 without_death = three_filled ++ begins 1 recover 2
 
+-- The decision that owner 1 is dead is refused, since that owner lives.
 pub yes_is_refused : refusal_of (ran_on 3 without_death).world (Decide 1 true) ≡ Some OwnerLives
 yes_is_refused = refl
 
+-- The refused decision is none: the recovery still waits for one.
 pub question_is_due : refusal_of (ran_on 3 (without_death ++ Decide 1 true ∷ [])).world (Next 1) ≡ Some Undecided
 question_is_due = refl
 
@@ -146,38 +153,49 @@ goes_on_after_no = refl
 
 -- ---- refusals
 
+-- Index 1 of a set of one index is not released.
 pub past_the_capacity : refusal_of (ran_on 1 []).world (Begin 0 (release 1 7 Default)) ≡ Some BadIndex
 past_the_capacity = refl
 
+-- A release of a bad index by a dead owner is refused for the index.
 pub bad_index_first : refusal_of (ran_on 1 (Die 7 ∷ [])).world (Begin 0 (release 1 7 Default)) ≡ Some BadIndex
 bad_index_first = refl
 
+-- No acquire begins for a dead owner.
 pub dead_acquires_nothing : refusal_of (ran_on 1 (Die 7 ∷ [])).world (Begin 0 (acquire 7)) ≡ Some OwnerIsDead
 dead_acquires_nothing = refl
 
+-- An acquire that is under way takes no step once its owner is dead.
 pub dead_goes_on_nowhere : refusal_of (ran_on 1 (begins 0 (acquire 7) 2 ++ Die 7 ∷ [])).world (Next 0) ≡ Some OwnerIsDead
 dead_goes_on_nowhere = refl
 
+-- A find of a dead owner's indices may begin.
 pub dead_is_found : refusal_of (ran_on 1 (Die 7 ∷ [])).world (Begin 0 (find 7)) ≡ None
 dead_is_found = refl
 
+-- An owner who is dead does not die again.
 pub dead_dies_no_more : refusal_of (ran_on 1 (Die 9 ∷ Die 7 ∷ [])).world (Die 7) ≡ Some OwnerIsDead
 dead_dies_no_more = refl
 
+-- An owner who lives may die after two others.
 pub another_dies : refusal_of (ran_on 1 (Die 9 ∷ Die 7 ∷ [])).world (Die 8) ≡ None
 another_dies = refl
 
+-- A bit set has no owners, so none dies.
 pub no_owner_of_bits : refusal_of (opening {T = ℕ} one_word kinds.Bits 2 2).world (Die 7) ≡ Some WrongCall
 no_owner_of_bits = refl
 
+-- The number 2 ^ 64 - 1 marks a free cell, so no call names it as an owner.
 pub greatest_is_no_owner : refusal_of (ran_on 1 []).world (Begin 0 (acquire (2 ^ 64 - 1))) ≡ Some WrongCall
 greatest_is_no_owner = refl
 
 -- ---- counts: a borrowed_indices that another party's raise turns back
 
+-- Party 0 counts the borrowed indices, and after its first two steps party 1 acquires one.
 abbrev turns_back : List (Turn ℕ)
 turns_back = begins 0 (Robust BorrowedIndices) 2 ++ (begins 1 (acquire 7) 4 ++ nexts 0 4)
 
+-- The count has taken 6 steps and begun again once, while the acquire changed words twice.
 pub turns_back_counts : progress_in (ran_on 1 turns_back).world 0 ≡ Some (record { steps = 6; backs = 1; others = 2; finished = true })
 turns_back_counts = refl
 
@@ -186,6 +204,7 @@ turns_back_words = refl
 
 -- ---- what they refuse
 
+-- Owner 7 fills index 0, and was granted it.
 abbrev held : List (Event ℕ)
 held = Filled 1 0 7 ∷ Granted 1 0 7 ∷ []
 
@@ -215,9 +234,9 @@ no_grant_once_locked unlocked = cc
 
 -- a recovery that frees before a yes
 untold : (before : List SetAct) → Asks 0 7 ∷ [] ≡ before ++ Yes 0 7 ∷ [] → ⊥
-untold [] e = cc
-untold (a ∷ []) e = cc
-untold (a ∷ b ∷ bs) e = cc
+untold [] split = cc
+untold (a ∷ []) split = cc
+untold (a ∷ b ∷ bs) split = cc
 
 frees_untold : may_stand {T = ℕ} (FreedOf 0 0 7) (Open recover (Asked 0 0 7 ∷ [])) → ⊥
 frees_untold latest = untold latest.before latest.is
@@ -238,10 +257,10 @@ abbrev passed : List (Event ℕ)
 passed = Filled 1 0 7 ∷ Begun 0 recover ∷ []
 
 begun_once : (start : Start ℕ) (rest : List (Event ℕ)) → Filled 1 0 7 ∷ Begun 0 start ∷ [] ≡ rest → BeginsNone 0 rest → ⊥
-begun_once start rest is within = (subst (BeginsNone 0) (sym is) within).0 refl
+begun_once start rest same_rest within = (subst (BeginsNone 0) (sym same_rest) within).0 refl
 
 begun_then : (start : Start ℕ) (rest : List (Event ℕ)) → Begun 0 start ∷ [] ≡ rest → BeginsNone 0 rest → ⊥
-begun_then start rest is within = (subst (BeginsNone 0) (sym is) within).0 refl
+begun_then start rest same_rest within = (subst (BeginsNone 0) (sym same_rest) within).0 refl
 
 -- at every moment since the call began, index 0 is filled by owner 7
 stays_filled : (start : Start ℕ) → HeldThroughout 0 (IsFilledWith 7 0) (Filled 1 0 7 ∷ Begun 0 start ∷ [])
@@ -257,9 +276,10 @@ stays_filled start (a ∷ b ∷ []) rest is within =
 stays_filled start (a ∷ b ∷ c ∷ cs) rest is within = absurd (cc)
 
 not_asked : (before after : List SetAct) → [] ≡ before ++ Asks 0 7 ∷ after → ⊥
-not_asked [] after e = cc
-not_asked (a ∷ bs) after e = cc
+not_asked [] after split = cc
+not_asked (a ∷ bs) after split = cc
 
+-- A recovery that has passed over an index which its owner filled throughout has not recovered right.
 passes_over : HasRecovered 0 passed → ⊥
 passes_over done =
     let asked = done.asked 0 7 (λ part rest is within. inl (stays_filled recover part rest is within)) in
@@ -277,6 +297,7 @@ abbrev FillsNot : ℕ → List (Event ℕ) → Type 0
 FillsNot i [] = Unit {0}
 FillsNot i (e ∷ es) = (filled_after i None e ≡ None) × FillsNot i es
 
+-- An index that no event fills is empty at each moment.
 stays_empty : (i : ℕ) (part rest : List (Event ℕ)) → FillsNot i (part ++ rest) → filled_of i part ≡ None
 stays_empty i [] rest none = refl
 stays_empty i (e ∷ es) rest none =
@@ -285,6 +306,7 @@ stays_empty i (e ∷ es) rest none =
 never_filled : (p i : ℕ) (told : List (Event ℕ)) → FillsNot i told → HeldSometime p (IsFilled i) told → ⊥
 never_filled = grind (arith, stays_empty)
 
+-- An acquire has begun.
 abbrev alone : List (Event ℕ)
 alone = Begun 0 (acquire 7) ∷ []
 
@@ -293,8 +315,8 @@ no_empty_set : AnswersRight 1 alone (Finished 0 (acquire 7) (NoIndex failures.Ou
 no_empty_set right = never_filled 0 0 alone (refl, tt) (right.1 0 (omega arith))
 
 no_set_act : (one : SetAct) (before after : List SetAct) → [] ≡ before ++ one ∷ after → ⊥
-no_set_act one [] after e = cc
-no_set_act one (a ∷ bs) after e = cc
+no_set_act one [] after split = cc
+no_set_act one (a ∷ bs) after split = cc
 
 -- a release in mode LockIfLastIndex that answers Unlocked though nothing else is filled
 abbrev last_one : List (Event ℕ)
@@ -305,20 +327,20 @@ freed_all = grind (arith, false, ne_eqb)
 
 -- at no moment after the release freed its index was another one filled
 no_moment : (i : ℕ) (part rest : List (Event ℕ)) → last_one ≡ part ++ rest → IsOneOf (Frees 0 7) (set_acts_of 1 part) → IsFilled i part → ⊥
-no_moment i [] rest is one filled = cc
-no_moment i (a ∷ []) rest is one filled =
+no_moment i [] rest split one filled = cc
+no_moment i (a ∷ []) rest split one filled =
     let first : a ≡ Filled 1 0 7 = cc in
     let none = subst (λ x. IsOneOf (Frees 0 7) (set_acts_of 1 (x ∷ []))) first one in
     no_set_act (Frees 0 7) none.before none.after none.is
-no_moment i (a ∷ b ∷ []) rest is one filled =
+no_moment i (a ∷ b ∷ []) rest split one filled =
     let first : a ∷ b ∷ [] ≡ Filled 1 0 7 ∷ Begun 1 (release 0 7 LockIfLastIndex) ∷ [] = cc in
     let none = subst (λ x. IsOneOf (Frees 0 7) (set_acts_of 1 x)) first one in
     no_set_act (Frees 0 7) none.before none.after none.is
-no_moment i (a ∷ b ∷ c ∷ []) rest is one filled =
+no_moment i (a ∷ b ∷ c ∷ []) rest split one filled =
     let all : a ∷ b ∷ c ∷ [] ≡ last_one = cc in
     let still = subst (λ x. filled_of i x ≡ None) (sym all) (freed_all i) in
     cc
-no_moment i (a ∷ b ∷ c ∷ d ∷ ds) rest is one filled = cc
+no_moment i (a ∷ b ∷ c ∷ d ∷ ds) rest split one filled = cc
 
 never_locks : AnswersRight 1 last_one (Finished 1 (release 0 7 LockIfLastIndex) (State states.Unlocked)) → ⊥
 never_locks = grind (arith, no_moment)

@@ -10,9 +10,11 @@ use Rattle.model.specs.declared.turn.Kind.TheVariants as kinds
 use Rattle.model.specs.Families.Atomic.Promises.{value_of_zeros, value_in, ActsRight, IsValue}
 use Rattle.model.proofs.Runs.{two_words, nexts, begins, ran}
 
+-- A value whose two words are 1 and 2.
 abbrev first : ℕ
 first = 18446744073709551618
 
+-- A value whose two words are 3 and 4.
 abbrev second : ℕ
 second = 55340232221128654852
 
@@ -23,7 +25,7 @@ turns =
     ++ (begins 1 (Atomic Load) 2
     ++ (begins 0 (Atomic (Store first)) 4 ++ (begins 0 (Atomic (Store second)) 4 ++ nexts 1 5)))
 
--- the events of these turns: the load answers a value that was stored while it was under way
+-- The events of `turns`: the load answers a value that was stored while the load was under way.
 abbrev told : List (Event ℕ)
 told =
     Begun 0 (Atomic AcquireProducer)
@@ -39,20 +41,24 @@ told =
     ∷ Finished 1 (Atomic Load) (Loaded second)
     ∷ []
 
+-- The events that the machine writes in `turns` are those of `told`.
 pub stopped_load : (ran two_words kinds.Atomic 1 2 turns).events ≡ told
 stopped_load = refl
 
+-- After the two stores the version is 3, and the cells hold the second and the first value.
 pub stopped_load_words : (ran two_words kinds.Atomic 1 2 turns).world.words ≡ 3 ∷ 0 ∷ 3 ∷ 4 ∷ 1 ∷ 2 ∷ []
 stopped_load_words = refl
 
--- it turned back once
+-- The load has taken 7 steps and begun again once, while the stores changed words six times.
 pub stopped_load_counts : progress_in (ran two_words kinds.Atomic 1 2 turns).world 1
     ≡ Some (record { steps = 7; backs = 1; others = 6; finished = true })
 stopped_load_counts = refl
 
+-- The load answers the value of the second store, which acted before it.
 pub load_after_stores : IsLegal (value_of_zeros two_words) (moments told)
 load_after_stores = refl
 
+-- The value that stands after `told` is that of the second store.
 pub stands : value_in two_words told ≡ second
 stands = refl
 
@@ -72,8 +78,9 @@ word_of None = 9
 word_of (Some ask) = ask.word
 
 not_first : (n : ℕ) → 0 < n → n ≡ 0 → ⊥
-not_first n some e = absurd (omega arith)
+not_first n some is_zero = absurd (omega arith)
 
+-- A store does not act in a turn that stores a word of its value.
 pub no_early_store : (t : Trace ℕ)
     → ActsRight t (Some (record { word = 4; op = ops.Store 1 })) (λ q. q ≡ 0) (Acted 0 (Atomic (Store first)) (Truth true))
     → ⊥

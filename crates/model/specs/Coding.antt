@@ -8,7 +8,7 @@ pub record Coding (T : Type 0) : Type 0 where
   pub words_of : T → List ℕ
   pub value_of : List ℕ → T
 
--- the coding of values of so many words, that are written and read by these
+-- The coding of values of `size` words, given the function that writes a value and the one that reads it.
 abbrev pub coding_of : {T : Type 0} → ℕ → (T → List ℕ) → (List ℕ → T) → Coding T
 coding_of size words_of value_of =
     record { size = size; words_of = words_of; value_of = value_of }

@@ -1,4 +1,5 @@
--- A call ends whose party goes on taking steps, where so many calls begin at most.
+-- If only finitely many calls begin, a call ends whose party goes on taking steps: in rounds, and
+-- on a fair schedule.
 use Rattle.std.specs.Prelude.{◌≡◌, ◌⊎◌, ◌<◌, ◌≤◌, ℕ, zero, suc, ◌+◌, ◌==◌, None, List, [], ◌∷◌, ◌++◌, length, if◌then◌else◌}
 use Rattle.std.specs.List.{AllByRecursion}
 use Rattle.model.specs.declared.event.Start.{Start}
@@ -14,7 +15,8 @@ use Rattle.model.specs.Loads.{begin_in, begins_in, pending, load}
 module _ {T : Type 0} where
   -- ---- the steps of one party
 
-  -- the steps that a turn is of the party: 1 for its `Next` that asks for a word
+  -- The number of steps that the party takes in a turn: 1 if the turn is its `Next` and does an
+  -- operation on a word, else 0.
   abbrev pub own_step : ℕ → World T → Turn T → ℕ
   own_step p w (Next q) = if q == p then steps_of w (Next q) else 0
   own_step p w turn = 0
@@ -26,7 +28,7 @@ module _ {T : Type 0} where
 
   -- ---- rounds, each a list of turns
 
-  -- all turns of these rounds, in order
+  -- The turns of all rounds as one list, in order.
   abbrev pub turns_of : List (List (Turn T)) → List (Turn T)
   turns_of [] = []
   turns_of (round ∷ rounds) = round ++ turns_of rounds
@@ -54,15 +56,17 @@ module _ {T : Type 0} where
   begins_by turns zero = 0
   begins_by turns (suc k) = begins_by turns k + begin_in (turns k)
 
-  -- The schedule is fair to a party: after each moment there is one at which it takes a step, or has no call under way.
+  -- The schedule is fair to a party: after each moment there is one at which it takes a step, or
+  -- has no call under way. `at k` is such a moment, not before moment k.
   pub record IsFair (t : Trace T) (turns : ℕ → Turn T) (p : ℕ) : Type 0 where
     pub at : ℕ → ℕ
     pub later : (k : ℕ) → k ≤ at k
     pub goes : (k : ℕ) → (flight_in (moment t turns (at k)).world p ≡ None)
         ⊎ (own_step p (moment t turns (at k)).world (turns (at k)) ≡ 1)
 
--- In more rounds than the load of the calls that were under way and of those that begin, each party that takes a step
--- in each has ended its call.
+-- Let n parties take turns in rounds, more of them than the load (the steps that the calls under
+-- way and those that begin may take in all). Then a party that takes a step in each round has no
+-- call under way as one of the rounds begins.
 abbrev pub EndsInRounds : Type 0 → Kind → Bound → Type 0
 EndsInRounds T kind bound =
     (t : Trace T) → t.world.kind ≡ kind → IsReachedOn t → (n p : ℕ) (rounds : List (List (Turn T)))
@@ -71,7 +75,7 @@ EndsInRounds T kind bound =
     → load (bound n t.world.capacity t.world.coding.size) (pending n t.world + begins_in (turns_of rounds)) < length rounds
     → RestsInOne p t rounds
 
--- the same of runs in which `Such` holds for each call that begins
+-- `EndsInRounds` for runs in which `Such` holds for each call that begins, before and during the rounds.
 abbrev pub EndsInRoundsOf : (T : Type 0) → Kind → (Start T → Type 0) → Bound → Type 0
 EndsInRoundsOf T kind Such bound =
     (t : Trace T) → t.world.kind ≡ kind → (r : IsReachedOn t) → AllByRecursion (BeginsSuch Such) r.turns
@@ -82,7 +86,7 @@ EndsInRoundsOf T kind Such bound =
     → load (bound n t.world.capacity t.world.coding.size) (pending n t.world + begins_in (turns_of rounds)) < length rounds
     → RestsInOne p t rounds
 
--- The same of machines as they run, with all their parties.
+-- `EndsInRounds` for a machine as it runs, which has a number of parties and refuses turns past its last one.
 abbrev pub EndsInRoundsRuns : Type 0 → Kind → Bound → Type 0
 EndsInRoundsRuns T kind bound =
     (t : Trace T) → t.world.kind ≡ kind → IsReached t → (p : ℕ) (rounds : List (List (Turn T)))
@@ -92,8 +96,8 @@ EndsInRoundsRuns T kind bound =
     (pending t.world.parties t.world + begins_in (turns_of rounds)) < length rounds
     → RestsInOne p t rounds
 
--- Whatever endless schedule n parties follow in which at most so many calls begin: each party to which it is fair comes
--- to a moment at which it has no call under way.
+-- On whatever endless schedule of n parties on which at most `calls` calls begin: each party to which the
+-- schedule is fair comes to a moment at which it has no call under way.
 abbrev pub EndsIfFair : Type 0 → Kind → Bound → Type 0
 EndsIfFair T kind bound =
     (t : Trace T) → t.world.kind ≡ kind → IsReachedOn t → (n calls : ℕ) (turns : ℕ → Turn T)

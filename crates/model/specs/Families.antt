@@ -152,7 +152,8 @@ module _ {T : Type 0} where
   going_rows code kept None said = []
   going_rows code kept (Some flight) said = (going_of code flight).rows kept said
 
-  -- what a step of this party has to know of the others
+  -- What a step of this party has to know of other parties: the push or send, with its party and value,
+  -- that acts if this step moves the read position.
   abbrev pub beside_of : List ℕ → Registry T → List (ℕ × Party T) → ℕ → Option (ℕ × ℕ)
   beside_of words (registries.Queues roles) latest p =
       queue_steps.beside roles words latest p

@@ -7,12 +7,12 @@ use Rattle.model.specs.declared.event.Event.{Event}
 use Rattle.model.specs.declared.event.Event.TheVariants.{Begun, Finished}
 use Rattle.model.specs.Objects.{Object, IsLegal}
 
--- a response, with its place in the history
+-- The response of a call: its answer, and its place in the history.
 pub record Response (T : Type 0) : Type 0 where
   pub place : ℕ  -- where it stands in the history
   pub answer : Answer T
 
--- an invocation, and the response that it has got
+-- A call of a history: its invocation, and its response if it has got one.
 pub record Call (T : Type 0) : Type 0 where
   pub place : ℕ  -- where the invocation stands in the history
   pub party : ℕ
@@ -54,7 +54,7 @@ module _ {T : Type 0} where
   abbrev pub Precedes : Call T → Call T → Type 0
   Precedes x y = StandsBefore x.response y.place
 
--- a sequential object, and which calls are its own
+-- What a history is compared with: a sequential object, and which calls are calls of it.
 pub record Specification (T State : Type 0) : Type 0 where
   pub is_call : Start T → Bool
   pub object : Object T State
@@ -65,12 +65,18 @@ pub record Specification (T State : Type 0) : Type 0 where
 -- none is in it twice, and none comes before one that had responded as it was invoked.
 pub record IsLinearizable {T State : Type 0} (spec : Specification T State) (history : List (Event T))
     : Type 0 where
+  -- the calls in the sequential order, with their answers
   pub sequential : List (Call T × Answer T)
+  -- in this order the object gives these answers
   pub legal : IsLegal spec.object (map (λ x. (x.0.start, x.1)) sequential)
+  -- each is a call of the object that was invoked in the history
   pub invoked : All (λ x. (spec.is_call x.0.start ≡ true) × Contains (calls_of history) x.0) sequential
+  -- each completed call of the object is in the order, with its answer
   pub completed : All
       (λ call. IfSome call.response
       (λ response. spec.is_call call.start ≡ true → Contains sequential (call, response.answer)))
       (calls_of history)
+  -- no call is in the order twice
   pub once : AllPairs (λ x y. x.0 ≢ y.0) sequential
+  -- no call comes before one whose response precedes its invocation
   pub real_time : AllPairs (λ x y. ¬ Precedes y.0 x.0) sequential

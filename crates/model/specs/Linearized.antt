@@ -23,7 +23,8 @@ module _ {T : Type 0} where
   is_push_or_pop (starts.Queues Pop) = true
   is_push_or_pop other = false
 
-  -- the bounded list, or the overflowing one
+  -- The object as which pushes and pops are linearizable: the bounded list of this capacity, or for
+  -- the overflowing queue the list that overflows.
   abbrev pub as_list : QueueKind → ℕ → Specification T (List (Item T))
   as_list kind capacity = record { is_call = is_push_or_pop; object = list_of kind capacity }
 
@@ -33,11 +34,13 @@ module _ {T : Type 0} where
   is_store_or_load (starts.Atomic Load) = true
   is_store_or_load other = false
 
-  -- one value, at first the one that words of zeros make
+  -- The object as which stores and loads are linearizable: one value, which is at first the one
+  -- whose words are all 0.
   abbrev pub as_value : Coding T → Specification T T
   as_value code = record { is_call = is_store_or_load; object = value_of_zeros code }
 
-  -- pushes and pops are linearizable, and stores and loads; of the other kinds nothing is said
+  -- The calls of a run are linearizable: pushes and pops of a queue, stores and loads of the single
+  -- value. For the other kinds this says nothing.
   abbrev pub IsLinearized : Kind → Trace T → Type 0
   IsLinearized IndexQueue t =
       IsLinearizable (as_list queue_kinds.IndexQueue t.world.capacity) t.events

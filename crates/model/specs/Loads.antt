@@ -1,4 +1,5 @@
--- A finite load ends: where so many calls begin, so many steps are taken at most.
+-- A finite load ends: the steps of all parties together are bounded by the number of calls under
+-- way and begun.
 use Rattle.std.specs.Prelude.{◌≡◌, ◌≤◌, ℕ, zero, suc, ◌+◌, ◌*◌, is_some, List, [], ◌∷◌}
 use Rattle.std.specs.List.{AllByRecursion, sum_by}
 use Rattle.model.specs.declared.event.Event.{Event}
@@ -36,7 +37,8 @@ module _ {T : Type 0} where
   pending zero w = 0
   pending (suc n) w = pending n w + one_if (is_some (flight_in w n))
 
--- The steps that so many calls take at most: before each end at most the bound, and the one that ends it.
+-- The steps that this many calls take at most in all: for each of them the bound of steps before an
+-- end, and the step that ends it.
 abbrev pub load : (bound calls : ℕ) → ℕ
 load bound calls = calls * (bound + 1)
 
@@ -49,7 +51,7 @@ EndsLoad T kind bound =
     → steps_in t turns
     ≤ load (bound n t.world.capacity t.world.coding.size) (pending n t.world + begins_in turns)
 
--- the same of runs in which `Such` holds for each call that begins
+-- `EndsLoad` for runs in which `Such` holds for each call that begins, before and during these turns.
 abbrev pub EndsLoadOf : (T : Type 0) → Kind → (Start T → Type 0) → Bound → Type 0
 EndsLoadOf T kind Such bound =
     (t : Trace T) → t.world.kind ≡ kind → (r : IsReachedOn t) → AllByRecursion (BeginsSuch Such) r.turns
@@ -58,7 +60,7 @@ EndsLoadOf T kind Such bound =
     → steps_in t turns
     ≤ load (bound n t.world.capacity t.world.coding.size) (pending n t.world + begins_in turns)
 
--- The same of machines as they run, with all their parties.
+-- `EndsLoad` for a machine as it runs, with all its parties.
 abbrev pub EndsLoadRuns : Type 0 → Kind → Bound → Type 0
 EndsLoadRuns T kind bound =
     (t : Trace T) → t.world.kind ≡ kind → IsReached t → (turns : List (Turn T)) → AreAllowed t turns

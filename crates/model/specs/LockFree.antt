@@ -1,4 +1,5 @@
--- Lock-freedom, of lists of turns: where so many parties take turns, after so many steps one of their calls has ended.
+-- Lock-freedom, as a statement about lists of turns: whichever of n parties take turns, in more
+-- steps than a bound a call ends.
 use Rattle.std.specs.Prelude.{◌≡◌, ◌<◌, ◌≤◌, ℕ, ◌+◌, ◌-◌, ◌*◌, ◌^◌, max, Option, Some, None, List, [], ◌∷◌}
 use Rattle.std.specs.List.{AllByRecursion, sum_by}
 use Rattle.steps.specs.Bits.Words.{elements}
@@ -56,8 +57,9 @@ module _ {T : Type 0} where
 abbrev pub Bound : Type 0
 Bound = ℕ → ℕ → ℕ → ℕ
 
--- Wherever turns have led, and whatever turns n parties take from there, others having stopped: in more steps than the
--- bound says for n parties, the capacity and the words of a value, a call ends.
+-- Lock-freedom with a bound: from any state that turns reach, whatever turns n parties take while
+-- the others stand still, in more steps than the bound (for n parties, the capacity and the words
+-- of a value) a call ends.
 abbrev pub IsLockFree : Type 0 → Kind → Bound → Type 0
 IsLockFree T kind bound =
     (t : Trace T) → t.world.kind ≡ kind → IsReachedOn t → (n : ℕ) (turns : List (Turn T))
@@ -65,11 +67,12 @@ IsLockFree T kind bound =
     → bound n t.world.capacity t.world.coding.size < steps_in t turns
     → ends t.events < ends (after_turns t turns).events
 
--- where k calls more have ended, at most k + 1 times the bound and k steps were taken
+-- If k calls have ended between `before` and `after`, then at most (k + 1) * bound + k steps were taken.
 abbrev pub AreWithinEnds : ℕ → ℕ → (before after : ℕ) → Type 0
 AreWithinEnds bound steps before after = steps + before * (bound + 1) ≤ bound + after * (bound + 1)
 
--- It goes on so: from there calls end as often as the steps have that bound.
+-- Lock-freedom over a whole stretch of turns: of n parties' steps at most the bound are taken
+-- between two ends of calls, so k ends allow at most (k + 1) * bound + k steps.
 abbrev pub KeepsEnding : Type 0 → Kind → Bound → Type 0
 KeepsEnding T kind bound =
     (t : Trace T) → t.world.kind ≡ kind → IsReachedOn t → (n : ℕ) (turns : List (Turn T))
@@ -101,7 +104,7 @@ KeepsEndingOf T kind Such bound =
 
 -- ---- of machines as they run
 
--- The same of a machine as it runs: in more steps than the bound says for its parties a call ends.
+-- `IsLockFree` for a machine as it runs: in more steps than the bound for its number of parties, a call ends.
 abbrev pub HasLockFreeRuns : Type 0 → Kind → Bound → Type 0
 HasLockFreeRuns T kind bound =
     (t : Trace T) → t.world.kind ≡ kind → IsReached t → (turns : List (Turn T)) → AreAllowed t turns
@@ -110,13 +113,14 @@ HasLockFreeRuns T kind bound =
 
 -- ---- the bounds
 
--- How many steps n parties take at most before one of their calls ends, where each call takes at most `alone` steps
--- before its last one while no other call does what adds to them, and makes at most `changes` changes of a word that
--- can add to those of the others.
+-- How many steps n parties take at most before one of their calls ends. Each call takes at most `alone`
+-- steps before its last one, unless another call makes a change of a word that costs it up to `alone`
+-- steps more, and each call makes at most `changes` of those.
 abbrev pub stretch : (n changes alone : ℕ) → ℕ
 stretch n changes alone = n * changes * ((n - 1) * alone) + n * alone
 
--- The bound of a kind, where there is one. With no change that costs another party a step it is n times one number.
+-- The bound of lock-freedom of a kind, or None where this table has none. If no change of a call
+-- costs another party a step, the bound is n times one number.
 abbrev pub lock_free_bound : Kind → Option Bound
 lock_free_bound IndexQueue = Some (λ n capacity size. stretch n 0 5)
 lock_free_bound Overflow = Some (λ n capacity size. stretch n 2 5)

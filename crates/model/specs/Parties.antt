@@ -39,7 +39,8 @@ module _ {T : Type 0} where
   is_over (Going flight since) = false
   is_over (Over others) = true
 
-  -- how far the latest call has come, where words were changed so often
+  -- How far the latest call has come: its steps, its turns back, how many changes of words (of `changes`
+  -- in all) other parties made during it, and whether it has ended.
   abbrev pub progress_after : ℕ → Option (Party T) → Option Progress
   progress_after changes None = None
   progress_after changes (Some x) =

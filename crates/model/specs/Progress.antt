@@ -1,4 +1,4 @@
--- How calls progress, in the field's words, by the bounds that are promised. Steps are operations on words, as everywhere.
+-- Which calls are wait-free and which obstruction-free, with their constants. Steps are operations on words.
 use Rattle.std.specs.Prelude.{◌≡◌, ◌≤◌, ℕ, ◌+◌, ◌*◌, max, Option, Some, List}
 use Rattle.steps.specs.Bits.Words.{elements}
 use Rattle.steps.specs.declared.indices.enums.ReleaseMode.TheVariants.{LockIfLastIndex, Default}
@@ -38,7 +38,8 @@ use Rattle.model.specs.Reading.{Span, Open, Ended, span_of}
 use Rattle.model.specs.Turns.{words_after}
 use Rattle.model.specs.World.{Trace, progress_in}
 
--- a bound of a call's steps: at most so many, or at most so many alone and so many more for each retry
+-- A bound of a call's steps. Wait-free: at most `most`. Obstruction-free: at most `alone` without
+-- interference, and `retry` more for each turn back to the start of a loop.
 pub data Guarantee : Type 0 where
   WaitFree : (most : ℕ) → Guarantee
   ObstructionFree : (alone retry : ℕ) → Guarantee
@@ -46,12 +47,14 @@ pub data Guarantee : Type 0 where
 module _ {T : Type 0} where
   -- ---- what they say of a call, at this capacity, where a value has so many words
 
-  -- at most so many steps, whatever the other parties do: its retries do not count
+  -- The promised bound of the call is at most `most` however often it begins a loop again
+  -- (`backs`): other parties cannot delay it.
   abbrev pub IsWaitFree : Promise T → (capacity size : ℕ) → Start T → ℕ → Type 0
   IsWaitFree promise capacity size start most =
       (backs : ℕ) → promise.most_steps capacity size start backs ≤ most
 
-  -- at most so many steps alone, and so many more for each retry
+  -- The promised bound of the call is at most `alone` steps, and `retry` more for each time that it
+  -- begins a loop again.
   abbrev pub IsObstructionFree : Promise T → (capacity size : ℕ) → Start T → (alone retry : ℕ) → Type 0
   IsObstructionFree promise capacity size start alone retry =
       (backs : ℕ) → promise.most_steps capacity size start backs ≤ alone + backs * retry
@@ -110,7 +113,8 @@ module _ {T : Type 0} where
   of_value size (atomics.Store value) = WaitFree (2 + size)
   of_value size atomics.Load = ObstructionFree (2 + size) (1 + size)
 
--- the guarantee of each call of a bit set with this many places
+-- The guarantee of each call of a bit set with this many places. A bit set has no counts, so
+-- `Count` has the bound 0.
 abbrev pub of_bits : ℕ → BitsStart → Guarantee
 of_bits capacity (bits.Set bit) = ObstructionFree 2 1
 of_bits capacity bits.ResetNext = ObstructionFree (3 + capacity) 1
@@ -118,7 +122,8 @@ of_bits capacity bits.ResetAll = WaitFree (elements capacity)
 of_bits capacity (bits.IsSet bit) = WaitFree 1
 of_bits capacity (bits.Count place) = WaitFree 0
 
--- a counting bit set has no reset of the next one
+-- The guarantee of each call of a counting bit set with this many places. It has no reset of the
+-- next place and no look at a flag, so these have the bound 0.
 abbrev pub of_counts : ℕ → BitsStart → Guarantee
 of_counts capacity (bits.Set place) = WaitFree 1
 of_counts capacity bits.ResetNext = WaitFree 0
@@ -183,47 +188,48 @@ module _ {T : Type 0} where
   of_container capacity size containers.IsEmpty = ObstructionFree (capacity + 2) (capacity + 2)
   of_container capacity size containers.IsLocked = WaitFree 1
 
-  -- a call of another family takes no step, since none begins
+  -- The guarantee of any call on the machine of a queue. A call of another family takes no step,
+  -- since it cannot begin.
   abbrev pub in_queue : ℕ → QueueKind → Start T → Guarantee
   in_queue size kind (starts.Queues start) = of_queue size kind start
   in_queue size kind other = WaitFree 0
 
-  -- the guarantee of any call on the machine of a single value; a call of another family begins none
+  -- The guarantee of any call on the machine of a single value. A call of another family cannot begin.
   abbrev pub in_value : ℕ → Start T → Guarantee
   in_value size (starts.Atomic start) = of_value size start
   in_value size other = WaitFree 0
 
-  -- the guarantee of any call on the machine of a bit set; a call of another family begins none
+  -- The guarantee of any call on the machine of a bit set. A call of another family cannot begin.
   abbrev pub in_bits : ℕ → Start T → Guarantee
   in_bits capacity (starts.Bits start) = of_bits capacity start
   in_bits capacity other = WaitFree 0
 
-  -- the guarantee of any call on the machine of a counting bit set; a call of another family begins none
+  -- The guarantee of any call on the machine of a counting bit set. A call of another family cannot begin.
   abbrev pub in_counts : ℕ → Start T → Guarantee
   in_counts capacity (starts.Bits start) = of_counts capacity start
   in_counts capacity other = WaitFree 0
 
-  -- the guarantee of any call on the machine of a unique index set; a call of another family begins none
+  -- The guarantee of any call on the machine of a unique index set. A call of another family cannot begin.
   abbrev pub in_indices : ℕ → Start T → Guarantee
   in_indices capacity (starts.Indices start) = of_indices capacity start
   in_indices capacity other = WaitFree 0
 
-  -- the guarantee of any call on the machine of a robust set; a call of another family begins none
+  -- The guarantee of any call on the machine of a robust set. A call of another family cannot begin.
   abbrev pub in_robust : ℕ → Start T → Guarantee
   in_robust capacity (starts.Robust start) = of_robust capacity start
   in_robust capacity other = WaitFree 0
 
-  -- the guarantee of any call on the machine of a container; a call of another family begins none
+  -- The guarantee of any call on the machine of a container. A call of another family cannot begin.
   abbrev pub in_container : (capacity size : ℕ) → Start T → Guarantee
   in_container capacity size (starts.Container start) = of_container capacity size start
   in_container capacity size other = WaitFree 0
 
-  -- the guarantee of any call on the machine of a loan channel; a call of another family begins none
+  -- The guarantee of any call on the machine of a loan channel. A call of another family cannot begin.
   abbrev pub in_loan : ℕ → Start T → Guarantee
   in_loan slots (starts.Loan start) = of_loan slots start
   in_loan slots other = WaitFree 0
 
-  -- the guarantee of a kind's call, at this capacity, where a value has so many words
+  -- The guarantee of a call on a machine of this kind, capacity and number of words in a value (`size`).
   abbrev pub guarantee_of : Kind → (capacity size : ℕ) → Start T → Guarantee
   guarantee_of IndexQueue capacity size start = in_queue size queue_kinds.IndexQueue start
   guarantee_of Overflow capacity size start = in_queue size queue_kinds.Overflow start
@@ -236,7 +242,7 @@ module _ {T : Type 0} where
   guarantee_of Container capacity size start = in_container capacity size start
   guarantee_of Loan capacity size start = in_loan capacity start
 
--- the table is right by the promised bounds
+-- Each entry of the table `guarantee_of` follows from the bound of steps that the kind promises for the call.
 abbrev pub AreGuaranteed : Type 0 → Kind → Type 0
 AreGuaranteed T kind =
     (capacity size : ℕ) (start : Start T)
@@ -244,8 +250,9 @@ AreGuaranteed T kind =
 
 -- ---- what they say of a run
 
--- the steps that a call has taken are within its guarantee: one that is obstruction-free pays so many for each change
--- of a word that another party has made while it was under way
+-- The steps that a call has taken are within its guarantee. For one that is obstruction-free these are
+-- `alone` steps, and `retry` more for each change of a word that another party has made while the call
+-- was under way.
 abbrev pub IsWithin : Guarantee → Progress → Type 0
 IsWithin (WaitFree most) g = g.steps ≤ most
 IsWithin (ObstructionFree alone retry) g = g.steps ≤ alone + g.others * retry
@@ -257,7 +264,7 @@ module _ {T : Type 0} where
   LatestIsWithin guarantee (Ended start answer wrote) (Some g) = IsWithin (guarantee start) g
   LatestIsWithin guarantee span g = Unit {0}
 
-  -- each party's latest call, under way or done
+  -- Each party's latest call, under way or done, has taken no more steps than its guarantee allows.
   abbrev pub KeepsGuarantees : Trace T → Type 0
   KeepsGuarantees t =
       (p : ℕ)
@@ -280,7 +287,7 @@ module _ {T : Type 0} where
   Looks (flights.Bits (bits_flights.CountOf run)) = Unit {0}
   Looks flight = ⊥
 
-  -- the operation that the call asks for leaves the words as they are, whatever they are
+  -- The operation that the call asks for next leaves the words as they are, whatever they are.
   abbrev pub ChangesNothing : Coding T → Flight T → Type 0
   ChangesNothing code flight =
       (words : List ℕ) → words_after words (ask_of (want_of code flight)) ≡ words

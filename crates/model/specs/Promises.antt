@@ -24,20 +24,20 @@ module _ {T : Type 0} where
     pub word : WritesOneWord old.world turn new.world
     -- the party's call has begun or gone on
     pub call : GoesOn old.world turn new.world
-    -- its counts say so
+    -- The counts of the party's call have changed as its turn says.
     pub counts : CountsTurn old.world turn new.world
-    -- the counts of the other calls say so too
+    -- Each call of another party counts at most one change of a word's value.
     pub others : CountsOthers old.world turn new.world
     -- what the turn writes down
     pub events : WritesDown promise old turn new
-    -- what the structure says of the turn beside that
+    -- What the structure's own promise says of the turn.
     pub tells : promise.tells old turn new
 
   -- what the turn writes down, as its kind promises
   abbrev pub WritesEvents : Trace T → Turn T → Trace T → Type 0
   WritesEvents old turn new = WritesDown (promise_of old.world.kind) old turn new
 
-  -- what the kind tells of the turn beside that
+  -- What the machine's kind promises of the turn beside what every machine's turns do.
   abbrev pub TellsBeside : Trace T → Turn T → Trace T → Type 0
   TellsBeside old turn new = (promise_of old.world.kind).tells old turn new
 

@@ -1,4 +1,5 @@
--- How the events of a run are read.
+-- How the events of a run are read: which calls acted, whose an event is, and what a party's latest
+-- call has written (its span).
 use Rattle.std.specs.Prelude.{◌≡◌, ℕ, ◌==◌, Bool, false, Option, Some, None, List, [], ◌∷◌, ◌++◌, fold, if◌then◌else◌}
 use Rattle.std.specs.List.{flat_map}
 use Rattle.model.specs.declared.event.Start.{Start}
@@ -10,7 +11,7 @@ use Rattle.model.specs.declared.event.Event.TheVariants.{Placed, Hidden, Copied,
 use Rattle.model.specs.declared.event.Event.TheVariants.{Acted, Finished}
 
 module _ {T : Type 0} where
-  -- P holds of each event and of what stands before it
+  -- P holds of each event of the run, together with the events before it.
   abbrev pub Each : (List (Event T) → Event T → Type 0) → List (Event T) → Type 0
   Each P events =
       (before after : List (Event T)) (e : Event T) → events ≡ before ++ e ∷ after → P before e
@@ -22,7 +23,8 @@ module _ {T : Type 0} where
   acts (Acted p start answer) = (start, answer) ∷ []
   acts e = []
 
-  -- the calls that acted and their answers, in the order in which they acted
+  -- The calls that acted, with their answers, in the order in which they acted. Of a linearizable
+  -- structure these are the linearization points.
   abbrev pub moments : List (Event T) → List (Start T × Answer T)
   moments events = flat_map acts events
 

@@ -1,4 +1,5 @@
--- Which turns are refused.
+-- Which turns a machine refuses, and for which reason: tables of tests, of which the first that
+-- applies gives the refusal.
 use Rattle.std.specs.Prelude.{◌≡◌, ◌⊎◌, ℕ, ◌-◌, ◌^◌, Bool, false, not, Option, Some, None, is_some, is_none, List, ◌∷◌, nat_le}
 use Rattle.model.specs.declared.families.Flight.{Flight}
 use Rattle.model.specs.declared.turn.Turn.{Turn}
@@ -29,7 +30,8 @@ module _ {T : Type 0} where
   abbrev pub is_at_end : World T → Bool
   is_at_end w = nat_le (2 ^ 64 - 2) w.turns
 
-  -- what is tested of the call or the owner, in order: the family's rows come last
+  -- The tests of a turn that concern the call or the owner, in order, with the refusal for each.
+  -- Those of the family come last.
   abbrev pub call_rows : World T → Turn T → List (Bool × Refusal)
   call_rows w (Begin p start) =
       (is_some (flight_in w p), Busy) ∷ begin_rows w.kind w.capacity w.kept p start
@@ -45,7 +47,8 @@ module _ {T : Type 0} where
       ∷ going_rows w.coding w.kept (flight_in w p) (Some said)
   call_rows w (Die owner) = death_rows w.kept owner
 
-  -- what is tested of a turn, in order
+  -- All tests of a turn, in order: first whether the machine is at its last turn, then whether the
+  -- party exists, then those of the call or the owner.
   abbrev pub rows_of : World T → Turn T → List (Bool × Refusal)
   rows_of w (Begin p start) =
       (is_at_end w, AtEnd) ∷ (nat_le w.parties p, NoParty) ∷ call_rows w (Begin p start)
@@ -56,7 +59,7 @@ module _ {T : Type 0} where
   rows_of w (Die owner) =
       (is_at_end w, AtEnd) ∷ (lacks_party w.kept w.parties owner, NoParty) ∷ call_rows w (Die owner)
 
-  -- the refusal where neither turns nor parties have a bound
+  -- Why a turn is refused, or None, where neither the number of turns nor the parties' numbers have a bound.
   abbrev pub call_refusal : World T → Turn T → Option Refusal
   call_refusal w turn = first_row (call_rows w turn)
 

@@ -5,13 +5,13 @@ use Rattle.model.specs.declared.event.Event.{Event}
 use Rattle.model.specs.Reading.{Span, Never, Open, Ended}
 
 module _ {T : Type 0} where
-  -- the span is open for such a call, and P holds of what it has written
+  -- The party has a call under way of which `Such` holds, and P holds of what that call has written.
   abbrev pub IsOpen : (Start T → Type 0) → (List (Event T) → Type 0) → Span T → Type 0
   IsOpen Such P Never = ⊥
   IsOpen Such P (Open call wrote) = Such call × P wrote
   IsOpen Such P (Ended call answer wrote) = ⊥
 
-  -- a call that began so is under way, and P holds of what it has written
+  -- The party's call under way is `start`, and P holds of what that call has written.
   abbrev pub IsOpenFor : Start T → (List (Event T) → Type 0) → Span T → Type 0
   IsOpenFor start P span = IsOpen (λ call. call ≡ start) P span
 

@@ -7,7 +7,7 @@ use Rattle.model.specs.Parties.{party_of}
 use Rattle.model.specs.World.{World}
 
 module _ {T : Type 0} where
-  -- what a call counts of changes is at most all changes
+  -- A call counts at most as many changes of words as there were in all.
   abbrev pub HasSmallCount : ℕ → Doing T → Type 0
   HasSmallCount changes (Going flight since) = since ≤ changes
   HasSmallCount changes (Over others) = others ≤ changes

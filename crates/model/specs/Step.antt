@@ -24,7 +24,7 @@ pub record Going (F T : Type 0) : Type 0 where
 -- what a step of a call comes to
 pub record Step (F K T : Type 0) : Type 0 where
   pub after : After F (Answer T)  -- the call goes on, or it is done
-  pub back : Bool  -- whether it begins a turn of its loop again
+  pub back : Bool  -- whether it is a turn back: an exchange failed, after which a loop begins again or the call ends
   pub wrote : List (Event T)  -- what it did to the structure, and who acts there, in order
   pub kept : K  -- what the family keeps beside its words
 

@@ -25,12 +25,13 @@ use Rattle.model.specs.World.{World, Trace, opening, opened, capacity_error, que
 
 -- ---- one operation on one word
 
--- the old value of the asked word, and 0 where none is asked for
+-- The value, before the operation, of the word that the operation is on; 0 where there is no operation.
 abbrev pub old_of : List ℕ → Option Ask → ℕ
 old_of words None = 0
 old_of words (Some ask) = slice_index words ask.word
 
--- the words after an operation on one of them, or as they are where none is asked for
+-- The words of the structure after an operation on one of them; where there is no
+-- operation they are unchanged.
 abbrev pub words_after : List ℕ → Option Ask → List ℕ
 words_after words None = words
 words_after words (Some ask) =
@@ -44,17 +45,17 @@ change_of words (Some ask) =
     then 0
     else 1
 
--- the answer that stands for a decision
+-- A decision as the number that its call is handed: 1 for yes, 0 for no.
 abbrev pub number_of : Bool → ℕ
 number_of true = 1
 number_of false = 0
 
--- a call takes one step for each operation
+-- The steps that a turn counts: one if it does an operation on a word, else none.
 abbrev pub step_count : Option Ask → ℕ
 step_count None = 0
 step_count (Some ask) = 1
 
--- 1 where it is so, else 0
+-- A truth value as a number: 1 for true, 0 for false.
 abbrev pub one_if : Bool → ℕ
 one_if true = 1
 one_if false = 0
@@ -72,7 +73,8 @@ module _ {T : Type 0} where
   party_at_begin start flight changes =
       record { start = start; steps = 0; backs = 0; doing = Going flight changes }
 
-  -- the machine once the party has begun the call, if its kind has one
+  -- The machine once the party has begun the call, given the stage at which the call starts. Where
+  -- the kind has no such call, no stage is given, and the machine stays as it is.
   abbrev pub after_begin : World T → ℕ → Start T → Option (Flight T) → World T
   after_begin w p start None = w
   after_begin w p start (Some flight) =
@@ -84,13 +86,15 @@ module _ {T : Type 0} where
 
   -- ---- a call goes on
 
-  -- Where a party's latest call stands after a step:
-  -- it goes on, or is over, and others have changed words so often meanwhile.
+  -- Where a party's latest call stands after a step: under way, or over. `since` is the number of
+  -- changes to words before the call plus its own, so `changes - since` is how many the other
+  -- parties made during it.
   abbrev pub doing_after : (changes since : ℕ) → After (Flight T) (Answer T) → Doing T
   doing_after changes since (GoOn flight) = Going flight since
   doing_after changes since (Done answer) = Over (changes - since)
 
-  -- a party after so many steps more of its call and so many changes of a word
+  -- A party after a turn of its call: it has taken `steps` steps more, which changed a word's value
+  -- `change` times (0 or 1), and `s` says how the call goes on.
   abbrev pub party_after : Party T → ℕ → ℕ → ℕ → ℕ → Step (Flight T) (Registry T) T → Party T
   party_after x since changes steps change s =
       record {
@@ -100,7 +104,8 @@ module _ {T : Type 0} where
         doing = doing_after (changes + change) (since + change) s.after;
       }
 
-  -- the operation is done, if there is one, and the call goes on by this step
+  -- The machine after a turn of a party's call: the operation `ask` is done, if there is one, and
+  -- `s` says how the call goes on and what the family keeps beside the words.
   abbrev pub after_step : World T → ℕ → Party T → ℕ → Option Ask → Step (Flight T) (Registry T) T → World T
   after_step w p x since ask s =
       record w {
@@ -112,12 +117,14 @@ module _ {T : Type 0} where
         turns = w.turns + 1;
       }
 
-  -- what the step of a party's call comes to from this answer
+  -- What the step of a party's call comes to, if the call is handed `answer`: the old value of its
+  -- word, or a decision.
   abbrev pub step_in : World T → ℕ → Party T → Flight T → ℕ → Step (Flight T) (Registry T) T
   step_in w p x flight answer =
       step_of w.coding w.words (beside_of w.words w.kept w.latest p) p x.start flight answer w.kept
 
-  -- the call goes on from this answer; one that is done stays
+  -- The machine after the party's call was handed `answer`. Where the call is over already, the
+  -- machine stays as it is.
   abbrev pub after_answer : World T → ℕ → Party T → Option Ask → ℕ → Doing T → World T
   after_answer w p x ask answer (Over others) = w
   after_answer w p x ask answer (Going flight since) =
@@ -132,7 +139,7 @@ module _ {T : Type 0} where
   abbrev pub events_of_step : ℕ → Start T → Step (Flight T) (Registry T) T → List (Event T)
   events_of_step p start s = s.wrote ++ ending_of p start (answer_in s.after)
 
-  -- what the step of a party's call writes down, which is handed this answer; nothing of a call that is done
+  -- The events of the step of a party's call that is handed `answer`. A call that is over writes none.
   abbrev pub events_of_answer : World T → ℕ → Party T → ℕ → Doing T → List (Event T)
   events_of_answer w p x answer (Over others) = []
   events_of_answer w p x answer (Going flight since) =
@@ -145,19 +152,21 @@ module _ {T : Type 0} where
   turn_of p None = Next p
   turn_of p (Some said) = Decide p said
 
-  -- what the call asks for is done, and it is handed the old value of the word
+  -- The machine after a turn `Next` of a party: the operation that its call asks for is done, and
+  -- the call is handed the old value of the word.
   abbrev pub after_next : World T → ℕ → Option (Party T) → World T
   after_next w p None = w
   after_next w p (Some x) =
       after_answer w p x (ask_of_doing w.coding x.doing)
       (old_of w.words (ask_of_doing w.coding x.doing)) x.doing
 
-  -- the call is handed yes or no
+  -- The machine after a decision for a party: its call is handed yes or no, and no word changes.
   abbrev pub after_decision : World T → ℕ → Bool → Option (Party T) → World T
   after_decision w p said None = w
   after_decision w p said (Some x) = after_answer w p x None (number_of said) x.doing
 
-  -- the machine once the owner is dead
+  -- The machine once the owner is dead: only what the family keeps beside the words changes, and
+  -- the number of turns.
   abbrev pub after_death : World T → ℕ → World T
   after_death w owner = record w { kept = kept_after_death w.kept owner; turns = w.turns + 1 }
 
@@ -200,18 +209,19 @@ module _ {T : Type 0} where
   after_turns t [] = t
   after_turns t (turn ∷ turns) = after_turns (after_turn t turn) turns
 
-  -- a refused turn changes nothing
+  -- The machine after a turn that led to `new`, or `old` if the turn was refused: a refused turn
+  -- changes nothing.
   abbrev pub unless_refused : (old new : Trace T) → Option Refusal → Trace T
   unless_refused old new None = new
   unless_refused old new (Some refusal) = old
 
-  -- turns where `refuses` says why one is refused, which then changes nothing
+  -- Below, `refuses` says why a turn is refused, or None. A refused turn changes nothing.
   module _ (refuses : World T → Turn T → Option Refusal) where
-    -- a turn is taken, or refused
+    -- The machine after one turn, which is taken or refused.
     abbrev pub attempt_by : Trace T → Turn T → Trace T
     attempt_by t turn = unless_refused t (after_turn t turn) (refuses t.world turn)
 
-    -- the turns are taken or refused, one after another
+    -- The machine after these turns one after another, each taken or refused.
     abbrev pub run_by : List (Turn T) → Trace T → Trace T
     run_by [] t = t
     run_by (turn ∷ turns) t = run_by turns (attempt_by t turn)
@@ -230,12 +240,11 @@ module _ {T : Type 0} where
       pub is : t
           ≡ run_by turns (opening t.world.coding t.world.kind t.world.capacity t.world.parties)
 
-  -- A turn of a machine, which changes nothing where it is refused;
-  -- below, turns one after another, and that none is refused.
+  -- The machine after one turn. One that the machine refuses changes nothing.
   abbrev pub attempt : Trace T → Turn T → Trace T
   attempt = attempt_by refusal_of
 
-  -- turns of a machine, one after another, of which refused ones change nothing
+  -- The machine after these turns, one after another. Those that it refuses change nothing.
   abbrev pub run : List (Turn T) → Trace T → Trace T
   run = run_by refusal_of
 
@@ -243,19 +252,21 @@ module _ {T : Type 0} where
   abbrev pub AreAllowed : Trace T → List (Turn T) → Type 0
   AreAllowed = AreAllowedBy refusal_of
 
-  -- the same where neither turns nor parties have a bound, and what such turns reach
+  -- The machine after one turn, where neither the number of turns nor the parties' numbers have a
+  -- bound: a turn is refused only for the call or the owner.
   abbrev pub attempt_on : Trace T → Turn T → Trace T
   attempt_on = attempt_by call_refusal
 
-  -- turns one after another, of which refused ones change nothing
+  -- The machine after these turns, where neither the number of turns nor the parties' numbers have a bound.
   abbrev pub run_on : List (Turn T) → Trace T → Trace T
   run_on = run_by call_refusal
 
-  -- none of these turns is refused
+  -- None of these turns is refused, where neither their number nor the numbers of the parties have a bound.
   abbrev pub AreAllowedOn : Trace T → List (Turn T) → Type 0
   AreAllowedOn = AreAllowedBy call_refusal
 
-  -- turns without a bound lead here from an opening
+  -- Some list of turns leads here from an opening, where neither the number of turns nor the
+  -- parties' numbers have a bound.
   abbrev pub IsReachedOn : Trace T → Type 0
   IsReachedOn = IsReachedBy call_refusal
 

@@ -1,4 +1,5 @@
--- The machine as plain data.
+-- The machine as plain data: its words and its parties' calls (`World`), with the events of its
+-- turns (`Trace`).
 use Rattle.std.specs.Prelude.{◌≡◌, ◌⊎◌, ℕ, ◌-◌, ◌^◌, ◌||◌, Option, Some, None, List, [], if◌then◌else◌, nat_lt}
 use Rattle.steps.specs.declared.enums.UniqueIndexCreationError.{UniqueIndexCreationError}
 use Rattle.steps.specs.declared.enums.UniqueIndexCreationError.TheVariants.{NoMemory, ProvidedCapacityGreaterThanMaxCapacity, ProvidedCapacityIsZero}
@@ -17,7 +18,7 @@ use Rattle.model.specs.Families.{opening_of}
 use Rattle.model.specs.Families.Loan.Opening.{opening_words, opening_kept}
 use Rattle.model.specs.Parties.{party_of, doing_of, flight_of, progress_after}
 
--- a machine: its structure, its parties, and what they are at
+-- A machine: the kind and the words of its structure, and where the latest call of each party stands.
 pub record World (T : Type 0) : Type 0 where
   pub coding : Coding T  -- how its values are written in words
   pub kind : Kind
@@ -29,16 +30,21 @@ pub record World (T : Type 0) : Type 0 where
   pub changes : ℕ  -- how often a step has changed a word's value
   pub turns : ℕ
 
--- what a machine holds: the same beside its type's coding, and the events of its turns in order
+-- The content of a machine of the code (its `now`): the fields of `World` without the coding of its
+-- values, and the events of its turns in order.
 pub record State (T : Type 0) : Type 0 where
+  -- the structure and its numbers
   pub kind : Kind
   pub capacity : ℕ
   pub parties : ℕ
+  -- the words, and what the family keeps beside them
   pub words : List ℕ
   pub kept : Registry T
+  -- the parties' latest calls, and the counts of changes and turns
   pub latest : List (ℕ × Party T)
   pub changes : ℕ
   pub turns : ℕ
+  -- the events of its turns, in order
   pub events : List (Event T)
 
 -- a machine, with the events of its turns in order
@@ -53,7 +59,7 @@ abbrev pub kind_in : Shape → Kind
 kind_in (shapes.Of kind capacity) = kind
 kind_in (shapes.Loan slots queue) = Loan
 
--- its capacity, of a loan channel its slots
+-- The capacity in a shape. For a loan channel it is the number of slots.
 abbrev pub capacity_in : Shape → ℕ
 capacity_in (shapes.Of kind capacity) = capacity
 capacity_in (shapes.Loan slots queue) = slots
@@ -63,17 +69,19 @@ abbrev pub queue_in : Shape → ℕ
 queue_in (shapes.Of kind capacity) = capacity
 queue_in (shapes.Loan slots queue) = queue
 
--- the refusal of a capacity that is not admitted
+-- Why a machine of this kind may not have this capacity, or None.
 abbrev pub capacity_error : Kind → ℕ → Option UniqueIndexCreationError
 capacity_error kind capacity =
     capacity_refusal (opening_of kind).least (opening_of kind).greatest capacity
 
--- the refusal of a submission queue's, which no other kind has
+-- Why a loan channel may not have a submission queue of this capacity, or None. Other kinds have no
+-- such queue and refuse none.
 abbrev pub queue_error : Kind → ℕ → Option UniqueIndexCreationError
 queue_error Loan queue = capacity_refusal 1 (2 ^ 32 - 1) queue
 queue_error kind queue = None
 
--- the refusal of both: a number above its greatest comes before one below its least
+-- Why no loan channel has these two numbers, or None. A number above its greatest is refused before
+-- one below its least.
 abbrev pub loan_error : (slots queue : ℕ) → Option UniqueIndexCreationError
 loan_error slots queue =
     if nat_lt (2 ^ 24 - 2) slots || nat_lt (2 ^ 32 - 1) queue
@@ -87,7 +95,7 @@ abbrev pub shape_error : Shape → Option UniqueIndexCreationError
 shape_error (shapes.Of kind capacity) = capacity_error kind capacity
 shape_error (shapes.Loan slots queue) = loan_error slots queue
 
--- why no machine is made: its numbers, or where they are admitted, memory
+-- Why no machine is made: its numbers are not admitted, or, if they are, there is no memory.
 abbrev pub IsCreationError : Shape → UniqueIndexCreationError → Type 0
 IsCreationError shape e =
     (shape_error shape ≡ Some e) ⊎ (shape_error shape ≡ None) × (e ≡ NoMemory)
@@ -103,7 +111,7 @@ kept_opened Loan capacity queue = opening_kept capacity queue
 kept_opened kind capacity queue = (opening_of kind).kept capacity
 
 module _ {T : Type 0} where
-  -- the machine that holds this, where values are written so
+  -- The machine of a state of the code, given how its values are written in words.
   abbrev pub trace_in : Coding T → State T → Trace T
   trace_in code s =
       record {
@@ -122,11 +130,11 @@ module _ {T : Type 0} where
         events = s.events;
       }
 
-  -- the machine that holds this, without its events
+  -- The machine of a state of the code, without its events.
   abbrev pub world_in : Coding T → State T → World T
   world_in code s = (trace_in code s).world
 
-  -- the machine of a kind with so many parties as it opens, before its first turn
+  -- The machine of a kind, capacity and number of parties as it opens, before its first turn.
   abbrev pub opening : Coding T → Kind → (capacity parties : ℕ) → Trace T
   opening code kind capacity parties =
       record {
@@ -145,7 +153,8 @@ module _ {T : Type 0} where
         events = [];
       }
 
-  -- the same with a second number, which only a loan channel has
+  -- The machine as it opens, before its first turn. The second number, `queue`, is the capacity of
+  -- a loan channel's submission queue; other kinds do not use it.
   abbrev pub opened : Coding T → Kind → (capacity queue parties : ℕ) → Trace T
   opened code kind capacity queue parties =
       record {

@@ -73,7 +73,7 @@ pub enum Answer<T> {
     /// The number that a pop, a peek, a receive or a take-back answers, or that a push of the overflowing queue or a send
     /// hands back.
     PoppedIndex(u64),
-    /// The same for a value of the machine's own type.
+    /// The value of the machine's own type that a pop or a peek answers.
     Popped(T),
     /// The value that a load answers.
     Loaded(T),

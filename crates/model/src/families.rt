@@ -83,7 +83,7 @@ impl<T: Drop> Drop for Registry<T> {
 }
 
 /// What the step of one party has to know of the others: the party and the value of a push that acts where this step
-/// moves the read position. Only an overflowing queue has such.
+/// moves the read position. Only an overflowing queue has such a push.
 pub type Beside = Option<(u32, u64)>;
 
 /// What became of a call that went on: whether it begins a turn of its loop again, and its answer where it is done.

@@ -37,7 +37,7 @@ pub enum Kind {
 pub enum Shape {
     /// One of this kind and capacity. The submission queue of a loan channel is then as long as it has slots.
     Of(Kind, u64),
-    /// A loan channel of so many slots, with a submission queue of this capacity.
+    /// A loan channel with this number of slots, and a submission queue of this capacity.
     Loan(u64, u64),
 }
 
@@ -82,8 +82,8 @@ fn capacity_error(kind: Kind, capacity: u64) -> Option<UniqueIndexCreationError>
     capacity_refusal(capacity, least, greatest)
 }
 
-/// Why there is no loan channel of these numbers, if there is none: one above its greatest is refused before one below
-/// its least.
+/// Why there is no loan channel of these numbers, if there is none: a number above its greatest is refused before one
+/// below its least.
 fn loan_error(slots: u64, queue: u64) -> Option<UniqueIndexCreationError>
     ensures error { result ≡ loan_error slots queue }
     ensures slots { result ≡ None → slots ≤ 2 ^ 24 - 2 }

@@ -67,7 +67,7 @@ module _ (c b : ℕ) (below : b < c) where
   did (page.NextStoresPosition place) = taken place
   did (page.AllSwapsElement word places) = cond (nat_lt (1 + b / 64) word) (Some (act (count places) 0)) None
 
-  -- what is so of the places and words of a stage when its call stands there
+  -- what holds of the places and words of a stage while its call stands at it
   abbrev Fits : page.Stage → Type 0
   Fits (page.SetLoadsElement place) = place < c
   Fits (page.SetExchangesElement place element) = (place < c) × (page.stands element place ≡ false)
@@ -79,12 +79,15 @@ module _ (c b : ℕ) (below : b < c) where
   Fits (page.AllSwapsElement word places) =
       (1 ≤ word) × ((word < 1 + (c + 63) / 64) × (word ≤ 1 + b / 64 → count places ≡ 0))
 
+  -- The words are the position and as many elements as the places need.
   abbrev Good : List ℕ → Type 0
   Good words = length words ≡ 1 + (c + 63) / 64
 
+  -- What a step from `stage` came to (`a`) is right for place `b`, whose bit goes from `v` to `w`.
   abbrev GoesThen : page.Stage → After page.Stage page.Answer → ℕ → ℕ → Type 0
   GoesThen stage a v w = Goes (page.bit_set c) at call_at did Fits stage a v w
 
+  -- A step from this stage keeps the number of words, and is right for place `b`.
   abbrev Step : List ℕ → page.Stage → Type 0
   Step words stage =
       Good (words_then (page.bit_set c) at words stage)
@@ -231,6 +234,7 @@ module _ (c b : ℕ) (below : b < c) where
       → GoesThen stage (page.next_tests c start passed old) v v
   next_tests_shows start passed old v stage le lt is had sees = go (page.stands old (page.place_after c start passed)) refl
     where
+      -- Past the last place the search has passed `b` too.
       all_passed : passed + 1 ≡ c → passed_by start (passed + 1) ≡ Some (act 0 0)
       all_passed all =
           let within = offset_within start le in
@@ -391,7 +395,7 @@ module _ (c b : ℕ) (below : b < c) where
           (value words) (value (slice_set words word 0))
       moves = ⊎_elim here elsewhere (cases_eq (1 + b / 64) word)
         where
-          -- so it is where it swaps the element of the place
+          -- a reset of all that swaps the element with the place
           here : 1 + b / 64 ≡ word → Moves at page.ResetAll (cond (nat_lt (1 + b / 64) word) (Some (act (count places) 0)) None)
               (cond (nat_lt (1 + b / 64) (word + 1)) (Some (act (count (places ++ places_in word (slice_index words word))) 0)) None)
               (value words) (value (slice_set words word 0))

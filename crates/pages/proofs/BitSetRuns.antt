@@ -46,20 +46,24 @@ pub fails_row : (b : Bool) → b ≡ true → is_some (first_row ((false, WrongC
 fails_row b e = rw e refl
 
 module _ (c : ℕ) (some : 0 < c) where
+  -- a state of the page's machine
   abbrev BitsPage : Type 0
   BitsPage = machine.World bits.Call bits.Stage bits.Answer
 
   abbrev bits_flight : ℕ → bits.Stage → Flight ℕ
   bits_flight found stage = flights.Bits (bits_bridge.flight c found stage)
 
-  -- what a reset of all has handed out so far
+  -- what a reset of all has handed out at its stage
   abbrev HandsAt : bits.Stage → List ℕ → Type 0
   HandsAt (bits.AllSwapsElement word places) items = items ≡ places
   HandsAt stage items = Unit {0}
 
+  -- The model's events and the page's state agree: the registry keeps nothing, and the page's
+  -- history and what each reset of all has handed out are read off the events.
   abbrev BitsRelated : List (Event ℕ) → Registry ℕ → BitsPage → Type 0
   BitsRelated events k w = (k ≡ nothing) × IsRead (bits.bit_set c) bits_bridge.reading HandsAt events w
 
+  -- A step of party `p` that wrote these events tells the page nothing by them, and hands these places out.
   abbrev WritesBits : ℕ → List (Event ℕ) → List ℕ → Type 0
   WritesBits p wrote items = Writes (bits.bit_set c) bits_bridge.reading HandsAt p wrote items
 
@@ -71,7 +75,7 @@ module _ (c : ℕ) (some : 0 < c) where
   writes_none : (p : ℕ) → WritesBits p [] []
   writes_none p = record { quiet = λ before. refl; own = λ acc. sym (append-nil acc); others = λ q acc ne. refl }
 
-  -- the events of these bits hand out these bits
+  -- the events by which these bits are cleared hand out these bits
   writes_all : (p : ℕ) (bs : List ℕ) → WritesBits p (map (λ b. events.Cleared p b) bs) bs
   writes_all p bs = record { quiet = quiet bs; own = own bs; others = others bs }
     where
@@ -117,6 +121,8 @@ module _ (c : ℕ) (some : 0 < c) where
   writes p found (bits.NextStoresPosition place) old = writes_none p
   writes p found (bits.AllSwapsElement word places) old = writes_all p (places_in word old)
 
+  -- After a step the items handed out are those of the next stage, or the page reads its answer
+  -- from them and the model's.
   abbrev ReadsBits : List ℕ → machine.After bits.Stage bits.Answer → Type 0
   ReadsBits items a = Reads (bits.bit_set c) bits_bridge.reading HandsAt bits_bridge.answered items a
 
@@ -177,6 +183,7 @@ module _ (c : ℕ) (some : 0 < c) where
       go true = ap (λ xs. xs ++ places_in word old) hands
       go false = ap (λ xs. bits.WereReset (xs ++ places_in word old)) hands
 
+  -- If the call goes on, its next stage is one of the same call, and fits a set of `c` places.
   abbrev BitsGoRight : bits.Stage → machine.After bits.Stage bits.Answer → Type 0
   BitsGoRight stage (machine.GoOn next) = (bits_law.call_at next ≡ bits_law.call_at stage) × bits_bridge.Fits c next
   BitsGoRight stage (machine.Done answer) = Unit {0}
@@ -192,7 +199,7 @@ module _ (c : ℕ) (some : 0 < c) where
       go false = (refl, tt)
   bits_right (bits.SetExchangesElement place element) old fits = go (old == element) (bits.stands old place)
     where
-      -- so it is of a set that exchanges
+      -- the cases are whether the exchange found `element`, and whether the place stands in `old`
       go : (a b : Bool)
           → BitsGoRight (bits.SetExchangesElement place element)
           (cond a (machine.Done (bits.WasSet true)) (cond b (machine.Done (bits.WasSet false)) (machine.GoOn (bits.SetExchangesElement place old))))
@@ -209,7 +216,7 @@ module _ (c : ℕ) (some : 0 < c) where
       go false = tt
   bits_right (bits.NextLoadsElement start passed) old fits = go (bits.stands old (bits.place_after c start passed)) (nat_lt (passed + 1) c)
     where
-      -- so it is of a search that loads
+      -- the cases are whether the place stands, and whether a place is left
       go : (a b : Bool)
           → BitsGoRight (bits.NextLoadsElement start passed)
           (cond a (machine.GoOn (bits.NextExchangesElement start passed old))
@@ -220,7 +227,8 @@ module _ (c : ℕ) (some : 0 < c) where
   bits_right (bits.NextExchangesElement start passed element) old fits =
       go (old == element) (bits.stands old (bits.place_after c start passed)) (nat_lt (passed + 1) c)
     where
-      -- so it is of a search that exchanges
+      -- the cases are whether the exchange found `element`, whether the place stands in `old`, and whether a
+      -- place is left
       go : (e a b : Bool)
           → BitsGoRight (bits.NextExchangesElement start passed element)
           (cond e (machine.GoOn (bits.NextStoresPosition (bits.place_after c start passed)))
@@ -233,7 +241,7 @@ module _ (c : ℕ) (some : 0 < c) where
   bits_right (bits.NextStoresPosition place) old fits = tt
   bits_right (bits.AllSwapsElement word places) old fits = go (nat_lt (word + 1) (1 + elements c)) refl
     where
-      -- so it is of a reset of all
+      -- the cases are whether an element is left
       go : (b : Bool) → nat_lt (word + 1) (1 + elements c) ≡ b
           → BitsGoRight (bits.AllSwapsElement word places)
           (cond b (machine.GoOn (bits.AllSwapsElement (word + 1) (places ++ places_in word old)))
@@ -241,6 +249,7 @@ module _ (c : ℕ) (some : 0 < c) where
       go true t = (refl, grind (arith, nat_tests))
       go false t = tt
 
+  -- What a step came to is the same, told as of a call on bits and as of any call.
   bits_went : (found : ℕ) (a : machine.After bits.Stage bits.Answer)
       → as_call flights.Bits (λ (answer : Answer ℕ). answer) (bits_bridge.went c found a)
       ≡ went (bits_flight found) bits_bridge.answered a
@@ -298,18 +307,21 @@ module _ (c : ℕ) (some : 0 < c) where
       first_fits bits.ResetNext = tt
       first_fits bits.ResetAll = omega arith
 
+      -- The model begins a call at the stage that the page begins it.
       begins : (k : Registry ℕ) (call : bits.Call)
           → first_of kinds.Bits c (Bits (bits_bridge.bits_start call)) k ≡ Some (bits_flight 0 (bits.first call))
       begins k (bits.Set place) = refl
       begins k bits.ResetNext = refl
       begins k bits.ResetAll = refl
 
+      -- The model refuses a call that the page's rule does not let begin.
       refuses : (p : ℕ) (call : bits.Call) → bits.may c p call ≡ false
           → is_some (first_row (begin_rows kinds.Bits c nothing p (Bits (bits_bridge.bits_start call)))) ≡ true
       refuses p (bits.Set place) may = fails_row (nat_le c place) (grind (arith, nat_tests))
       refuses p bits.ResetNext may = absurd (cc)
       refuses p bits.ResetAll may = absurd (cc)
 
+      -- The model does not refuse a call that the page's rule lets begin.
       admits : (p : ℕ) (call : bits.Call) → bits.may c p call ≡ true
           → first_row (begin_rows kinds.Bits c nothing p (Bits (bits_bridge.bits_start call))) ≡ None
       admits p (bits.Set place) may = passes_row (nat_le c place) (grind (arith, nat_tests))
@@ -359,6 +371,7 @@ module _ (c : ℕ) (some : 0 < c) where
   bits_same_turns parties (machine.Begin p call ∷ turns) = ap (λ ts. bits_bridge.as_turn (machine.Begin p call) ∷ ts) (bits_same_turns parties turns)
   bits_same_turns parties (machine.Next p ∷ turns) = ap (λ ts. bits_bridge.as_turn (machine.Next p) ∷ ts) (bits_same_turns parties turns)
 
+  -- The turns are within the parties also as the relation says it.
   bits_within : (parties : ℕ) (turns : List (machine.Turn bits.Call)) → bits_bridge.AreWithin parties turns
       → AllByRecursion (IsWithin ℕ (bits.bit_set c) kinds.Bits c bits_relation parties) turns
   bits_within parties [] within = tt

@@ -133,7 +133,7 @@ module _ {T Call Stage Answer Room : Type 0} {of : machine.Structure Call Stage 
                   → Held by tie hands k m stage (put p (party_at_begin start flight changes) latest)
               held m stage e = ⊎_elim same other (cases_eq m (by.number p b.call))
                 where
-                  -- so it is of the role for which the call begins
+                  -- the role for which the call begins
                   same : m ≡ by.number p b.call → Held by tie hands k m stage (put p (party_at_begin start flight changes) latest)
                   same is =
                       let first : of.first b.call ≡ stage = the_same (sym (put_same by tie hands (by.number p b.call) (Some (of.first b.call)) w.pending)
@@ -169,6 +169,7 @@ module _ {T Call Stage Answer Room : Type 0} {of : machine.Structure Call Stage 
               → Sim by tie hands (fold (machine.turned of) w (turn_taken by world (Begin p start))) (after_turn t (Begin p start))
           begin_other p start flight mine named free b =
               let party_after = party_at_begin start flight changes in
+              -- the page takes no turn
               let comes : fold (machine.turned of) w (turn_taken by world (Begin p start)) ≡ w =
               ap (λ c. fold (machine.turned of) w (cond c (machine.Begin (by.number p (by.reading.call start)) (by.reading.call start) ∷ []) [])) mine in
               subst (λ v. Sim by tie hands v (after_turn t (Begin p start))) (sym comes)
@@ -231,12 +232,12 @@ module _ {T Call Stage Answer Room : Type 0} {of : machine.Structure Call Stage 
           goes_by : (p : ℕ) (flight : Flight T) → flight_of (doing_of (party_of p latest)) ≡ Some flight → GoesBy p flight
           goes_by p flight e = go (party_of p latest) refl e
             where
-              -- so it is, whatever the party's latest call is
+              -- the cases are whether the party has a latest call
               go : (o : Option (Party T)) → party_of p latest ≡ o → flight_of (doing_of o) ≡ Some flight → GoesBy p flight
               go None found e = absurd (cc)
               go (Some x) found e = inside x.doing refl e
                 where
-                  -- so it is, whatever that call is doing
+                  -- the cases are whether that call is under way or over
                   inside : (d : Doing T) → x.doing ≡ d → flight_of (Some d) ≡ Some flight → GoesBy p flight
                   inside (Going it since) d e =
                       let same : it ≡ flight = the_same e in

@@ -35,17 +35,22 @@ module _ (c b : ℕ) (below : b < c) where
   did (page.SetAdds place) = None
   did (page.AllSwaps place counts) = cond (nat_lt b place) (Some (act (page.handed b counts) 0)) None
 
+  -- What holds at a stage: its place is one of the set, and before the turn of `b` nothing of it
+  -- was handed out.
   abbrev Fits : page.Stage → Type 0
   Fits (page.SetAdds place) = place < c
   Fits (page.AllSwaps place counts) = (place < c) × (place ≤ b → page.handed b counts ≡ 0)
 
+  -- After `n` turns there is a word for each place, and that of place `b` counts at most `n`.
   pub record Good (n : ℕ) (words : List ℕ) : Type 0 where
     pub sized : length words ≡ c
     pub low : value words ≤ n
 
+  -- What a step from `stage` came to (`a`) is right for place `b`, whose count goes from `v` to `w`.
   abbrev GoesThen : page.Stage → After page.Stage page.Answer → ℕ → ℕ → Type 0
   GoesThen stage a v w = Goes (page.counting_bit_set c) at call_at did Fits stage a v w
 
+  -- A step from this stage leaves the words good for one turn more, and is right for place `b`.
   abbrev Step : ℕ → List ℕ → page.Stage → Type 0
   Step n words stage =
       Good (n + 1) (words_then (page.counting_bit_set c) at words stage)
@@ -109,7 +114,7 @@ module _ (c b : ℕ) (below : b < c) where
       → Step n words (page.AllSwaps place counts)
   all_swaps n words place counts good lt none = (good_then, goes (nat_lt (place + 1) c) refl)
     where
-      -- the words are as many then, and the place counts no more than the turns
+      -- there are as many words as before, and the place counts at most n + 1
       good_then : Good (n + 1) (slice_set words place 0)
       good_then = record { sized = length-set words place 0 ∙ good.sized; low = ⊎_elim at_it away (cases_eq place b) }
         where
@@ -125,7 +130,7 @@ module _ (c b : ℕ) (below : b < c) where
           (value words) (value (slice_set words place 0))
       moves = ⊎_elim at_it away (cases_eq place b)
         where
-          -- so it is where it swaps the count of this place
+          -- a reset of all that swaps the count of this place
           at_it : place ≡ b → Moves at page.ResetAll (cond (nat_lt b place) (Some (act (page.handed b counts) 0)) None)
               (cond (nat_lt b (place + 1)) (Some (act (page.handed b (handed_then place (slice_index words place) counts)) 0)) None)
               (value words) (value (slice_set words place 0))
@@ -195,6 +200,7 @@ module _ (c b : ℕ) (below : b < c) where
       opens_low : value (replicate c 0) ≤ 0
       opens_low = let none = zeros c b in omega arith
 
+      -- A call that may begin has done nothing at the place yet, and its first stage fits.
       begins : (p : ℕ) (call : page.Call) → page.may c p call ≡ true → Begins (page.counting_bit_set c) at call_at did Fits call
       begins p (page.Set place) may = record { is = refl; nothing = refl; fits = grind (arith, nat_tests) }
       begins p page.ResetAll may =

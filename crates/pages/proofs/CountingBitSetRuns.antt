@@ -32,20 +32,25 @@ use Rattle.pages.proofs.Told as tellings
 use Rattle.pages.proofs.BitSetRuns.{coded, fails_row, nothing, passes_row}
 
 module _ (c : ℕ) (some : 0 < c) where
+  -- a state of the page's machine
   abbrev CountsPage : Type 0
   CountsPage = machine.World counts.Call counts.Stage counts.Answer
 
   abbrev counts_flight : ℕ → counts.Stage → Flight ℕ
   counts_flight found stage = flights.Bits (counts_bridge.flight c found stage)
 
-  -- what a reset of all has handed out so far
+  -- what a reset of all has handed out at its stage
   abbrev HandsAt : counts.Stage → List (ℕ × ℕ) → Type 0
   HandsAt (counts.AllSwaps place taken) items = items ≡ taken
   HandsAt stage items = Unit {0}
 
+  -- The model's events and the page's state agree: the registry keeps nothing, and the page's
+  -- history and what each reset of all has handed out are read off the events.
   abbrev CountsRelated : List (Event ℕ) → registries.Registry ℕ → CountsPage → Type 0
   CountsRelated events k w = (k ≡ nothing) × IsRead (counts.counting_bit_set c) counts_bridge.reading HandsAt events w
 
+  -- A step of party `p` that wrote these events tells the page nothing by them, and hands out
+  -- these pairs of a place and its count.
   abbrev WritesCounts : ℕ → List (Event ℕ) → List (ℕ × ℕ) → Type 0
   WritesCounts p wrote items = Writes (counts.counting_bit_set c) counts_bridge.reading HandsAt p wrote items
 
@@ -73,6 +78,8 @@ module _ (c : ℕ) (some : 0 < c) where
           others : (q : ℕ) (acc : List (ℕ × ℕ)) → q ≢ p → cond (p == q) (acc ++ one place old) acc ≡ acc
           others q acc ne = let is_other : (p == q) ≡ false = grind (arith, nat_tests) in rw is_other refl
 
+  -- After a step the items handed out are those of the next stage, or the page reads its answer
+  -- from them and the model's.
   abbrev ReadsCounts : List (ℕ × ℕ) → machine.After counts.Stage counts.Answer → Type 0
   ReadsCounts items a = Reads (counts.counting_bit_set c) counts_bridge.reading HandsAt counts_bridge.answered items a
 
@@ -99,6 +106,7 @@ module _ (c : ℕ) (some : 0 < c) where
       go true = then_same place old items taken hands
       go false = ap counts.WereReset (then_same place old items taken hands)
 
+  -- If the call goes on, its next stage is one of the same call, and fits a set of `c` places.
   abbrev CountsGoRight : counts.Stage → machine.After counts.Stage counts.Answer → Type 0
   CountsGoRight stage (machine.GoOn next) = (counts_law.call_at next ≡ counts_law.call_at stage) × counts_bridge.Fits c next
   CountsGoRight stage (machine.Done answer) = Unit {0}
@@ -116,6 +124,7 @@ module _ (c : ℕ) (some : 0 < c) where
       go true t = (refl, grind (arith, nat_tests))
       go false t = tt
 
+  -- What a step came to is the same, told as of a call on bits and as of any call.
   counts_went : (found : ℕ) (a : machine.After counts.Stage counts.Answer)
       → as_call flights.Bits (λ (answer : Answer ℕ). answer) (counts_bridge.went c found a)
       ≡ went (counts_flight found) counts_bridge.answered a
@@ -233,6 +242,7 @@ module _ (c : ℕ) (some : 0 < c) where
   counts_same_turns parties (machine.Begin p call ∷ turns) = ap (λ ts. counts_bridge.as_turn (machine.Begin p call) ∷ ts) (counts_same_turns parties turns)
   counts_same_turns parties (machine.Next p ∷ turns) = ap (λ ts. counts_bridge.as_turn (machine.Next p) ∷ ts) (counts_same_turns parties turns)
 
+  -- The turns are within the parties also as the relation says it.
   counts_within : (parties : ℕ) (turns : List (machine.Turn counts.Call)) → bits_bridge.AreWithin parties turns
       → AllByRecursion (IsWithin ℕ (counts.counting_bit_set c) kinds.Counts c counts_relation parties) turns
   counts_within parties [] within = tt

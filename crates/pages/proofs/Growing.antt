@@ -66,6 +66,7 @@ module _ {X Y : Type 0} (g : X → Y) where
   mapped [] x h = absurd (none_there x h)
   mapped (y ∷ xs) x h = ⊎_elim (λ e. here (g y) (g x) (map g xs) (ap g e)) (λ more. there (g y) (g x) (map g xs) (mapped xs x more)) (split y x xs h)
 
+  -- what is in a mapped list is the image of something in the list
   pub mapped_from : (xs : List X) (z : Y) → Contains (map g xs) z → (x : X) × (Contains xs x × (g x ≡ z))
   mapped_from [] z h = absurd (none_there z h)
   mapped_from (x ∷ xs) z h =
@@ -97,6 +98,7 @@ module _ {Call Answer : Type 0} where
   abbrev pub respond : ℕ → ℕ → Answer → Called Call Answer → Called Call Answer
   respond p place answer c = record c { response = responded p place answer c.party c.response }
 
+  -- An invocation at the end adds no response.
   response_begun : (q : ℕ) (h : List (Event Call Answer)) (n p : ℕ) (call : Call)
       → response_in q (h ++ Invoked p call ∷ []) n ≡ response_in q h n
   response_begun q [] n p call = refl

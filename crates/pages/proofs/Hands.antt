@@ -1,4 +1,6 @@
--- What holds between two turns of a machine on which roles change hands, and the page that it runs, and what is to be shown of a structure.
+-- What holds between two turns of a machine on which roles change hands, and the page that it runs (`Inv`,
+-- `Sim`), and what is to be shown of a structure (`Hands`). The page numbers parties by what they call,
+-- whoever has the role; calls that the page has not are acquires, releases and looks.
 use Rattle.std.proofs.Common.{◌⊎◌, inl, inr}
 use Rattle.std.proofs.lemmas.Bool.Decides.{nat_tests}
 use Rattle.std.proofs.lemmas.List.Concat.{flat_map-append}
@@ -28,19 +30,21 @@ use Rattle.pages.specs.Machine as machine
 use Rattle.pages.specs.Reading.{all_seen}
 use Rattle.pages.proofs.Simulates.{StepIs, TieOf}
 
--- who is one is no other
+-- an option that is Some p is not Some q, if q is not p
 pub not_two : {A : Type 0} {o : Option ℕ} {p q : ℕ} → o ≡ Some p → o ≡ Some q → q ≢ p → A
 not_two e f ne = absurd (ne (same (sym f ∙ e)))
   where
     same : {p q : ℕ} → Some q ≡ Some p → q ≡ p
     same e = cc
 
+-- equal parties have begun equal calls
 pub started : {T : Type 0} {x y : Party T} → Some x ≡ Some y → x.start ≡ y.start
 started {T} e = ap (λ (x : Party T). x.start) (inside e)
   where
     inside : {x y : Party T} → Some x ≡ Some y → x ≡ y
     inside e = cc
 
+-- a test is not both true and false
 pub both_ways : {A : Type 0} → (b : Bool) → b ≡ true → b ≡ false → A
 both_ways b e f = absurd (cc)
 
@@ -50,20 +54,24 @@ going start steps backs flight since = record { start = start; steps = steps; ba
 
 -- ---- what is to be shown of a structure, of whatever its family keeps
 
--- what a step of a call that the page has not comes to
+-- What a step of a call that the page has not comes to: it writes no event, and leaves the page's words.
 pub record OtherStep {T Kept : Type 0} (code : Coding T) (registry : Kept → Registry T) (who : Kept → ℕ → Option ℕ) (blank : List ℕ → List ℕ)
     (Tells : Kept → List ℕ → Type 0) (Other : Kept → ℕ → Start T → Flight T → Type 0) (k : Kept) (p : ℕ) (start : Start T) (flight : Flight T)
     (words : List ℕ) (s : Step (Flight T) (Registry T) T) : Type 0 where
+  -- the roles after the step
   pub next : Kept
   pub kept_is : s.kept ≡ registry next
   pub silent : s.wrote ≡ []
   pub blank_is : blank (words_after words (ask_of (want_of code flight))) ≡ blank words
   pub tells : Tells next (words_after words (ask_of (want_of code flight)))
+  -- a call that goes on is still one that the page has not
   pub stays : (then : Flight T) → s.after ≡ afters.GoOn then → Other next p start then
+  -- a role keeps its holder, or was free, or was this party's; the calls of other parties
+  -- stay where they stand
   pub who_is : (n : ℕ) → (who next n ≡ who k n) ⊎ ((who k n ≡ None) ⊎ (who k n ≡ Some p))
   pub others : (q : ℕ) (start : Start T) (flight : Flight T) → q ≢ p → Other k q start flight → Other next q start flight
 
--- a step of a call of the page is at no word of a role
+-- A step of a call of the page is at no word of a role, so it reads and writes the same on the page.
 pub record Leaves (blank : List ℕ → List ℕ) (Tells : List ℕ → Type 0) (words : List ℕ) (word : ℕ) : Type 0 where
   pub old : slice_index (blank words) word ≡ slice_index words word
   pub new : (value : ℕ) → blank (slice_set words word value) ≡ slice_set (blank words) word value
@@ -80,12 +88,16 @@ module _ {T Call Stage Answer Room : Type 0} {of : machine.Structure Call Stage 
       pub who_is : who (by.number p call) ≡ Some p
       pub may : of.may (by.number p call) call ≡ true
 
+    -- What is to be shown of a structure whose roles change hands. `Kept` is what its family
+    -- keeps of the roles.
     pub record Hands (Kept : Type 0) : Type 1 where
       pub registry : Kept → Registry T
       pub who : Kept → ℕ → Option ℕ  -- the party that is this party of the page
       pub blank : List ℕ → List ℕ  -- the words where each role is taken
       pub Tells : Kept → List ℕ → Type 0  -- the words of the roles say who is free
       pub Other : Kept → ℕ → Start T → Flight T → Type 0  -- where a call stands that the page has not
+      -- a call that the model admits is one of the page (`own`), which its party may begin,
+      -- or another (`other`)
       pub own : (k : Kept) (p : ℕ) (start : Start T) (flight : Flight T) → by.is_call start ≡ true
           → first_of kind capacity start (registry k) ≡ Some flight → first_row ((begin_of kind capacity start).rows (registry k) p) ≡ None
           → OwnBegin (who k) p start flight
@@ -94,10 +106,12 @@ module _ {T Call Stage Answer Room : Type 0} {of : machine.Structure Call Stage 
           → Other k p start flight
       pub keeps : (k : Kept) (p : ℕ) (start : Start T) (flight : Flight T) → first_of kind capacity start (registry k) ≡ Some flight
           → kept_after_begin code capacity start p (registry k) ≡ registry k
+      -- a step of the page's call: what it comes to, and which words it leaves
       pub goes : (k : Kept) (words : List ℕ) (beside : Option (ℕ × ℕ)) (p : ℕ) (r : Room) (stage : Stage) (old : ℕ) → tie.fits stage ≡ true
           → StepIs Room of by.reading by.is_call kind capacity (registry k) tie.flight tie.answered
           (step_of code words beside p (tie.start (tie.call_at stage)) (tie.flight r stage) old (registry k)) ((of.does stage).2 old)
       pub leaves : (k : Kept) (words : List ℕ) (stage : Stage) → tie.fits stage ≡ true → Tells k words → Leaves blank (Tells k) words (of.does stage).0
+      -- a step of a call that the page has not
       pub not_own : (k : Kept) (p : ℕ) (start : Start T) (flight : Flight T) → Other k p start flight → by.is_call start ≡ false
       pub goes_other : (k : Kept) (words : List ℕ) (beside : Option (ℕ × ℕ)) (p : ℕ) (start : Start T) (flight : Flight T)
           → Other k p start flight → Tells k words
@@ -109,6 +123,7 @@ module _ {T Call Stage Answer Room : Type 0} {of : machine.Structure Call Stage 
     module _ {Kept : Type 0} (hands : Hands Kept) where
       -- ---- where the calls stand
 
+      -- a party's call is one of the page, at the stage that the page has for it
       pub record OwnAt (k : Kept) (pending : ℕ → Option Stage) (p : ℕ) (start : Start T) (flight : Flight T) : Type 0 where
         pub stage : Stage
         pub room : Room
@@ -118,6 +133,7 @@ module _ {T Call Stage Answer Room : Type 0} {of : machine.Structure Call Stage 
         pub waits : pending (by.number p (tie.call_at stage)) ≡ Some stage
         pub who_is : hands.who k (by.number p (tie.call_at stage)) ≡ Some p
 
+      -- a call under way is one of the page or another; of one that is over nothing is said
       abbrev pub StandsAt : Kept → (ℕ → Option Stage) → ℕ → Start T → Doing T → Type 0
       StandsAt k pending p start (Going flight since) = OwnAt k pending p start flight ⊎ hands.Other k p start flight
       StandsAt k pending p start (Over others) = Unit {0}
@@ -127,7 +143,7 @@ module _ {T Call Stage Answer Room : Type 0} {of : machine.Structure Call Stage 
       Stands k pending p None = Unit {0}
       Stands k pending p (Some x) = StandsAt k pending p x.start x.doing
 
-      -- a call of the page that is under way is some party's
+      -- A stage that the page has for its party n is that of some party's call under way.
       pub record Held (k : Kept) (n : ℕ) (stage : Stage) (latest : List (ℕ × Party T)) : Type 0 where
         pub party : ℕ
         pub who_is : hands.who k n ≡ Some party
@@ -138,10 +154,14 @@ module _ {T Call Stage Answer Room : Type 0} {of : machine.Structure Call Stage 
         pub found : party_of party latest ≡ Some (going (tie.start (tie.call_at stage)) steps backs (tie.flight room stage) since)
         pub number_is : by.number party (tie.call_at stage) ≡ n
 
+      -- What holds between the page's world and the machine's, before and after each turn.
       pub record Inv (w : machine.World Call Stage Answer) (k : Kept) (words : List ℕ) (latest : List (ℕ × Party T)) (events : List (Event T)) : Type 0 where
+        -- the page has the machine's words, with each role taken, and the words of the roles tell who is free
         pub blanked : w.words ≡ hands.blank words
         pub tells : hands.Tells k words
+        -- the page's history is what the machine's events tell of the page's calls
         pub told_is : all_told by events ≡ w.history
+        -- each party's call stands where it may, and each stage of the page is of some party's call
         pub stands : (p : ℕ) → Stands k w.pending p (party_of p latest)
         pub held : (n : ℕ) (stage : Stage) → w.pending n ≡ Some stage → Held k n stage latest
 
@@ -160,9 +180,11 @@ module _ {T Call Stage Answer Room : Type 0} {of : machine.Structure Call Stage 
             turns = turns;
           }
 
+      -- the trace with this world and these events
       abbrev pub trace : Registry T → List ℕ → List (ℕ × Party T) → ℕ → ℕ → List (Event T) → Trace T
       trace kept words latest changes turns events = record { world = world_with kept words latest changes turns; events = events }
 
+      -- The machine's trace runs the page's world: some roles, words and parties of it satisfy `Inv`.
       pub record Sim (w : machine.World Call Stage Answer) (t : Trace T) : Type 0 where
         pub k : Kept
         pub words : List ℕ
@@ -181,10 +203,12 @@ module _ {T Call Stage Answer Room : Type 0} {of : machine.Structure Call Stage 
           → (q : ℕ) → Stands k pending q (party_of q (put p x latest))
       put_stands k pending p x latest here others q = ⊎_elim same other (cases_eq q p)
         where
+          -- the call that is put in stands for its own party
           same : q ≡ p → Stands k pending q (party_of q (put p x latest))
           same e =
               subst (λ n. Stands k pending n (party_of n (put p x latest))) (sym e) (subst (Stands k pending p) (sym (party_put_same p x latest)) here)
 
+          -- any other party's call stands as before
           other : q ≢ p → Stands k pending q (party_of q (put p x latest))
           other ne = subst (Stands k pending q) (sym (party_put_other q p x latest ne)) (others q ne)
 
@@ -230,19 +254,23 @@ module _ {T Call Stage Answer Room : Type 0} {of : machine.Structure Call Stage 
             number_is = h.number_is;
           }
 
+      -- events in which the page sees no call tell the page nothing
       pub unseen_untold : (es : List (Event T)) → all_seen by.reading es ≡ [] → all_told by es ≡ []
       unseen_untold [] sees_none = refl
       unseen_untold (Begun p start ∷ es) sees_none = absurd (cc)
       unseen_untold (Finished p start answer ∷ es) sees_none = absurd (cc)
       unseen_untold (other ∷ es) sees_none = unseen_untold es sees_none
 
+      -- what more events tell is appended to the page's history
       pub told_more : (events more : List (Event T)) (history new : List (machine.Event Call Answer)) → all_told by events ≡ history → all_told by more ≡ new
           → all_told by (events ++ more) ≡ history ++ new
       told_more events more history new e f = flat_map-append (told by) events more ∙ (ap (λ h. h ++ all_told by more) e ∙ ap (λ h. history ++ h) f)
 
+      -- the stage that was put is there
       pub put_same : (n : ℕ) (o : Option Stage) (pending : ℕ → Option Stage) → machine.put n o pending n ≡ o
       put_same n o pending = let same : (n == n) ≡ true = grind (arith, nat_tests) in ap (λ b. cond b o (pending n)) same
 
+      -- any other stage stays
       pub put_other : (n m : ℕ) (o : Option Stage) (pending : ℕ → Option Stage) → m ≢ n → machine.put n o pending m ≡ pending m
       put_other n m o pending ne = let other : (m == n) ≡ false = grind (arith, nat_tests) in ap (λ b. cond b o (pending m)) other
 

@@ -1,4 +1,8 @@
--- A call under way goes on, on a machine on which roles change hands and on the page that it runs.
+-- A call under way takes a step, on a machine on which roles change hands and on the page that it runs: the
+-- machine's trace `t` runs the page's world `w` (`Sim`) after the step too, whether it is a call of the page
+-- (`goes_on`) or not (`goes_on_other`). Here `by` names the page's party for a party's call, `tie` gives the
+-- model's stages for the page's, `hands` says who has which role, `k` is what the machine keeps of the roles,
+-- and `inv` what holds before the step (`Inv` of `Hands.antt`).
 use Rattle.std.proofs.Common.{◌⊎◌, inl, inr}
 use Rattle.std.specs.Prelude.{slice_set}
 use Rattle.model.proofs.Names.{fold, Bool, Coding, List, None, Option, Some, Trace, World, [], after_next, after_step}
@@ -39,9 +43,11 @@ module _ {T Call Stage Answer Room : Type 0} {of : machine.Structure Call Stage 
       module _ (w : machine.World Call Stage Answer) (k : Kept) (words : List ℕ) (latest : List (ℕ × Party T)) (changes turns : ℕ) (events : List (Event T))
           (inv : Inv by tie hands w k words latest events)
         where
+          -- the machine's world before the step
           abbrev world : World T
           world = world_with by tie hands (hands.registry k) words latest changes turns
 
+          -- the machine's trace before the step
           abbrev t : Trace T
           t = trace by tie hands (hands.registry k) words latest changes turns events
 
@@ -55,10 +61,12 @@ module _ {T Call Stage Answer Room : Type 0} {of : machine.Structure Call Stage 
                 events = events ++ (s.wrote ++ ending_of p x.start (answer_in s.after));
               }
 
+          -- the model's step of a party's call, by the operation that it asks for
           abbrev step_at : ℕ → Start T → Flight T → Option Ask → Step (Flight T) (Registry T) T
           step_at p start flight ask =
               step_of code words (beside_of words (hands.registry k) latest p) p start flight (old_of words ask) (hands.registry k)
 
+          -- the trace after a step of a party whose latest call is `o`
           abbrev after_party : ℕ → Option (Party T) → Trace T
           after_party p o = record { world = after_next world p o; events = events ++ events_of_next world p o }
 
@@ -70,7 +78,9 @@ module _ {T Call Stage Answer Room : Type 0} {of : machine.Structure Call Stage 
               (step_at p start flight (ask_of (want_of code flight)))
           next_is p start steps backs flight since here = ap (after_party p) here
 
-          -- the page's world after a step of this call
+          -- The page's world after a step of a call of the page. The party's call is the page's (`mine`), the
+          -- page reads it as that call (`reads`), and the word that it operates on is the same as on the
+          -- machine (`old`).
           own_comes : (p : ℕ) (x : Party T) (stage : Stage) → party_of p latest ≡ Some x → x.start ≡ tie.start (tie.call_at stage)
               → w.pending (by.number p (tie.call_at stage)) ≡ Some stage → tie.fits stage ≡ true
               → fold (machine.turned of) w (turn_taken by world (Next p))
@@ -94,7 +104,7 @@ module _ {T Call Stage Answer Room : Type 0} {of : machine.Structure Call Stage 
               ∙ ap (λ ws. machine.gone of w n (slice_set ws word (machine.written op (slice_index words word))) ((of.does stage).2 (slice_index words word)))
               inv.blanked))))
 
-          -- a place of the page where a call of this party is under way has no call of it elsewhere
+          -- a call of the page that is under way for another of the page's parties is not this party's call
           one_place : (p : ℕ) (stage : Stage) (steps backs : ℕ) (flight : Flight T) (since m : ℕ) (other : Stage) (h : Held by tie hands k m other latest)
               → party_of p latest ≡ Some (going (tie.start (tie.call_at stage)) steps backs flight since) → m ≢ by.number p (tie.call_at stage) → h.party ≢ p
           one_place p stage steps backs flight since m other h here ne e =
@@ -105,7 +115,8 @@ module _ {T Call Stage Answer Room : Type 0} {of : machine.Structure Call Stage 
               sym (tie.reads_start (tie.call_at other)) ∙ (ap by.reading.call (started both) ∙ tie.reads_start (tie.call_at stage)) in
               ne (sym h.number_is ∙ (ap (λ i. by.number i (tie.call_at other)) e ∙ ap (by.number p) calls))
 
-          -- the two machines stay the same after a step of the page's call that comes to this
+          -- After a step of the page's call that comes to `a` the machine's trace still runs the page's
+          -- world. The cases are whether the call goes on (`GoOn next`) or is done (`Done answer`).
           finish : (p : ℕ) (steps backs since : ℕ) (r next_room : Room) (stage : Stage) (ask : Option Ask) (back : Bool) (wrote : List (Event T)) (ws : List ℕ)
               → party_of p latest ≡ Some (going (tie.start (tie.call_at stage)) steps backs (tie.flight r stage) since)
               → w.pending (by.number p (tie.call_at stage)) ≡ Some stage
@@ -156,14 +167,15 @@ module _ {T Call Stage Answer Room : Type 0} {of : machine.Structure Call Stage 
                     };
               }
             where
-              -- where the call goes on, each stage that the page has then is that of a call under way on the model
+              -- if the call goes on, each stage that the page has then is that of a call under
+              -- way on the machine
               held : (m : ℕ) (other : Stage) → machine.put (by.number p (tie.call_at stage)) (Some next) w.pending m ≡ Some other
                   → Held by tie hands k m other
                   (put p (going (tie.start (tie.call_at stage)) (steps + step_count ask) (backs + one_if back) (tie.flight next_room next)
                   (since + change_of words ask)) latest)
               held m other e = ⊎_elim same apart (cases_eq m (by.number p (tie.call_at stage)))
                 where
-                  -- so it is of the role whose call goes on
+                  -- the page's party whose call goes on: its stage is `next`
                   same : m ≡ by.number p (tie.call_at stage)
                       → Held by tie hands k m other
                       (put p (going (tie.start (tie.call_at stage)) (steps + step_count ask) (backs + one_if back) (tie.flight next_room next)
@@ -190,10 +202,11 @@ module _ {T Call Stage Answer Room : Type 0} {of : machine.Structure Call Stage 
                         number_is = ap (by.number p) right.0 ∙ sym is;
                       })
                     where
+                      -- an option has one value
                       the_same : {party_after y : Stage} → Some party_after ≡ Some y → party_after ≡ y
                       the_same e = cc
 
-                  -- so it is of every other role
+                  -- any other party of the page: its stage was there before, and is another party's call
                   apart : m ≢ by.number p (tie.call_at stage)
                       → Held by tie hands k m other
                       (put p (going (tie.start (tie.call_at stage)) (steps + step_count ask) (backs + one_if back) (tie.flight next_room next)
@@ -246,7 +259,8 @@ module _ {T Call Stage Answer Room : Type 0} {of : machine.Structure Call Stage 
                     };
               }
             where
-              -- where the call ends, each stage that the page still has is that of a call under way on the model
+              -- if the call is done, each stage that the page still has is that of a call under
+              -- way on the machine
               held : (m : ℕ) (other : Stage) → machine.put (by.number p (tie.call_at stage)) None w.pending m ≡ Some other
                   → Held by tie hands k m other
                   (put p
@@ -269,10 +283,12 @@ module _ {T Call Stage Answer Room : Type 0} {of : machine.Structure Call Stage 
                   held_there.who_is)
                   (cases_eq m (by.number p (tie.call_at stage)))
                 where
+                  -- none is no value
                   none_some : {A : Type 0} {x : Stage} → None ≡ Some x → A
                   none_some e = absurd (cc)
 
-          -- as a call of the page takes a step the two machines stay the same
+          -- A step of a call of the page is a step of that call on the page, and the machine's trace runs the
+          -- page's world after it.
           pub goes_on : (p : ℕ) (steps backs since : ℕ) (start : Start T) (flight : Flight T) → party_of p latest ≡ Some (going start steps backs flight since)
               → OwnAt by tie hands k w.pending p start flight
               → Sim by tie hands (fold (machine.turned of) w (turn_taken by world (Next p))) (after_turn t (Next p))
@@ -283,14 +299,17 @@ module _ {T Call Stage Answer Room : Type 0} {of : machine.Structure Call Stage 
               let ask = Some (asked word op) in
               let old = slice_index words word in
               let x = going (tie.start (tie.call_at stage)) steps backs (tie.flight a.room stage) since in
+              -- the party's latest call is the page's, at this stage
               let found : party_of p latest ≡ Some x =
               here
               ∙ (ap (λ s. Some (going s steps backs flight since)) a.start_is
               ∙ ap (λ f. Some (going (tie.start (tie.call_at stage)) steps backs f since)) a.flight_is) in
+              -- what the model's step comes to, and which words it leaves
               let comes = hands.goes k words (beside_of words (hands.registry k) latest p) p a.room stage old a.fits in
               let leaves = hands.leaves k words stage a.fits inv.tells in
               let step = step_at p (tie.start (tie.call_at stage)) (tie.flight a.room stage) ask in
               let wrote_words : words_after words ask ≡ slice_set words word (machine.written op old) = words_same words word op in
+              -- the trace after the turn
               let is : after_turn t (Next p)
               ≡ made (hands.registry k) p x since ask
               (record {
@@ -331,6 +350,7 @@ module _ {T Call Stage Answer Room : Type 0} {of : machine.Structure Call Stage 
               let step = step_at p start flight ask in
               let s = hands.goes_other k words (beside_of words (hands.registry k) latest p) p start flight a inv.tells in
               let mine = hands.not_own k p start flight a in
+              -- the page takes no turn
               let comes : fold (machine.turned of) w (turn_taken by world (Next p)) ≡ w =
               ap (λ o. fold (machine.turned of) w (next_taken by p o)) here
               ∙ ap (λ c. fold (machine.turned of) w (cond c (machine.Next (by.number p (by.reading.call start)) ∷ []) [])) mine in
@@ -345,7 +365,7 @@ module _ {T Call Stage Answer Room : Type 0} {of : machine.Structure Call Stage 
               (other_made s.next step.after step.back step.wrote (λ then e. s.stays then e) s.who_is s.others
               s.blank_is s.tells (ap (all_seen by.reading) s.silent) mine))
             where
-              -- the other parties' calls stand as they may, whatever the step comes to
+              -- the machine's trace runs the page's world after the step, whatever the step comes to
               other_made : (next : Kept) (after : After (Flight T) (answers.Answer T)) (back : Bool) (wrote : List (Event T))
                   → ((then : Flight T) → after ≡ afters.GoOn then → hands.Other next p start then)
                   → ((n : ℕ) → (hands.who next n ≡ hands.who k n) ⊎ ((hands.who k n ≡ None) ⊎ (hands.who k n ≡ Some p)))
@@ -394,12 +414,14 @@ module _ {T Call Stage Answer Room : Type 0} {of : machine.Structure Call Stage 
                         };
                   }
                 where
+                  -- the end of a call that the page has not is no response on the page
                   no_ending : (after : After (Flight T) (answers.Answer T)) → all_told by (ending_of p start (answer_in after)) ≡ []
                   no_ending (afters.GoOn then) = refl
                   no_ending (afters.Done answer) =
                       ap (λ c. cond c (machine.Responded (by.number p (by.reading.call start)) (by.reading.answer answer) ∷ []) [] ++ []) mine
 
-                  -- where such a call goes on it stands as it may, and one that is over has nothing to show
+                  -- a call that goes on is one that the page has not, and of one that is over there is
+                  -- nothing to show
                   stands_then : (after : After (Flight T) (answers.Answer T))
                       → ((then : Flight T) → after ≡ afters.GoOn then → hands.Other next p start then)
                       → StandsAt by tie hands next w.pending p start
@@ -412,6 +434,7 @@ module _ {T Call Stage Answer Room : Type 0} {of : machine.Structure Call Stage 
                   who_then m is ne =
                       ⊎_elim (λ same. same ∙ is) (λ others. ⊎_elim (λ none. absurd (no_one (sym none ∙ is))) (λ mine. not_two mine is ne) others) (who_is m)
                     where
+                      -- the option of no party is not that of a party
                       no_one : {q : ℕ} → None ≡ Some q → ⊥
                       no_one e = absurd (cc)
 

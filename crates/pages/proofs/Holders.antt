@@ -22,6 +22,7 @@ use Rattle.pages.specs.UniqueIndexSetBridge as bridge
 
 -- ---- histories that grow
 
+-- a history of the page: its invocations and responses
 abbrev pub History : Type 0
 History = List (machine.Event page.Call page.Answer)
 
@@ -52,13 +53,18 @@ locked_push h e = fold_push page.locked_after false h e
 -- ---- what goes along
 
 module _ (c : ℕ) where
+  -- a state of the page's machine, a set of `c` indices
   abbrev pub Page : Type 0
   Page = machine.World page.Call page.Stage page.Answer
 
+  -- What is known of a run of the model: each of its events is right for a set of `c` indices, and
+  -- the registry has the holders that the events tell.
   pub record Knows (events : List (Event ℕ)) (k : registries.Registry ℕ) : Type 0 where
     pub holds : readings.Each (HoldsRight c) events
     pub keeps : KeepsHolders k events
 
+  -- The page sees this history of the model's events, and who holds an index on the page holds it by the
+  -- events. If the page is locked, so is the model. Each event of the page's history is right.
   pub record Rel (events : List (Event ℕ)) (h : History) (pending : ℕ → Option page.Stage) : Type 0 where
     pub told : all_seen bridge.reading events ≡ h
     pub held : (i p : ℕ) → page.holder i h ≡ Some p → (holder_of i events ≡ Some p) × (i < c)
@@ -67,9 +73,12 @@ module _ (c : ℕ) where
     -- who is about to free an index has it, and has it no more on the page
     pub releasing : (p i : ℕ) (l : Bool) → pending p ≡ Some (page.ReleaseClearsFlag i l) → (page.holder i h ≡ None) × (holder_of i events ≡ Some p)
 
+  -- The model's events are related (`Rel`) to the history and the pending stages of a page's state.
   abbrev pub Related : List (Event ℕ) → registries.Registry ℕ → Page → Type 0
   Related events k w = Rel events w.history w.pending
 
+  -- The events `es`, of which the page sees `hs`, change no holder, neither of the model nor of
+  -- the page. If the page is locked after them, so is the model.
   pub record Same (events es : List (Event ℕ)) (h hs : History) : Type 0 where
     pub seen : all_seen bridge.reading es ≡ hs
     pub holders : (j : ℕ) → holder_of j (events ++ es) ≡ holder_of j events
@@ -197,7 +206,7 @@ module _ (c : ℕ) where
           the_index (Some stage) = index_of stage
           the_index None = 0
 
-          -- so it is of the party that begins the release, and of every other
+          -- the cases are whether q is the party that begins the release
           go : (b : Bool) → (q == p) ≡ b → cond b (Some (page.ReleaseClearsFlag i l)) (pending q) ≡ Some (page.ReleaseClearsFlag j m)
               → (page.holder j (h ++ machine.Invoked p (page.Release i l) ∷ []) ≡ None)
               × (holder_of j (events ++ Begun p (Indices (bridge.index_start (page.Release i l))) ∷ []) ≡ Some q)
@@ -353,7 +362,7 @@ module _ (c : ℕ) where
       })
       (λ q j l e. (other_stays p None pending (λ j l e. absurd (cc)) q j l e).1)
 
-  -- as any call responds, the page and the events say the same of holders
+  -- when any call responds, the page's history and the model's events agree on who holds which index
   pub responds : (events : List (Event ℕ)) (h : History) (pending : ℕ → Option page.Stage) (start : Start ℕ) (p : ℕ)
       (answer : page.Answer)
       → Rel events h pending

@@ -8,6 +8,7 @@ use Rattle.model.proofs.Linearizable.Members.{AllLater, here, none_there, split,
 use Rattle.pages.specs.Machine.{Called, Event, calls_from}
 use Rattle.pages.specs.Places.{Act, ActsAt, IsChain}
 
+-- an entry of a sequence: a call, and what it did at the place
 abbrev pub Entry : (Call Answer : Type 0) → Type 0
 Entry Call Answer = Called Call Answer × Act
 
@@ -15,6 +16,7 @@ module _ {Call Answer : Type 0} where
   abbrev entry : Called Call Answer → Act → Entry Call Answer
   entry c act = (c, act)
 
+  -- The call `c` was invoked before `d`, and its response, if there is one, came before that too.
   abbrev pub Before : Called Call Answer → Called Call Answer → Type 0
   Before c d = (c.place < d.place) × IfSome c.response (λ r. r.0 < d.place)
 
@@ -36,6 +38,7 @@ module _ {Call Answer : Type 0} where
       (λ rest. ⊎_elim (λ f. inr (inr (subst (λ d. Before d c) f (all.0 c rest)))) (λ more. ordered cs all.1 c d rest more) (split x d cs b))
       (split x c cs a)
 
+  -- The call of the first entry was invoked before that of the second.
   abbrev Sorted : Entry Call Answer → Entry Call Answer → Type 0
   Sorted x y = x.0.place < y.0.place
 
@@ -89,10 +92,11 @@ module _ {Call Answer : Type 0} where
     acted [] = []
     acted (c ∷ cs) = did_with c c.response ++ acted cs
 
+    -- The call has responded.
     abbrev pub Responds : Called Call Answer → Type 0
     Responds c = (r : ℕ × Answer) × (c.response ≡ Some r)
 
-    -- who acted is a call that did so
+    -- an entry that acted is a call whose answer acts at the place
     acted_from : (cs : List (Called Call Answer)) (z : Entry Call Answer) → Contains (acted cs) z
         → Contains cs z.0 × ((r : ℕ × Answer) × ((z.0.response ≡ Some r) × (at z.0.call r.1 ≡ Some z.1)))
     acted_from [] z h = absurd (none_there z h)
@@ -118,7 +122,7 @@ module _ {Call Answer : Type 0} where
                 (here c c cs refl, (r, (e, f))))
                 rest (split this z (acted cs) h)
 
-    -- a completed call whose answer acts at the place is among those that did so
+    -- a completed call whose answer acts at the place is among the entries that acted
     acted_to : (cs : List (Called Call Answer)) (c : Called Call Answer) (r : ℕ × Answer) (act : Act) → Contains cs c → c.response ≡ Some r
         → at c.call r.1 ≡ Some act → Contains (acted cs) (c, act)
     acted_to [] c r act h e f = absurd (none_there c h)

@@ -54,7 +54,7 @@ module _ {Call Answer : Type 0} (at : Call → Answer → Option Act) where
   abbrev InTime : Entry → Entry → Type 0
   InTime x y = IfSome y.0.response (λ r. x.0.place ≤ r.0)
 
-  -- the log of a history, which leaves this at the place
+  -- the log of what a history's calls did at the place, in the order of their acts, which lead from 0 to `v`
   pub record Core (h : List (Event Call Answer)) (log : List Entry) (v : ℕ) : Type 0 where
     pub chain : IsChain 0 (acts log) v
     pub invoked : (x : Entry) → Contains log x → Contains (calls_from h 0) x.0
@@ -70,12 +70,14 @@ module _ {Call Answer : Type 0} (at : Call → Answer → Option Act) where
   Linked place p call None log = (x : Entry) → Contains log x → x.0.place ≢ place
   Linked place p call (Some act) log = Contains log (open_call place p call, act)
 
+  -- The one open call of party `p`, which has done `did` at the place.
   pub record IsOpen (h : List (Event Call Answer)) (log : List Entry) (p : ℕ) (call : Call) (did : Option Act) : Type 0 where
     pub place : ℕ
     pub called : Contains (calls_from h 0) (open_call place p call)
     pub only : (c : Called Call Answer) → Contains (calls_from h 0) c → c.party ≡ p → c.response ≡ None → c.place ≡ place
     pub linked : Linked place p call did log
 
+  -- Party `p` has no open call, or its open call has done this at the place.
   abbrev pub Party : List (Event Call Answer) → List Entry → ℕ → Option (Call × Option Act) → Type 0
   Party h log p None = (c : Called Call Answer) → Contains (calls_from h 0) c → c.party ≡ p → c.response ≢ None
   Party h log p (Some x) = IsOpen h log p x.0 x.1

@@ -121,6 +121,7 @@ roles_stay : (p : ℕ) (call : page.Call) (outcome : Option (Answer ℕ)) (roles
 roles_stay p (page.Push value) outcome roles = refl
 roles_stay p page.Pop outcome roles = refl
 
+-- What a step came to is the same, told as of a call on queues and as of any call.
 went_same : (c before : ℕ) (a : (machine.After page.Stage (Option ℕ)))
     → as_call flights.Queues (λ (answer : Answer ℕ). answer) (went c before a)
     ≡ simulates.went (λ stage. flights.Queues (flight c before stage)) answered a
@@ -200,6 +201,7 @@ tie c some =
     refuses p (page.Push value) refused = lacks_row 0 p refused
     refuses p page.Pop refused = lacks_row 1 p refused
 
+    -- The model begins a call at the stage that the page begins it.
     begins : (call : page.Call)
         → model.first_of kinds.Overflow c (Queues (queue_start call)) kept
         ≡ Some (flights.Queues (flight c 0 (page.first call)))
@@ -307,6 +309,7 @@ same_turns c some [] = refl
 same_turns c some (machine.Begin p call ∷ turns) = ap (λ ts. as_turn (machine.Begin p call) ∷ ts) (same_turns c some turns)
 same_turns c some (machine.Next p ∷ turns) = ap (λ ts. as_turn (machine.Next p) ∷ ts) (same_turns c some turns)
 
+-- The run is one of the model's, since the opening is and each turn keeps that.
 reached : (c : ℕ) (turns : List (Turn ℕ)) → c < 2 ^ 32 → IsReached (run turns (acquired c))
 reached c turns few =
     run_keeps refusal_of IsReached (λ t turn e r. reached_more t turn e r) turns (acquired c)
@@ -338,9 +341,11 @@ linearizable c turns more few small =
     meeting.events meeting.own (among meeting.events) (within meeting.events)
     (run_linearizable run_now keeps))
 
+-- each stage asks for what the code's function asks for, and goes on as it does
 pub code : OverflowingDoesAsTheCode
 code c before stage = (asks_same c before stage, after_same c before stage)
 
+-- the words, invocations and responses of the page's machine are those of the model's
 pub runs : OverflowingRunsAsTheMachine
 runs c turns more few small =
     let meeting = simulated c turns (some_is c more) small in

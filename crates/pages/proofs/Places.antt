@@ -19,16 +19,20 @@ pub data Moves {Call Answer : Type 0} (at : Call → Answer → Option Act) (cal
 
 module _ {Call Stage Answer : Type 0} (of : Structure Call Stage Answer) (at : Call → Answer → Option Act) where
   module _ (call_at : Stage → Call) (did : Stage → Option Act) (Fits : Stage → Type 0) where
+    -- A call's first stage is one of that call, has done nothing at the place yet, and fits.
     pub record Begins (call : Call) : Type 0 where
       pub is : call_at (of.first call) ≡ call
       pub nothing : did (of.first call) ≡ None
       pub fits : Fits (of.first call)
 
+    -- A call goes on to the stage `next`, by a step that takes the place from `v` to `w`.
     pub record GoesOn (stage next : Stage) (v w : ℕ) : Type 0 where
       pub call : call_at next ≡ call_at stage
       pub fits : Fits next
       pub moves : Moves at (call_at stage) (did stage) (did next) v w
 
+    -- What a step from this stage came to is right: a call that goes on has done at the place what
+    -- its next stage says, and one that is done what its answer says.
     abbrev pub Goes : Stage → After Stage Answer → ℕ → ℕ → Type 0
     Goes stage (GoOn next) v w = GoesOn stage next v w
     Goes stage (Done answer) v w = Moves at (call_at stage) (did stage) (at (call_at stage) answer) v w
@@ -58,10 +62,13 @@ module _ {Call Stage Answer : Type 0} (of : Structure Call Stage Answer) (at : C
     Pending None = None
     Pending (Some stage) = Some (law.call_at stage, law.did stage)
 
+    -- The stage of a pending call fits.
     abbrev FitsIn : Option Stage → Type 0
     FitsIn None = Unit {0}
     FitsIn (Some stage) = law.Fits stage
 
+    -- After `n` turns there is a log of what the calls did at the place, and it has what each
+    -- party's pending call did there.
     record Holds (w : World Call Stage Answer) (n : ℕ) : Type 0 where
       pub log : List (Entry at)
       pub good : law.Good n w.words
@@ -69,6 +76,7 @@ module _ {Call Stage Answer : Type 0} (of : Structure Call Stage Answer) (at : C
       pub fits : (p : ℕ) → FitsIn (w.pending p)
       pub parties : (p : ℕ) → Party at w.history log p (Pending (w.pending p))
 
+    -- P holds of each party and its stage, once party `p` has the stage `o`.
     abbrev Putting : ℕ → Option Stage → (ℕ → Option Stage) → (ℕ → Option Stage → Type 0) → Type 0
     Putting p o pending P = (q : ℕ) → P q (machine.put p o pending q)
 
@@ -174,6 +182,7 @@ module _ {Call Stage Answer : Type 0} (of : Structure Call Stage Answer) (at : C
             → Goes law.call_at law.did law.Fits stage a (law.value w.words) (law.value words)
             → Holds (machine.gone of w p words a) (n + 1)
         by (GoOn next) words good own goes =
+            -- the log after what the step did at the place
             let l = logged w.history s.log (law.value w.words) (law.value words) p (law.call_at stage) (law.did stage) (law.did next) s.core own goes.moves in
             record {
               log = l.log;
@@ -186,6 +195,7 @@ module _ {Call Stage Answer : Type 0} (of : Structure Call Stage Answer) (at : C
             }
         by (Done answer) words good own goes =
             let call = law.call_at stage in
+            -- the log after what the step did at the place, and then after the response
             let l = logged w.history s.log (law.value w.words) (law.value words) p call (law.did stage) (at call answer) s.core own goes in
             let h = w.history ++ Responded p answer ∷ [] in
             let done = logs.log_done at w.history l.log (law.value words) l.core p call answer l.own in
@@ -220,7 +230,7 @@ module _ {Call Stage Answer : Type 0} (of : Structure Call Stage Answer) (at : C
         go None e = waits w n s
         go (Some stage) e = goes_on w n p stage few s e
 
-    -- after a list of turns, each taken when few enough have been, there is such a log
+    -- after a list of turns, each within the number of turns that the law allows (`Few`), there is such a log
     all_turns : (turns : List (Turn Call)) (w : World Call Stage Answer) (n : ℕ) → ((k : ℕ) → n ≤ k → k < n + length turns → law.Few k) → Holds w n
         → Holds (fold (machine.turned of) w turns) (n + length turns)
     all_turns [] w n few s = let same : n ≡ n + 0 = omega arith in subst (Holds w) same s
@@ -251,6 +261,7 @@ module _ {Call Stage Answer : Type 0} (of : Structure Call Stage Answer) (at : C
           real_time = pairs_of (λ x y. IfSome y.0.response (λ r. x.0.place ≤ r.0)) s.log s.core.real_time;
         }
 
+    -- After so few turns the calls of the machine act at the place, each at one moment.
     pub acts : (turns : List (Turn Call)) → ((k : ℕ) → k < length turns → law.Few k)
         → ActsAt at (fold (machine.turned of) (machine.opening of) turns).history (law.value (fold (machine.turned of) (machine.opening of) turns).words)
     acts turns few =

@@ -120,7 +120,7 @@ right c (page.PushLoadsWrite value) old = go (old == 2 ^ 64 - 1)
     go false = (refl, refl)
 right c (page.PushLoadsRead value write) old = go (c == 0) refl ((write + 2 ^ 64 - old) % 2 ^ 64 == c)
   where
-    -- so it is of a push that has loaded the read position
+    -- the cases are whether the queue has no room at all, and whether it is full
     go : (a : Bool) → (c == 0) ≡ a → (d : Bool)
         → GoesRight call_at (fits c) (page.Push value)
         (cond (a || d) (machine.Done (page.Pushed false)) (machine.GoOn (page.PushStoresCell value write)))
@@ -147,6 +147,7 @@ roles_stay : (p : ℕ) (call : page.Call) (outcome : Option (Answer ℕ)) (roles
 roles_stay p (page.Push value) outcome roles = refl
 roles_stay p page.Pop outcome roles = refl
 
+-- What a step came to is the same, told as of a call on queues and as of any call.
 went_same : (c : ℕ) (a : (machine.After page.Stage page.Answer))
     → as_call flights.Queues (λ (answer : Answer ℕ). answer) (went c a)
     ≡ simulates.went (λ stage. flights.Queues (flight c stage)) answered a
@@ -225,6 +226,7 @@ tie c few =
     refuses p (page.Push value) refused = lacks_row 0 p refused
     refuses p page.Pop refused = lacks_row 1 p refused
 
+    -- The model begins a call at the stage that the page begins it.
     begins : (call : page.Call)
         → model.first_of kinds.IndexQueue c (Queues (queue_start call)) kept
         ≡ Some (flights.Queues (flight c (page.first call)))
@@ -266,7 +268,7 @@ number_front [] = refl
 number_front (Index value ∷ items) = refl
 number_front (Value value ∷ items) = refl
 
--- the page's list after a call, and its answer
+-- the page's list after a call
 one_after : (capacity : ℕ) (items : List (Item ℕ)) (start : Start ℕ) → is_push_or_pop start ≡ true
     → map number (list_after capacity items start) ≡ (page.listed capacity (map number items) (call_seen start)).1
 one_after capacity items (Queues (PushIndex value)) own = pushed_after capacity items (Index value)
@@ -322,6 +324,7 @@ same_turns c few [] = refl
 same_turns c few (machine.Begin p call ∷ turns) = ap (λ ts. as_turn (machine.Begin p call) ∷ ts) (same_turns c few turns)
 same_turns c few (machine.Next p ∷ turns) = ap (λ ts. as_turn (machine.Next p) ∷ ts) (same_turns c few turns)
 
+-- The run is one of the model's, since the opening is and each turn keeps that.
 reached : (c : ℕ) (turns : List (Turn ℕ)) → c < 2 ^ 32 → IsReached (run turns (acquired c))
 reached c turns few =
     run_keeps refusal_of IsReached (λ t turn e r. reached_more t turn e r) turns (acquired c)
@@ -331,6 +334,7 @@ reached c turns few =
 abbrev world_of : ℕ → List (machine.Turn page.Call) → (machine.World page.Call page.Stage page.Answer)
 world_of c turns = fold (machine.turned (page.index_queue c)) (machine.opening (page.index_queue c)) turns
 
+-- The model's run goes along with the page's machine after fewer than 2^63 turns.
 simulated : (c : ℕ) (turns : List (machine.Turn page.Call)) (few : c < 2 ^ 32) → length turns < 2 ^ 63
     → Sim (tie c few) 2 roles_told (world_of c turns) (0 + length turns) (run (map as_turn turns) (acquired c))
 simulated c turns few small =
@@ -350,9 +354,11 @@ linearizable c turns few small =
     meeting.events meeting.own (among meeting.events) (within meeting.events)
     (run_linearizable run_now keeps))
 
+-- each stage asks for what the code's function asks for, and goes on as it does
 pub code : DoesAsTheCode
 code c stage few fits = (asks_same c stage few fits, after_same c stage)
 
+-- the words, invocations and responses of the page's machine are those of the model's
 pub runs : RunsAsTheMachine
 runs c turns few small =
     let meeting = simulated c turns few small in

@@ -54,6 +54,7 @@ abbrev pub blank : List ℕ → List ℕ
 blank (write ∷ read ∷ producer ∷ consumer ∷ cells) = write ∷ read ∷ 0 ∷ 0 ∷ cells
 blank words = words
 
+-- The words of a page: its two positions, a word for each role that says whether it is free, and the cells.
 pub record Tells (roles : Roles) (words : List ℕ) : Type 0 where
   pub write : ℕ
   pub read : ℕ
@@ -77,6 +78,7 @@ holder_is (Some q) p e = go (q == p) refl e
 
 -- a step at another word leaves those of the roles
 module _ (roles : Roles) (words : List ℕ) (t : Tells roles words) where
+  -- A step at this word leaves the words of the roles.
   abbrev LeavesAt : ℕ → Type 0
   LeavesAt word = Leaves blank (Tells roles) words word
 
@@ -115,6 +117,7 @@ module _ (roles : Roles) (words : List ℕ) (t : Tells roles words) where
 -- ---- the calls that a page of a queue has not
 
 module _ {T : Type 0} where
+  -- The call under way looks for the length, for itself or to see whether the queue is empty or full.
   pub record IsLength (flight : Flight T) : Type 0 where
     pub which : LengthOf
     pub run : Running lengths.Len (Unit {0}) (Unit {0})
@@ -140,6 +143,7 @@ module _ {T : Type 0} where
   OtherOf roles p IsFull flight = IsLength flight
   OtherOf roles p start flight = ⊥
 
+  -- A call under way that is no push and no pop of a queue is at the stage that its kind has.
   abbrev pub Other : Roles → ℕ → Start T → Flight T → Type 0
   Other roles p (Queues start) flight = OtherOf roles p start flight
   Other roles p start flight = ⊥
@@ -230,6 +234,7 @@ module _ {T : Type 0} where
 
     -- ---- their steps
 
+    -- What a step of a call that the page has not comes to: no event, and no change of the page's words.
     abbrev StepOf : Roles → ℕ → Start T → Flight T → List ℕ → Option (ℕ × ℕ) → Type 0
     StepOf roles p start flight words beside =
         OtherStep code registries.Queues who blank Tells Other roles p start flight words
@@ -376,6 +381,7 @@ module _ {T : Type 0} where
           who_is (suc zero) = inr (inr holder)
           who_is (suc (suc n)) = inl refl
 
+      -- A length loads, so it leaves the words.
       loads_alone : (pr co : Option ℕ) (stage : LenStage) → words_after (words_of pr co) (ask_of (len_asks stage)) ≡ words_of pr co
       loads_alone pr co LoadsWrite = refl
       loads_alone pr co (LoadsRead at) = refl
@@ -406,7 +412,8 @@ module _ {T : Type 0} where
         loading =
             step_of code (words_of pr co) beside p start flight (old_of (words_of pr co) (ask_of (want_of code flight))) (registries.Queues (both pr co))
 
-        -- a step that leaves the words and the roles, writes nothing, and goes on as such a call, comes to what it may
+        -- a step that leaves the words and the roles, writes nothing, and goes on as a call that the page has
+        -- not, is as `StepOf` asks
         loads : words_after (words_of pr co) (ask_of (want_of code flight)) ≡ words_of pr co
             → loading.kept ≡ registries.Queues (both pr co) → loading.wrote ≡ []
             → ((then : Flight T) → loading.after ≡ afters.GoOn then → Other (both pr co) p start then)
@@ -431,7 +438,7 @@ module _ {T : Type 0} where
           → IsLength then
       length_on which answer comes then e = goes_on_so IsLength (λ r. Length which r) (of_length which) answer as_it_is tt tt comes then e
 
-      -- a step of a peek comes to what it may
+      -- a step of a peek is as `StepOf` asks
       by_peek : (pr co : Option ℕ) (flight : Flight T) → IsPeek flight → StepOf (both pr co) p (Queues Peek) flight (words_of pr co) beside
       by_peek pr co (flights.Queues (Indices (rings.Peek run))) peek =
           loads (Queues Peek) (flights.Queues (Indices (rings.Peek run))) pr co (peeks_alone pr co run.call.stage) refl refl
@@ -441,7 +448,7 @@ module _ {T : Type 0} where
           (λ then e. goes_on_so IsPeek (λ r. Values (rings.Peek r)) (λ r. tt) popped_value (λ end given room. pop_answer (read_in code room) end) _ _ _ then e)
       by_peek pr co flight peek = absurd peek
 
-      -- each call that the page has not comes to what it may, from words that tell the roles
+      -- a step of each call that the page has not is as `StepOf` asks, from words that tell the roles
       by_start : (pr co : Option ℕ) (start : QueueStart T) (flight : Flight T) → Other (both pr co) p (Queues start) flight
           → StepOf (both pr co) p (Queues start) flight (words_of pr co) beside
       by_start pr co AcquireProducer flight h =
@@ -452,6 +459,7 @@ module _ {T : Type 0} where
           subst (λ f. StepOf (both pr co) p (Queues AcquireConsumer) f (words_of pr co) beside) (sym h) (acquires_consumer pr co)
       by_start pr co ReleaseConsumer flight h =
           subst (λ f. StepOf (both pr co) p (Queues ReleaseConsumer) f (words_of pr co) beside) (sym h.0) (releases_consumer pr co h.1)
+      -- looks load a word, and leave the words and the roles
       by_start pr co HasProducer flight h =
           subst (λ f. StepOf (both pr co) p (Queues HasProducer) f (words_of pr co) beside) (sym h)
           (loads (Queues HasProducer) (flights.Queues (look_of producer_word)) pr co refl refl refl (λ then e. ended e))
@@ -471,11 +479,12 @@ module _ {T : Type 0} where
           subst (λ f. StepOf (both pr co) p (Queues IsFull) f (words_of pr co) beside) (sym h.is)
           (loads (Queues IsFull) (flights.Queues (Length h.which h.run)) pr co (loads_alone pr co h.run.call.stage) refl refl
           (λ then e. length_on h.which _ _ then e))
+      -- pushes and pops are calls of the page
       by_start pr co (PushIndex value) flight h = absurd h
       by_start pr co (Push value) flight h = absurd h
       by_start pr co Pop flight h = absurd h
 
-    -- a step of a call that the page has not comes to what it may
+    -- a step of a call that the page has not is as `StepOf` asks
     pub goes_other : (roles : Roles) (words : List ℕ) (beside : Option (ℕ × ℕ)) (p : ℕ) (start : Start T) (flight : Flight T)
         → Other roles p start flight → Tells roles words → StepOf roles p start flight words beside
     goes_other roles words beside p (Queues start) flight h tells =

@@ -1,5 +1,5 @@
--- Each turn of a page's machine is a turn of the model's, where a relation goes along between the page's world, the model's events,
--- and what the model keeps beside its words.
+-- Each turn of a page's machine is a turn of the model's (`all_turns`), if a relation between the page, the
+-- model's events and its registry (what it keeps beside words) goes along with each step (`Relation`).
 use Rattle.std.proofs.Common.{◌^◌, is_none, is_some, nat_le}
 use Rattle.std.proofs.lemmas.Bool.Decides.{nat_tests}
 use Rattle.std.specs.List.{AllByRecursion}
@@ -39,11 +39,11 @@ module _ (Room : Type 0) {Call Stage Answer : Type 0} (of : machine.Structure Ca
   abbrev pub Page : Type 0
   Page = machine.World Call Stage Answer
 
-  -- what a call's step comes to, of which the model makes this
+  -- what a step of the page's call comes to on the page, if the model's step is `s`
   pub record StepsRight (call_at : Stage → Call) (start : Call → Start ℕ) (flight : Room → Stage → Flight ℕ) (answered : Answer → answers.Answer ℕ)
       (Fits : Stage → Type 0) (Known : List (Event ℕ) → Registry ℕ → Type 0) (Related : List (Event ℕ) → Registry ℕ → Page → Type 0)
       (events : List (Event ℕ)) (w : Page) (p : ℕ) (stage : Stage) (s : Step (Flight ℕ) (Registry ℕ) ℕ) : Type 0 where
-    pub room : Room
+    pub room : Room  -- what the model's call has besides, after the step
     pub after_is : s.after ≡ went (flight room) answered ((of.does stage).2 (slice_index w.words (of.does stage).0))
     pub goes : (next : Stage) → (of.does stage).2 (slice_index w.words (of.does stage).0) ≡ machine.GoOn next
         → (call_at next ≡ call_at stage) × Fits next
@@ -51,18 +51,18 @@ module _ (Room : Type 0) {Call Stage Answer : Type 0} (of : machine.Structure Ca
         → Related (events ++ (s.wrote ++ ending_of p (start (call_at stage)) (answer_in s.after))) s.kept (machine.stepped of w p (Some stage))
 
   pub record Relation : Type 1 where
-    pub call_at : Stage → Call
-    pub start : Call → Start ℕ
-    pub room : Room  -- as a call begins
-    pub flight : Room → Stage → Flight ℕ
-    pub answered : Answer → answers.Answer ℕ
+    pub call_at : Stage → Call  -- the call of which this is a stage
+    pub start : Call → Start ℕ  -- the model's call
+    pub room : Room  -- what the model's call has besides, as it begins
+    pub flight : Room → Stage → Flight ℕ  -- the model's stage
+    pub answered : Answer → answers.Answer ℕ  -- the model's answer
     pub Fits : Stage → Type 0  -- what holds of each stage to which calls come
-    pub Related : List (Event ℕ) → Registry ℕ → Page → Type 0
+    pub Related : List (Event ℕ) → Registry ℕ → Page → Type 0  -- the relation of the model's events and registry to the page
     pub Rule : Page → machine.Turn Call → Type 0  -- what the callers keep to
     pub Known : List (Event ℕ) → Registry ℕ → Type 0  -- what is known of each run of the model
     pub known : (t : Trace ℕ) → IsReached t → t.world.kind ≡ kind → t.world.capacity ≡ capacity → Known t.events t.world.kept
     pub first_at : (call : Call) → call_at (of.first call) ≡ call
-    pub first_fits : (call : Call) → Fits (of.first call)
+    pub first_fits : (call : Call) → Fits (of.first call)  -- next: how the model begins a call, and when it refuses to
     pub begins : (k : Registry ℕ) (call : Call) → first_of kind capacity (start call) k ≡ Some (flight room (of.first call))
     pub keeps : (k : Registry ℕ) (p : ℕ) (call : Call) → kept_after_begin one_word capacity (start call) p k ≡ k
     pub refuses : (events : List (Event ℕ)) (k : Registry ℕ) (w : Page) (p : ℕ) (call : Call) → Related events k w → of.may p call ≡ false
@@ -80,7 +80,7 @@ module _ (Room : Type 0) {Call Stage Answer : Type 0} (of : machine.Structure Ca
         (step_of one_word w.words beside p (start (call_at stage)) (flight r stage) (slice_index w.words (of.does stage).0) k)
 
   module _ (law : Relation) (parties : ℕ) where
-    abbrev pub world : Registry ℕ → List ℕ → List (ℕ × Party ℕ) → ℕ → ℕ → World ℕ
+    abbrev pub world : Registry ℕ → List ℕ → List (ℕ × Party ℕ) → ℕ → ℕ → World ℕ  -- the model's world, of these parties
     world k words latest changes turns =
         record {
           coding = one_word;
@@ -97,7 +97,7 @@ module _ (Room : Type 0) {Call Stage Answer : Type 0} (of : machine.Structure Ca
     abbrev pub trace : Registry ℕ → List ℕ → List (ℕ × Party ℕ) → ℕ → ℕ → List (Event ℕ) → Trace ℕ
     trace k words latest changes turns events = record { world = world k words latest changes turns; events = events }
 
-    abbrev pub as_turn : machine.Turn Call → Turn ℕ
+    abbrev pub as_turn : machine.Turn Call → Turn ℕ  -- the model's turn for a turn of the page
     as_turn (machine.Begin p call) = Begin p (law.start call)
     as_turn (machine.Next p) = Next p
 
@@ -106,7 +106,7 @@ module _ (Room : Type 0) {Call Stage Answer : Type 0} (of : machine.Structure Ca
     IsWithin (machine.Begin p call) = p < parties
     IsWithin (machine.Next p) = Unit {0}
 
-    abbrev going : Room → Stage → ℕ → ℕ → ℕ → Party ℕ
+    abbrev going : Room → Stage → ℕ → ℕ → ℕ → Party ℕ  -- a party of the model whose call is under way at this stage
     going r stage steps backs since =
         record { start = law.start (law.call_at stage); steps = steps; backs = backs; doing = Going (law.flight r stage) since }
 
@@ -117,9 +117,9 @@ module _ (Room : Type 0) {Call Stage Answer : Type 0} (of : machine.Structure Ca
       pub below : p < parties
       pub room : Room
       pub fits : law.Fits stage
-      pub is : o ≡ Some (going room stage steps backs since)
+      pub is : o ≡ Some (going room stage steps backs since)  -- the model's party is at this stage
 
-    abbrev pub Matches : ℕ → Option Stage → Option (Party ℕ) → Type 0
+    abbrev pub Matches : ℕ → Option Stage → Option (Party ℕ) → Type 0  -- both have no call, or the model's is at the page's stage
     Matches p None o = flight_of (doing_of o) ≡ None
     Matches p (Some stage) o = Goes p stage o
 
@@ -129,11 +129,11 @@ module _ (Room : Type 0) {Call Stage Answer : Type 0} (of : machine.Structure Ca
       pub turns : ℕ
       pub kept : Registry ℕ
       pub events : List (Event ℕ)
-      pub few : turns ≤ n
-      pub is : t ≡ trace kept w.words latest changes turns events
+      pub few : turns ≤ n  -- the model's trace has at most n turns
+      pub is : t ≡ trace kept w.words latest changes turns events  -- the trace runs the page's world: it has its words
       pub reached : IsReached t
       pub related : law.Related events kept w
-      pub matches : (p : ℕ) → Matches p (w.pending p) (party_of p latest)
+      pub matches : (p : ℕ) → Matches p (w.pending p) (party_of p latest)  -- each party's call is at its stage
 
     known_of : (w : Page) (n : ℕ) (t : Trace ℕ) → (s : Meets w n t) → law.Known s.events s.kept
     known_of w n t s = law.known (trace s.kept w.words s.latest s.changes s.turns s.events) (subst IsReached s.is s.reached) refl refl
@@ -144,7 +144,7 @@ module _ (Room : Type 0) {Call Stage Answer : Type 0} (of : machine.Structure Ca
         → (q : ℕ) → Matches q (machine.put p o pending q) (party_of q (put p x latest))
     put_matches p o x pending latest h all q = go (q == p) refl
       where
-        go : (b : Bool) → (q == p) ≡ b → Matches q (cond b o (pending q)) (party_of q (put p x latest))
+        go : (b : Bool) → (q == p) ≡ b → Matches q (cond b o (pending q)) (party_of q (put p x latest))  -- the cases are whether q is the party p
         go true t =
             let same : p ≡ q = grind (arith, nat_tests) in
             subst (λ r. Matches r o (party_of r (put p x latest))) same (subst (Matches p o) (sym (party_put_same p x latest)) h)
@@ -155,7 +155,7 @@ module _ (Room : Type 0) {Call Stage Answer : Type 0} (of : machine.Structure Ca
     attempted : (t : Trace ℕ) (turn : Turn ℕ) → IsReached t → IsReached (attempt t turn)
     attempted t turn r = run_keeps refusal_of IsReached (λ t turn e r. reached_more t turn e r) (turn ∷ []) t r
 
-    -- a page that has waited a turn meets the trace as before
+    -- a page that takes no turn meets the trace of one turn more if that is unchanged
     waits : (w : Page) (n : ℕ) (t : Trace ℕ) → Meets w n t → Meets w (n + 1) t
     waits w n t s =
         let few = s.few in
@@ -233,7 +233,7 @@ module _ (Room : Type 0) {Call Stage Answer : Type 0} (of : machine.Structure Ca
 
     -- ---- a call goes on
 
-    -- what the turn makes of a party whose call takes this step
+    -- the trace after a step of the party's call, by what the step asked, wrote and kept
     abbrev made : Registry ℕ → List ℕ → List (ℕ × Party ℕ) → ℕ → ℕ → List (Event ℕ) → ℕ → Party ℕ → ℕ → Option Ask
         → steps.After (Flight ℕ) (answers.Answer ℕ) → Bool → List (Event ℕ) → Registry ℕ → Trace ℕ
     made k words latest changes turns events p x since ask after back wrote next =
@@ -280,10 +280,10 @@ module _ (Room : Type 0) {Call Stage Answer : Type 0} (of : machine.Structure Ca
         (not_at_end turns few) (not_past parties p below) refl (asks_no_question (want_of one_word (law.flight r stage)) _ (law.asks r stage fits))
         ∙ law.rows k r stage)
 
-    abbrev pub words_then : Page → Stage → List ℕ
+    abbrev pub words_then : Page → Stage → List ℕ  -- the page's words after a step at this stage
     words_then w stage = slice_set w.words (of.does stage).0 (machine.written (of.does stage).1 (slice_index w.words (of.does stage).0))
 
-    -- the machine after a step that comes to this
+    -- the two machines meet after a step; the cases are whether the page's call goes on or is done
     land : (w : Page) (n p : ℕ) (t : Trace ℕ) (s : Meets w n t) (stage : Stage) (g : Goes p stage (party_of p s.latest))
         (step : Step (Flight ℕ) (Registry ℕ) ℕ) (room : Room)
         → attempt t (Next p)
@@ -397,7 +397,7 @@ module _ (Room : Type 0) {Call Stage Answer : Type 0} (of : machine.Structure Ca
         let known = law.known (made_by s.kept w.words s.latest s.changes s.turns s.events p x g.since ask step) (subst IsReached is reached) refl refl in
         finish ((of.does stage).2 (slice_index w.words (of.does stage).0)) refl step right is reached (right.related known)
       where
-        -- a step of the page that comes to this is met by the machine's step, which is right and stays reachable
+        -- the step of the page comes to `a`, and the model's step to what `StepsRight` says: so they meet
         finish : (a : machine.After Stage Answer) → (of.does stage).2 (slice_index w.words (of.does stage).0) ≡ a
             → (step : Step (Flight ℕ) (Registry ℕ) ℕ)
             → (right : StepsRight law.call_at law.start law.flight law.answered law.Fits law.Known law.Related s.events w p stage step)
@@ -483,7 +483,7 @@ module _ (Room : Type 0) {Call Stage Answer : Type 0} (of : machine.Structure Ca
             (lazy s.kept w.words s.latest s.changes s.turns p (subst (λ o. Matches p o (party_of p s.latest)) e (s.matches p)))
         go (Some stage) e = goes_on w n p t small s stage e (subst (λ o. Matches p o (party_of p s.latest)) e (s.matches p))
 
-    -- the callers keep to the rule in each of these turns
+    -- the callers keep to `Rule` in each of these turns
     abbrev pub AllRules : Page → List (machine.Turn Call) → Type 0
     AllRules w [] = Unit {0}
     AllRules w (turn ∷ turns) = law.Rule w turn × AllRules (machine.turned of w turn) turns

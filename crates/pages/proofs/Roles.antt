@@ -94,7 +94,7 @@ producer = record { place = 0; party = 0; start = Queues AcquireProducer; respon
 abbrev pub consumer : {T : Type 0} → model.Call T
 consumer = record { place = 2; party = 1; start = Queues AcquireConsumer; response = Some (record { place = 3; answer = Truth true }) }
 
--- each push and pop of such a history was begun behind the two acquires
+-- each push and pop of a history that begins with the two acquires was begun after them
 pub among : {T : Type 0} → (es : List (Event T)) (c : model.Call T) → is_push_or_pop c.start ≡ true
     → Contains (calls_of (roles_told ++ es)) c → Contains (calls_from es 4) c
 among {T} es c mine is =
@@ -112,6 +112,7 @@ within es c is = there producer c (consumer ∷ calls_from es 4) (there consumer
 pub coded : IsCoding one_word
 coded = grind arith
 
+-- A party that is one of these two, or none at all, has no call under way if neither of the two has.
 pub idle : {T : Type 0} → (x y : Party T) → flight_of (doing_of (Some x)) ≡ None → flight_of (doing_of (Some y)) ≡ None → (a b : Bool)
     → flight_of (doing_of (cond a (Some x) (cond b (Some y) None))) ≡ None
 idle x y free too true b = free

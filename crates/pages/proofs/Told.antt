@@ -16,6 +16,7 @@ use Rattle.pages.proofs.Simulates.{went}
 module _ {Call Stage Answer Item : Type 0} (of : machine.Structure Call Stage Answer) (read : HandedReading Call Answer Item)
     (HandsAt : Stage → List Item → Type 0)
   where
+    -- a history of the page: its invocations and responses
     abbrev History : Type 0
     History = List (machine.Event Call Answer)
 
@@ -37,16 +38,19 @@ module _ {Call Stage Answer Item : Type 0} (of : machine.Structure Call Stage An
       pub own : (acc : List Item) → fold (handed_after read p) acc wrote ≡ acc ++ items
       pub others : (q : ℕ) (acc : List Item) → q ≢ p → fold (handed_after read q) acc wrote ≡ acc
 
+    -- A pending call has handed out what its stage says.
     abbrev pub Hands : Option Stage → List Item → Type 0
     Hands None items = Unit {0}
     Hands (Some stage) items = HandsAt stage items
 
+    -- The page's history is what is told of the model's events, and each party's pending call has
+    -- handed out what its stage says.
     pub record IsRead (events : List (Event ℕ)) (w : machine.World Call Stage Answer) : Type 0 where
       pub history : told read [] events ≡ w.history
       pub hands : (p : ℕ) → Hands (w.pending p) (handed read p events)
 
-    -- where one party comes to a stage that has this handed out, and nothing is handed out by the others, each party's
-    -- stage has its items
+    -- if one party comes to a stage that has handed these items out, and no other party hands anything out,
+    -- each party's stage has its items
     hands_put : (p : ℕ) (o : Option Stage) (pending : ℕ → Option Stage) (events es : List (Event ℕ))
         → Hands o (handed read p (events ++ es)) → ((q : ℕ) → q ≢ p → handed read q (events ++ es) ≡ handed read q events)
         → ((q : ℕ) → Hands (pending q) (handed read q events)) → (q : ℕ) → Hands (machine.put p o pending q) (handed read q (events ++ es))

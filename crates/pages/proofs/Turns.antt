@@ -33,7 +33,7 @@ pub four_rows : (a b d e : Bool) (rows : List (Bool × Refusal)) → a ≡ false
     → first_row ((a, AtEnd) ∷ (b, NoParty) ∷ (d, Idle) ∷ (e, Undecided) ∷ rows) ≡ first_row rows
 four_rows a b d e rows ha hb hd he = rw (ha, hb, hd, he) refl
 
--- rows that refuse do so whatever those before them say
+-- rows that refuse a turn refuse it whatever the rows before them say
 pub refused_later : (before rows : List (Bool × Refusal)) → is_some (first_row rows) ≡ true → is_some (first_row (before ++ rows)) ≡ true
 refused_later [] rows is_refused = is_refused
 refused_later (x ∷ before) rows is_refused = go x.0 (refused_later before rows is_refused)

@@ -9,6 +9,7 @@ module _ {Call Answer State : Type 0} (o : Object Call Answer State) (history : 
     (place : ℕ) (a b : Answer) (later : ℕ) (calls : calls_from history 0 ≡ c ∷ d ∷ [])
     (first : c.response ≡ Some (place, a)) (second : d.response ≡ Some (later, b)) (apart : c ≡ d → ⊥)
   where
+    -- an entry of a sequence: a call and its answer
     abbrev Entry : Type 0
     Entry = Called Call Answer × Answer
 
@@ -18,6 +19,8 @@ module _ {Call Answer State : Type 0} (o : Object Call Answer State) (history : 
     abbrev two : Entry
     two = (d, b)
 
+    -- The object takes the first call before the second; or the second before the first, if it was
+    -- invoked no later than the first responded.
     abbrev InOneOrder : Type 0
     InOneOrder = IsLegal o o.opening (one ∷ two ∷ []) ⊎ (IsLegal o o.opening (two ∷ one ∷ []) × (d.place ≤ place))
 

@@ -62,7 +62,7 @@ module _ (c : ℕ) where
   is_clearing (page.ReleaseClearsFlag index l) = true
   is_clearing stage = false
 
-  -- where a call goes on it is the same call, and clears no flag next
+  -- a call that goes on is the same call, and clears no flag next
   abbrev GoesRight : page.Stage → machine.After page.Stage page.Answer → Type 0
   GoesRight stage (machine.GoOn next) = (call_at next ≡ call_at stage) × (is_clearing next ≡ false)
   GoesRight stage (machine.Done answer) = Unit {0}
@@ -71,7 +71,7 @@ module _ (c : ℕ) where
   sees_right : (stage : page.Stage) (old : ℕ) → call_at stage ≡ page.Acquire → GoesRight stage (page.sees c old)
   sees_right stage old is = go (old % 2 ^ 24 == 2 ^ 24 - 1) (old % 2 ^ 24 == c) (nat_lt (old / 2 ^ 40) c)
     where
-      -- so it does whatever the three tests answer
+      -- the cases are what the three tests answer
       go : (x y z : Bool)
           → GoesRight stage
           (cond x (machine.Done page.IsLocked) (cond y (machine.Done page.OutOfIndices)
@@ -81,13 +81,13 @@ module _ (c : ℕ) where
       go false false true = (sym is, refl)
       go false false false = (sym is, refl)
 
-  -- where a call goes on it is the same call, and clears no flag next
+  -- a call that goes on is the same call, and clears no flag next
   right : (stage : page.Stage) (old : ℕ) → GoesRight stage ((page.does c stage).2 old)
   right page.AcquireLoadsHead old = sees_right page.AcquireLoadsHead old refl
   right (page.AcquireLoadsNext head) old = (refl, refl)
   right (page.AcquireExchangesHead head next) old = go (old == head) (nat_lt (head / 2 ^ 40) c) (sees_right (page.AcquireExchangesHead head next) old refl)
     where
-      -- so it is of an acquire that exchanges the head
+      -- the cases are whether the acquire's exchange found the head, and whether an index is left
       go : (x y : Bool) → GoesRight (page.AcquireExchangesHead head next) (page.sees c old)
           → GoesRight (page.AcquireExchangesHead head next)
           (cond x (machine.GoOn (cond y (page.AcquireClaims (head / 2 ^ 40)) (page.AcquireScans 0))) (page.sees c old))
@@ -112,7 +112,7 @@ module _ (c : ℕ) where
   right (page.ReleaseStoresNext index l head) old = (refl, refl)
   right (page.ReleaseExchangesHead index l head) old = go (old == head) l
     where
-      -- so it is of a release that exchanges the head
+      -- the cases are whether the release's exchange found the head, and whether it locks
       go : (x l : Bool)
           → GoesRight (page.ReleaseExchangesHead index l head)
           (cond x (machine.Done (page.Released (page.locks l head)))
@@ -176,12 +176,15 @@ module _ (c : ℕ) where
       events ++ (wrote_of p (freed_by stage) a
       ++ ending_of p (Indices (bridge.index_start (call_at stage))) (answer_in (went (the_flight tt) bridge.answered a)))
 
+  -- The page and the model's events are related (`Rel`) after a step that left these words and
+  -- came to `a`.
   abbrev RelThen : List (Event ℕ) → Page c → ℕ → page.Stage → List ℕ → machine.After page.Stage page.Answer → Type 0
   RelThen events w p stage words a =
       Rel c (events_then events p stage a) (machine.gone (page.unique_index_set c) w p words a).history
       (machine.gone (page.unique_index_set c) w p words a).pending
 
-  -- a step that frees no index leaves the page and the events saying the same of holders
+  -- after a step that frees no index, the page's history and the model's events agree on
+  -- who holds which index
   frees_none : (events : List (Event ℕ)) (w : Page c) (p : ℕ) (start : Start ℕ) (words : List ℕ) (a : machine.After page.Stage page.Answer)
       → Rel c events w.history w.pending → ((next : page.Stage) → a ≡ machine.GoOn next → is_clearing next ≡ false)
       → readings.Each (HoldsRight c) (events ++ (wrote_of p None a ++ ending_of p start (answer_in (went (the_flight tt) bridge.answered a))))
@@ -192,12 +195,15 @@ module _ (c : ℕ) where
       let clash : false ≡ true = sym (goes next refl) ∙ t in absurd (cc)))
   frees_none events w p start words (machine.Done answer) r goes knows = responds c events w.history w.pending start p answer r knows
 
-  -- each step of a call under way leaves the page and the events saying the same of holders
+  -- after each step of a call under way, the page's history and the model's events agree on
+  -- who holds which index
   related_then : (events : List (Event ℕ)) (w : Page c) (p : ℕ) (stage : page.Stage) (words : List ℕ) (old : ℕ)
       → Rel c events w.history w.pending → w.pending p ≡ Some stage
       → readings.Each (HoldsRight c) (events_then events p stage ((page.does c stage).2 old))
       → RelThen events w p stage words ((page.does c stage).2 old)
+  -- one step frees an index: the release that clears its flag
   related_then events w p (page.ReleaseClearsFlag index l) words old r here knows = frees_it c events w.history w.pending p index l r here
+  -- every other step frees none, and goes on at no such stage
   related_then events w p page.AcquireLoadsHead words old r here knows =
       frees_none events w p (Indices (bridge.index_start (call_at page.AcquireLoadsHead))) words ((page.does c page.AcquireLoadsHead).2 old) r
       (λ then e. (subst (GoesRight page.AcquireLoadsHead) e (right page.AcquireLoadsHead old)).1) knows
@@ -238,6 +244,7 @@ module _ (c : ℕ) where
       let set : IsIndexSet t = subst (λ k. (promise_of k).holds t) is kept.promised in
       record { holds = subst (λ n. readings.Each (HoldsRight n) t.events) same set.holds; keeps = set.holders }
 
+  -- Only the holder of an index begins its release.
   abbrev Rule : Page c → machine.Turn page.Call → Type 0
   Rule w (machine.Begin p (page.Release index l)) = w.pending p ≡ None → page.holder index w.history ≡ Some p
   Rule w turn = Unit {0}
@@ -307,6 +314,7 @@ module _ (c : ℕ) where
       first_at page.Acquire = refl
       first_at (page.Release index l) = refl
 
+      -- The model begins a call at the stage that the page begins it.
       begins : (k : Registry ℕ) (call : page.Call)
           → first_of kinds.Indices c (Indices (bridge.index_start call)) k ≡ Some (the_flight tt (page.first call))
       begins k page.Acquire = refl
@@ -468,7 +476,7 @@ is_run t c parties turns some few within small own is =
     subst (λ t. IsSame bridge.reading [] t (fold (machine.turned (page.unique_index_set c)) (machine.opening (page.unique_index_set c)) turns)) (sym is)
     (runs c parties turns some few within small own)
 
--- a party for each of these turns
+-- a number of parties with a party for each of these turns
 abbrev parties_of : List (machine.Turn page.Call) → ℕ
 parties_of [] = 0
 parties_of (machine.Begin p call ∷ turns) = p + 1 + parties_of turns

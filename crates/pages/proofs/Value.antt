@@ -124,6 +124,7 @@ acted_own p start outcome = tt
 abbrev kept : Registry ℕ
 kept = registries.Atomic (Some 0)
 
+-- What a step came to is the same, told as of a call on a value and as of any call.
 went_same : (before : ℕ) (a : (machine.After page.Stage page.Answer))
     → as_call flights.Atomic (λ (answer : Answer ℕ). answer) (went before a)
     ≡ simulates.went (λ stage. flights.Atomic (flight before stage)) answered a
@@ -176,6 +177,7 @@ tie =
       right = λ stage old fit. right stage old;
     }
   where
+    -- the page reads back the call and the answer that it gave the model
     reads_start : (call : page.Call) → call_seen (Atomic (value_start call)) ≡ call
     reads_start (page.StoreValue value) = refl
     reads_start page.LoadValue = refl
@@ -188,6 +190,7 @@ tie =
     is_own (page.StoreValue value) = refl
     is_own page.LoadValue = refl
 
+    -- the model admits a call exactly if the page does
     admits : (p : ℕ) (call : page.Call) → page.may p call ≡ true
         → first_row (begin_rows kinds.Atomic 1 kept p (Atomic (value_start call))) ≡ None
     admits p (page.StoreValue value) allowed = holds_row 0 p allowed
@@ -198,6 +201,7 @@ tie =
     refuses p (page.StoreValue value) refused = lacks_row 0 p refused
     refuses p page.LoadValue refused = absurd (cc)
 
+    -- a call begins with the page's first stage
     begins : (call : page.Call)
         → model.first_of kinds.Atomic 1 (Atomic (value_start call)) kept
         ≡ Some (flights.Atomic (flight 0 (page.first call)))
@@ -210,12 +214,14 @@ tie =
 
 -- ---- the register
 
+-- After a store or a load the model's value is the register's.
 one_after : (held : ℕ) (start : Start ℕ) → is_store_or_load start ≡ true
     → value_after held start ≡ (page.registered held (call_seen start)).1
 one_after held (Atomic (starts.Store value)) own = refl
 one_after held (Atomic starts.Load) own = refl
 one_after held other own = absurd (cc)
 
+-- A store or a load gets the answer of the register.
 one_answer : (held : ℕ) (start : Start ℕ) → is_store_or_load start ≡ true
     → answer_seen (value_answer held start) ≡ (page.registered held (call_seen start)).0
 one_answer held (Atomic (starts.Store value)) own = refl
@@ -243,7 +249,7 @@ within es c is = there producer c (calls_from es 2) is
 coded : IsCoding one_word
 coded = grind arith
 
--- the acquire, with so many parties
+-- the model's machine with n parties as it opens
 abbrev opened : ℕ → Trace ℕ
 opened n = opening one_word kinds.Atomic 1 n
 
@@ -302,6 +308,7 @@ same_turns n [] = refl
 same_turns n (machine.Begin p call ∷ turns) = ap (λ ts. as_turn (machine.Begin p call) ∷ ts) (same_turns n turns)
 same_turns n (machine.Next p ∷ turns) = ap (λ ts. as_turn (machine.Next p) ∷ ts) (same_turns n turns)
 
+-- The run is one of the model's, since the opening is and each turn keeps that.
 reached : (n : ℕ) (turns : List (Turn ℕ)) → IsReached (run turns (acquired n))
 reached n turns =
     run_keeps refusal_of IsReached (λ t turn e r. reached_more t turn e r) turns (acquired n)
@@ -335,6 +342,7 @@ linearizable turns small =
 pub code : ValueDoesAsTheCode
 code before stage = (asks_same before stage, after_same before stage)
 
+-- the words, invocations and responses of the page's machine are those of the model's
 pub runs : ValueRunsAsTheMachine
 runs turns n le small =
     let meeting = simulated n turns le small in

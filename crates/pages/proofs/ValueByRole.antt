@@ -31,12 +31,13 @@ abbrev blank : List ℕ → List ℕ
 blank (version ∷ role ∷ cells) = version ∷ 0 ∷ cells
 blank words = words
 
+-- The words of the page: the version, a word that says whether the role is free, and the cells.
 record Tells (role : Option ℕ) (words : List ℕ) : Type 0 where
   version : ℕ
   cells : List ℕ
   is : words ≡ version ∷ free role ∷ cells
 
--- party 0 of the page stores, and the others load
+-- party 0 of the page stores, and every other party loads
 abbrev who : Option ℕ → ℕ → Option ℕ
 who role zero = role
 who role (suc n) = Some n
@@ -63,6 +64,7 @@ Other role p (Atomic HasProducer) flight = flight ≡ looks
 Other role p (Atomic Version) flight = flight ≡ counts
 Other role p start flight = ⊥
 
+-- What a step of a call that the page has not comes to: no event, and no change of the page's words.
 abbrev StepOf : Option ℕ → ℕ → Start ℕ → Flight ℕ → List ℕ → Option (ℕ × ℕ) → Type 0
 StepOf role p start flight words beside =
     OtherStep one_word registries.Atomic who blank Tells Other role p start flight words

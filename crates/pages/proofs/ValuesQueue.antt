@@ -59,6 +59,7 @@ use Rattle.pages.proofs.Roles.{among, effects_own, effects_unseen, held, holds_r
 
 -- ---- the words of a cell, and of a room
 
+-- where the word `at` of the cell of a position lies: no sum wraps
 cell_is : (size c position at : ℕ) → size ≤ 128 → c < 2 ^ 32 → (c == 0) ≡ false → at < size
     → word_at (cell_word c size position) at ≡ 4 + size * (position % c) + at
 cell_is size c position at small few some lt =
@@ -247,6 +248,7 @@ module _ {T : Type 0} (how : page.Written T) where
   neither true b e = absurd (cc)
   neither false b e = refl
 
+  -- a call that goes on is the same call, at a stage that fits
   pub right : (c : ℕ) (stage : page.Stage T) (old : ℕ) → Fits how c stage → GoesRight call_at (fits c) (call_at stage) (comes c stage old)
   right c (page.PushLoadsWrite value) old fit =
       done_or c (old == 2 ^ 64 - 1) (page.Push value) (page.Pushed false) (page.PushLoadsRead value old) (λ e. (refl, refl))
@@ -277,6 +279,7 @@ module _ {T : Type 0} (how : page.Written T) where
   went_same c (machine.GoOn stage) = refl
   went_same c (machine.Done answer) = refl
 
+  -- a step of the model's call leads to where the page's call goes, and tells the page nothing else
   pub goes : (c : ℕ) (roles : Roles) (words : List ℕ) (beside : Option (ℕ × ℕ)) (p : ℕ) (stage : page.Stage T) (old : ℕ) → Fits how c stage
       → StepIs (Unit {0}) (page.queue how c) (reading how) is_push_or_pop kinds.Queue c (registries.Queues roles)
       (λ r stage. flights.Queues (flight how c stage)) answered

@@ -59,6 +59,7 @@ past = refl
 
 -- ---- counts
 
+-- Two sets of place 1 count 2 there, which the reset of all hands out.
 counted : (fold (turned (counts.counting_bit_set 2)) (opening (counts.counting_bit_set 2))
     (Begin 0 (counts.Set 1) ∷ Begin 1 (counts.Set 1) ∷ Next 1 ∷ Next 0 ∷ Begin 2 counts.ResetAll ∷ Next 2 ∷ Next 2 ∷ [])).history
     ≡ Invoked 0 (counts.Set 1) ∷ Invoked 1 (counts.Set 1) ∷ Responded 1 (counts.Counted 0) ∷ Responded 0 (counts.Counted 1)

@@ -36,6 +36,7 @@ abbrev next_cell : index.Stage → ℕ × Operation × (ℕ → After index.Stag
 next_cell (index.PushStoresCell value write) = (4 + (write + 1) % 2, Store value, λ old. GoOn (index.PushStoresWrite value write))
 next_cell stage = index.does 2 stage
 
+-- The pop finds 0 in the cell of the push.
 not_next_cell : IsLinearizable (index.bounded_list 2) (after (record (index.index_queue 2) { does = next_cell }) push_pop).history → ⊥
 not_next_cell =
     in_turn_alone (index.bounded_list 2) _ (called 0 0 (index.Push 5) 1 (index.Pushed true)) (called 2 1 index.Pop 3 (index.Popped (Some 0))) 1
@@ -47,6 +48,7 @@ abbrev unpublished : index.Stage → ℕ × Operation × (ℕ → After index.St
 unpublished (index.PushStoresWrite value write) = (0, Load, λ old. Done (index.Pushed true))
 unpublished stage = index.does 2 stage
 
+-- The pop finds the queue empty, though the push before it has answered.
 not_unpublished : IsLinearizable (index.bounded_list 2) (after (record (index.index_queue 2) { does = unpublished }) push_pop).history → ⊥
 not_unpublished =
     in_turn_alone (index.bounded_list 2) _ (called 0 0 (index.Push 5) 1 (index.Pushed true)) (called 2 1 index.Pop 3 (index.Popped None)) 1
@@ -79,6 +81,7 @@ push_pop_pair =
 abbrev pair_does : values.Stage (ℕ × ℕ) → ℕ × Operation × (ℕ → After (values.Stage (ℕ × ℕ)) (values.Answer (ℕ × ℕ)))
 pair_does stage = values.does pairs 2 stage
 
+-- Equal answers have equal second words.
 second_word : {v w : ℕ × ℕ} → values.Popped (Some v) ≡ values.Popped (Some w) → v.1 ≡ w.1
 second_word e = ap (λ (x : ℕ × ℕ). x.1) (value e)
   where
@@ -125,6 +128,7 @@ abbrev newest : overflowing.Stage → ℕ × Operation × (ℕ → After overflo
 newest (overflowing.PushLoadsOldest value read) = (4 + (read + 1) % 2, Load, λ old. Done (Some old))
 newest stage = overflowing.does 1 stage
 
+-- The second push hands back its own value, and the oldest was 1.
 not_newest : IsLinearizable (overflowing.overflowing_list 1) (after (record (overflowing.overflowing_queue 1) { does = newest }) push_twice).history → ⊥
 not_newest =
     in_turn_alone (overflowing.overflowing_list 1) _ (called 0 0 (overflowing.Push 1) 1 None) (called 2 0 (overflowing.Push 2) 3 (Some 2)) 1
@@ -141,6 +145,7 @@ abbrev unversioned : single.Stage → ℕ × Operation × (ℕ → After single.
 unversioned (single.StoreAddsVersion value) = (0, Load, λ old. Done (single.Stored true))
 unversioned stage = single.does stage
 
+-- The load answers 0 after a store of 7.
 not_unversioned : IsLinearizable single.register (after (record single.value { does = unversioned }) store_load).history → ⊥
 not_unversioned =
     in_turn_alone single.register _ (called 0 0 (single.StoreValue 7) 1 (single.Stored true)) (called 2 1 single.LoadValue 3 (single.Loaded 0)) 1
@@ -152,6 +157,7 @@ abbrev next_version : single.Stage → ℕ × Operation × (ℕ → After single
 next_version (single.StoreStoresCell value version) = (2 + (version + 1) % 2, Store value, λ old. GoOn (single.StoreAddsVersion value))
 next_version stage = single.does stage
 
+-- The load answers 0 after a store of 7.
 not_next_version : IsLinearizable single.register (after (record single.value { does = next_version }) store_load).history → ⊥
 not_next_version =
     in_turn_alone single.register _ (called 0 0 (single.StoreValue 7) 1 (single.Stored true)) (called 2 1 single.LoadValue 3 (single.Loaded 0)) 1

@@ -27,12 +27,15 @@ unequal_back m n lt e = omega arith
 
 -- ---- the bit set
 
+-- what the calls of a bit set do at each stage: the word, the operation, and how they go on from
+-- the old value
 abbrev Bits : Type 0
 Bits = bits.Stage → ℕ × Operation × (ℕ → After bits.Stage bits.Answer)
 
 abbrev over : Bits → List (Turn bits.Call) → World bits.Call bits.Stage bits.Answer
 over does turns = after (record (bits.bit_set 70) { does = does }) turns
 
+-- In these turns of a set of 70 places with this table, each call acts at place 3 at one moment.
 abbrev BitsAct : Bits → List (Turn bits.Call) → Type 0
 BitsAct does turns = ActsAt (bits.at 3) (over does turns).history (bits.now (over does turns).words 3)
 
@@ -146,12 +149,14 @@ not_no_wrap h =
 
 -- ---- the counting bit set
 
+-- what the calls of a counting bit set do at each stage
 abbrev Counts : Type 0
 Counts = counts.Stage → ℕ × Operation × (ℕ → After counts.Stage counts.Answer)
 
 abbrev counted : Counts → List (Turn counts.Call) → World counts.Call counts.Stage counts.Answer
 counted does turns = after (record (counts.counting_bit_set 2) { does = does }) turns
 
+-- In these turns of a counting set of 2 places with this table, each call acts at place 0 at one moment.
 abbrev CountsAct : Counts → List (Turn counts.Call) → Type 0
 CountsAct does turns = ActsAt (counts.at 0) (counted does turns).history (slice_index (counted does turns).words 0)
 
@@ -194,9 +199,12 @@ not_loads_counts counts_act =
 
 -- ---- the unique index set
 
+-- what the calls of a unique index set do at each stage
 abbrev Unique : Type 0
 Unique = unique.Stage → ℕ × Operation × (ℕ → After unique.Stage unique.Answer)
 
+-- In these turns of a set of 2 indices with this table, whoever gets an index is its only holder, and
+-- the set is locked only where no index has a holder.
 abbrev HoldAlone : Unique → List (Turn unique.Call) → Type 0
 HoldAlone does turns = unique.Each (unique.HoldsAlone 2) (after (record (unique.unique_index_set 2) { does = does }) turns).history
 
@@ -212,6 +220,7 @@ locks_early (unique.ReleaseExchangesHead index may_lock head) =
     (0, Exchange head (unique.head_of head index (2 ^ 24 - 1)), λ old. Done (unique.Released may_lock))
 locks_early stage = unique.does 2 stage
 
+-- The release of party 0 locks the set while party 1 holds an index.
 not_locks_early : HoldAlone locks_early (acquiring 0 ++ acquiring 1 ++ Begin 0 (unique.Release 0 true) ∷ Next 0 ∷ Next 0 ∷ Next 0 ∷ Next 0 ∷ []) → ⊥
 not_locks_early hold_alone =
     some_is_none 1
@@ -224,6 +233,7 @@ lock_unseen unique.AcquireLoadsHead =
     (0, Load, λ old. if nat_lt (old / 2 ^ 40) 2 then GoOn (unique.AcquireLoadsNext old) else Done unique.OutOfIndices)
 lock_unseen stage = unique.does 2 stage
 
+-- Party 1 acquires an index of a set that is locked.
 not_lock_unseen : HoldAlone lock_unseen (acquiring 0 ++ Begin 0 (unique.Release 0 true) ∷ Next 0 ∷ Next 0 ∷ Next 0 ∷ Next 0 ∷ acquiring 1) → ⊥
 not_lock_unseen hold_alone =
     true≢false

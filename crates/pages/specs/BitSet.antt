@@ -5,7 +5,7 @@ use Rattle.std.specs.List.{count_by, filter, range_with_len}
 use Rattle.pages.specs.Machine.{Operation, Load, Store, Exchange, Swap, After, GoOn, Done, Structure}
 use Rattle.pages.specs.Places.{Act}
 
-pub data Call : Type 0 where
+pub data Call : Type 0 where  -- the calls of the bit set
   Set : (place : ℕ) → Call
   ResetNext : Call
   ResetAll : Call
@@ -16,7 +16,7 @@ pub data Answer : Type 0 where
   WasReset : (place : Option ℕ) → Answer
   WereReset : (places : List ℕ) → Answer
 
-pub data Stage : Type 0 where
+pub data Stage : Type 0 where  -- what a call does next, with all that it knows
   SetLoadsElement : (place : ℕ) → Stage
   SetExchangesElement : (place element : ℕ) → Stage
   NextLoadsPosition : Stage
@@ -25,7 +25,7 @@ pub data Stage : Type 0 where
   NextStoresPosition : (place : ℕ) → Stage
   AllSwapsElement : (word : ℕ) (places : List ℕ) → Stage
 
-abbrev pub first : Call → Stage
+abbrev pub first : Call → Stage  -- the stage with which a call begins
 first (Set place) = SetLoadsElement place
 first ResetNext = NextLoadsPosition
 first ResetAll = AllSwapsElement 1 []
@@ -34,6 +34,7 @@ first ResetAll = AllSwapsElement 1 []
 abbrev pub stands : (element place : ℕ) → Bool
 stands element place = not (bit_and element (2 ^ (place % 64)) == 0)
 
+-- A set that has read this element is done if the bit stands, and else tries to set it.
 abbrev pub set_tests : (place element : ℕ) → After Stage Answer
 set_tests place element =
     if stands element place then Done (WasSet false) else GoOn (SetExchangesElement place element)
@@ -43,22 +44,27 @@ abbrev pub place_after : (capacity start passed : ℕ) → ℕ
 place_after capacity start passed =
     if nat_lt (start + passed) capacity then start + passed else start + passed - capacity
 
+-- A reset of the next place, past this many places from its start, goes on to the next or has found none.
 abbrev pub next_comes_to : (capacity start passed : ℕ) → After Stage Answer
 next_comes_to capacity start passed =
     if nat_lt passed capacity then GoOn (NextLoadsElement start passed) else Done (WasReset None)
 
+-- A reset of the next place that has read this element tries to clear the bit, if it stands, and
+-- else goes on.
 abbrev pub next_tests : (capacity start passed element : ℕ) → After Stage Answer
 next_tests capacity start passed element =
     if stands element (place_after capacity start passed)
     then GoOn (NextExchangesElement start passed element)
     else next_comes_to capacity start (passed + 1)
 
+-- A reset of all goes on to the next element, or answers the places that it has cleared.
 abbrev pub all_goes_on : (capacity word : ℕ) → List ℕ → After Stage Answer
 all_goes_on capacity word places =
     if nat_lt (word + 1) (1 + (capacity + 63) / 64)
     then GoOn (AllSwapsElement (word + 1) places)
     else Done (WereReset places)
 
+-- at each stage the word, the operation, and how the call goes on with the word's old value
 abbrev pub does : ℕ → Stage → ℕ × Operation × (ℕ → After Stage Answer)
 does c (SetLoadsElement place) = (1 + place / 64, Load, λ old. set_tests place old)
 does c (SetExchangesElement place element) = (
@@ -82,6 +88,7 @@ does c (AllSwapsElement word places) = (
   λ old. all_goes_on c word (places ++ filter (λ place. stands old place) (range_with_len ((word - 1) * 64) 64)),
 )
 
+-- any party may begin any call, but a set only of a place that the bit set has
 abbrev pub may : (capacity p : ℕ) → Call → Bool
 may capacity p (Set place) = nat_lt place capacity
 may capacity p call = true

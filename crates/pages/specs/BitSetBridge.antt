@@ -107,7 +107,7 @@ SetsByTable =
     × (after {T = ℕ} (setting place stage) old
     ≡ as_call flights.Set answers.Truth (went_on as_it_is place tt (set_takes stage place old)))
 
--- the same for a reset of the next place
+-- what `want` and `after` are, by the tables of `steps`, for a reset of the next place
 abbrev pub NextsByTable : Type 0
 NextsByTable =
     (c : ℕ) (stage : ResetNextStage) (old : ℕ)
@@ -116,8 +116,7 @@ NextsByTable =
     ≡ as_call flights.ResetNext reset_answer
     (went_on as_it_is tt tt (reset_takes (at_reset (first_reset c) stage) stage old)))
 
--- the same for a reset of all places
-abbrev pub AllsByTable : Type 0
+abbrev pub AllsByTable : Type 0  -- what `want` and `after` are, by the tables of `steps`, for a reset of all places
 AllsByTable =
     (c found word old : ℕ)
     → (want (emptying c found word) ≡ reset_all_want (record { word = word; end = 1 + elements c }))
@@ -154,12 +153,12 @@ abbrev pub as_turn : (machine.Turn page.Call) → Turn ℕ
 as_turn (machine.Begin p call) = Begin p (Bits (bits_start call))
 as_turn (machine.Next p) = Next p
 
--- the party of a turn that begins a call is one of this many
+-- the party of a turn that begins a call is below this number
 abbrev pub IsWithin : {Call : Type 0} → ℕ → machine.Turn Call → Type 0
 IsWithin parties (machine.Begin p call) = p < parties
 IsWithin parties (machine.Next p) = Unit {0}
 
--- there is a party for each of these turns
+-- the parties of all these turns are below this number
 abbrev pub AreWithin : {Call : Type 0} → ℕ → List (machine.Turn Call) → Type 0
 AreWithin parties turns = AllByRecursion (IsWithin parties) turns
 

@@ -93,8 +93,7 @@ CountsByTable =
     → (want (counting place) ≡ set_want add_one place)
     × (after {T = ℕ} (counting place) old ≡ as_call flights.Count answers.Number (went_on as_it_is place tt (set_after add_one old)))
 
--- the same for a reset of all places
-abbrev pub TakesByTable : Type 0
+abbrev pub TakesByTable : Type 0  -- what `want` and `after` are, by the tables of `steps`, for a reset of all places
 TakesByTable =
     (c found place old : ℕ)
     → (want (emptying c found place) ≡ reset_all_want (record { word = place; end = c }))

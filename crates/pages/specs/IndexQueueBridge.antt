@@ -97,8 +97,7 @@ PushesByTable =
     ≡ as_call (λ r. Indices (rings.Push r)) Truth
     (went_on as_it_is value tt (push_takes 1 (record { capacity = c; stage = stage; of = record {} }) stage old)))
 
--- the same for a pop
-abbrev pub PopsByTable : Type 0
+abbrev pub PopsByTable : Type 0  -- what `want` and `after` are, by the tables of `steps`, for a pop
 PopsByTable =
     (c value : ℕ) (stage : PopStage) (old : ℕ)
     → (want one_word (popping c value stage) ≡ pop_asks stage)

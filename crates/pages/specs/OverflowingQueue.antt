@@ -3,7 +3,7 @@ use Rattle.std.specs.Prelude.{ℕ, ◌+◌, ◌-◌, ◌%◌, ◌^◌, ◌==◌,
 use Rattle.std.specs.Prelude.{if◌then◌else◌, length, nat_lt, replicate, slice_get}
 use Rattle.pages.specs.Machine.{Operation, Load, Store, Exchange, After, GoOn, Done, Structure, Object}
 
-pub data Call : Type 0 where
+pub data Call : Type 0 where  -- the calls of the overflowing queue
   Push : (value : ℕ) → Call
   Pop : Call
 
@@ -20,7 +20,7 @@ pub data Stage : Type 0 where
   PopLoadsCell : (read : ℕ) → Stage
   PopMovesRead : (read value : ℕ) → Stage
 
-abbrev pub first : Call → Stage
+abbrev pub first : Call → Stage  -- the stage with which a call begins
 first (Push value) = PushLoadsWrite value
 first Pop = PopLoadsRead
 
@@ -66,5 +66,6 @@ listed capacity items (Push value) =
     else (None, items ++ value ∷ [])
 listed capacity items Pop = (slice_get items 0, drop 1 items)
 
+-- the sequential object: a list that keeps at most this many of the latest values
 abbrev pub overflowing_list : ℕ → Object Call (Option ℕ) (List ℕ)
 overflowing_list capacity = record { opening = []; act = listed capacity }

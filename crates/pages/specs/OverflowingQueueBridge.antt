@@ -97,8 +97,7 @@ OverflowingPushesByTable =
     (push_keeps (record { 0 = 0 }) stage old)
     (push_takes (record { capacity = c; stage = stage }) stage old)))
 
--- the same for a pop
-abbrev pub OverflowingPopsByTable : Type 0
+abbrev pub OverflowingPopsByTable : Type 0  -- what `want` and `after` are, by the tables of `steps`, for a pop
 OverflowingPopsByTable =
     (c value : ℕ) (stage : PopStage) (old : ℕ)
     → (want one_word (popping c value stage) ≡ pop_asks c stage)

@@ -12,10 +12,11 @@ pub record Written (T : Type 0) : Type 0 where
   pub sized : (value : T) → length (words_of value) ≡ size
   pub given_back : (value : T) → value_of (words_of value) ≡ value
 
-pub data Call (T : Type 0) : Type 0 where
+pub data Call (T : Type 0) : Type 0 where  -- the calls of the queue of values
   Push : (value : T) → Call T
   Pop : Call T
 
+-- answers: of Push whether the value was taken, of Pop the value that it took out, if any
 pub data Answer (T : Type 0) : Type 0 where
   Pushed : (taken : Bool) → Answer T
   Popped : (value : Option T) → Answer T
@@ -37,10 +38,11 @@ may p (Push value) = p == 0
 may p Pop = p == 1
 
 module _ {T : Type 0} (how : Written T) (capacity : ℕ) where
-  abbrev pub first : Call T → Stage T
+  abbrev pub first : Call T → Stage T  -- the stage with which a call begins
   first (Push value) = PushLoadsWrite value
   first Pop = PopLoadsRead
 
+  -- whether a queue with these positions, which count modulo 2^64, is full; one of capacity 0 always is
   abbrev pub is_full : (write read : ℕ) → Bool
   is_full write read = capacity == 0 || (write + 2 ^ 64 - read) % 2 ^ 64 == capacity
 
@@ -55,6 +57,7 @@ module _ {T : Type 0} (how : Written T) (capacity : ℕ) where
   abbrev pub loads : ℕ → List ℕ → Stage T
   loads read loaded = if nat_lt (length loaded) how.size then PopLoadsCell read loaded else PopStoresRead read loaded
 
+  -- at each stage the word, the operation, and how the call goes on with the word's old value
   abbrev pub does : Stage T → ℕ × Operation × (ℕ → After (Stage T) (Answer T))
   does (PushLoadsWrite value) = (0, Load, λ old. if old == 2 ^ 64 - 1 then Done (Pushed false) else GoOn (PushLoadsRead value old))
   does (PushLoadsRead value write) = (1, Load, λ old. if is_full write old then Done (Pushed false) else GoOn (stores value write 0))
@@ -70,10 +73,12 @@ module _ {T : Type 0} (how : Written T) (capacity : ℕ) where
   abbrev pub queue : Structure (Call T) (Stage T) (Answer T)
   queue = record { words = 0 ∷ 0 ∷ 0 ∷ 0 ∷ replicate (how.size * capacity) 0; may = may; first = first; does = does }
 
+-- what the list answers to a call, and the list after it: a push of a full list answers false
 abbrev pub listed : {T : Type 0} → ℕ → List T → Call T → Answer T × List T
 listed capacity items (Push value) =
     if nat_lt (length items) capacity then (Pushed true, items ++ value ∷ []) else (Pushed false, items)
 listed capacity items Pop = (Popped (slice_get items 0), drop 1 items)
 
+-- the sequential object: a list of at most this many values
 abbrev pub bounded_list : {T : Type 0} → ℕ → Object (Call T) (Answer T) (List T)
 bounded_list capacity = record { opening = []; act = listed capacity }

@@ -107,8 +107,7 @@ QueuePushesByTable T =
     ≡ as_call (λ r. Values (rings.Push r)) Truth
     (went_on as_it_is value tt (push_takes code.size (record { capacity = c; stage = stage; of = record {} }) stage old)))
 
--- the same for a pop
-abbrev pub QueuePopsByTable : Type 0 → Type 0
+abbrev pub QueuePopsByTable : Type 0 → Type 0  -- what `want` and `after` are, by the tables of `steps`, for a pop
 QueuePopsByTable T =
     (code : Coding T) (c : ℕ) (room : Buffer 128) (stage : PopStage) (old : ℕ)
     → (want code (popping {T = T} c room stage) ≡ pop_asks stage)

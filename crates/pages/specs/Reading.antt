@@ -46,10 +46,10 @@ module _ {T Call Answer : Type 0} (read : ReadingOf T Call Answer) where
   abbrev pub all_seen : List (Event T) → List (machine.Event Call Answer)
   all_seen es = flat_map seen es
 
-  -- the words are the same, and behind these first events those of the page, but for effects and acts
+  -- The model's trace and the page's world have the same words. After the events `first` the trace's events
+  -- tell the page's history.
   pub record IsSame {Stage : Type 0} (first : List (Event T)) (t : Trace T) (w : machine.World Call Stage Answer) : Type 0 where
     pub events : List (Event T)
     pub is : t.events ≡ first ++ events
-    -- they say the page's history
-    pub history : all_seen events ≡ w.history
+    pub history : all_seen events ≡ w.history  -- the invocations and responses among them are the page's history
     pub words : t.world.words ≡ w.words

@@ -9,13 +9,14 @@ pub data Call : Type 0 where
   Acquire : Call
   Release : (index : ℕ) (may_lock : Bool) → Call
 
+-- answers: of Acquire the index or why there is none, of Release whether it locked the set
 pub data Answer : Type 0 where
   Acquired : (index : ℕ) → Answer
   OutOfIndices : Answer
   IsLocked : Answer
   Released : (locked : Bool) → Answer
 
-pub data Stage : Type 0 where
+pub data Stage : Type 0 where  -- what a call does next, with all that it knows
   AcquireLoadsHead : Stage
   AcquireLoadsNext : (head : ℕ) → Stage
   AcquireExchangesHead : (head next : ℕ) → Stage
@@ -27,7 +28,7 @@ pub data Stage : Type 0 where
   ReleaseExchangesHead : (index : ℕ) (may_lock : Bool) (head : ℕ) → Stage
   ReleaseSubtracts : (index : ℕ) → Stage
 
-abbrev pub first : Call → Stage
+abbrev pub first : Call → Stage  -- the stage with which a call begins
 first Acquire = AcquireLoadsHead
 first (Release index may_lock) = ReleaseClearsFlag index may_lock
 
@@ -36,9 +37,11 @@ first (Release index may_lock) = ReleaseClearsFlag index may_lock
 abbrev pub head_of : (head index borrowed : ℕ) → ℕ
 head_of head index borrowed = index % 2 ^ 24 * 2 ^ 40 + (head / 2 ^ 24 % 2 ^ 16 + 1) % 2 ^ 16 * 2 ^ 24 + borrowed % 2 ^ 24
 
-abbrev pub has_flag : (word index : ℕ) → Bool
+abbrev pub has_flag : (word index : ℕ) → Bool  -- whether the flag of an index stands in this word
 has_flag word index = not (bit_and word (2 ^ (index % 64)) == 0)
 
+-- An acquire that sees this head finds the set locked or without a free index, or goes on with the
+-- index proposed.
 abbrev pub sees : (c head : ℕ) → After Stage Answer
 sees c head =
     if head % 2 ^ 24 == 2 ^ 24 - 1
@@ -53,6 +56,7 @@ sees c head =
 abbrev pub locks : Bool → ℕ → Bool
 locks may_lock head = may_lock && (head % 2 ^ 24 == 1)
 
+-- at each stage the word, the operation, and how the call goes on with the word's old value
 abbrev pub does : ℕ → Stage → ℕ × Operation × (ℕ → After Stage Answer)
 does c AcquireLoadsHead = (0, Load, λ old. sees c old)
 does c (AcquireLoadsNext head) = (1 + head / 2 ^ 40, Load, λ old. GoOn (AcquireExchangesHead head (old % 2 ^ 24)))

@@ -99,7 +99,7 @@ AcquiresByTable =
     ≡ as_call flights.Acquire acquire_answer
     (went_on as_it_is tt tt (acquire_takes (at_acquire (first_acquire c) stage) stage old)))
 
--- the same for a release in the default mode
+-- what `want` and `after` are, by the tables of `steps`, for a release in the default mode
 abbrev pub ReleasesByTable : Type 0
 ReleasesByTable =
     (c index : ℕ) (stage : ReleaseStage) (old : ℕ)
@@ -108,7 +108,7 @@ ReleasesByTable =
     ≡ as_call flights.ReleaseDefault answers.State
     (went_on as_it_is index tt (release_takes false (at_release (first_release c) stage) stage old)))
 
--- the same for a release in the mode that locks
+-- what `want` and `after` are, by the tables of `steps`, for a release in the mode that locks
 abbrev pub LockingReleasesByTable : Type 0
 LockingReleasesByTable =
     (c index : ℕ) (stage : ReleaseStage) (old : ℕ)

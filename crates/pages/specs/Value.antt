@@ -2,15 +2,15 @@
 use Rattle.std.specs.Prelude.{ℕ, ◌+◌, ◌-◌, ◌%◌, ◌^◌, ◌==◌, Bool, true, false, [], ◌∷◌, if◌then◌else◌}
 use Rattle.pages.specs.Machine.{Operation, Load, Store, Add, Exchange, After, GoOn, Done, Structure, Object}
 
-pub data Call : Type 0 where
+pub data Call : Type 0 where  -- the calls of the value
   StoreValue : (value : ℕ) → Call
   LoadValue : Call
 
-pub data Answer : Type 0 where
+pub data Answer : Type 0 where  -- answers: of StoreValue whether the value was taken, of LoadValue the value
   Stored : (taken : Bool) → Answer
   Loaded : (value : ℕ) → Answer
 
-pub data Stage : Type 0 where
+pub data Stage : Type 0 where  -- what a call does next, with all that it knows
   StoreLoadsVersion : (value : ℕ) → Stage
   StoreStoresCell : (value version : ℕ) → Stage
   StoreAddsVersion : (value : ℕ) → Stage
@@ -18,7 +18,7 @@ pub data Stage : Type 0 where
   LoadLoadsCell : (version : ℕ) → Stage
   LoadChecksVersion : (version value : ℕ) → Stage
 
-abbrev pub first : Call → Stage
+abbrev pub first : Call → Stage  -- the stage with which a call begins
 first (StoreValue value) = StoreLoadsVersion value
 first LoadValue = LoadLoadsVersion
 
@@ -44,9 +44,9 @@ may p LoadValue = true
 abbrev pub value : Structure Call Stage Answer
 value = record { words = 1 ∷ 0 ∷ 0 ∷ 0 ∷ []; may = may; first = first; does = does }
 
-abbrev pub registered : ℕ → Call → Answer × ℕ
+abbrev pub registered : ℕ → Call → Answer × ℕ  -- what the register answers to a call, and the value that it has then
 registered held (StoreValue value) = (Stored true, value)
 registered held LoadValue = (Loaded held, held)
 
-abbrev pub register : Object Call Answer ℕ
+abbrev pub register : Object Call Answer ℕ  -- the sequential object: a register, which has 0 at first
 register = record { opening = 0; act = registered }

@@ -91,8 +91,7 @@ StoresByTable =
     ≡ as_call flights.Store answers.Truth
     (went_on as_it_is value tt (store_takes 1 (record { stage = stage; of = record {} }) stage old)))
 
--- the same for a load
-abbrev pub LoadsByTable : Type 0
+abbrev pub LoadsByTable : Type 0  -- what `want` and `after` are, by the tables of `steps`, for a load
 LoadsByTable =
     (word : ℕ) (stage : LoadStage) (old : ℕ)
     → (want one_word (loading word stage) ≡ load_asks stage)
@@ -128,15 +127,14 @@ as_turn (machine.Next p) = Next p
 abbrev pub acquires : List (Turn ℕ)
 acquires = Begin 0 (Atomic starts.AcquireProducer) ∷ Next 0 ∷ []
 
--- the model's machine of so many parties once party 0 has acquired the role
-abbrev pub acquired : ℕ → Trace ℕ
+abbrev pub acquired : ℕ → Trace ℕ  -- the model's machine of `parties` parties once party 0 has acquired the role
 acquired parties = run acquires (opening one_word kinds.Atomic 1 parties)
 
 -- the history of the model's machine in which party 0 has acquired the role
 abbrev pub role_told : List (Event ℕ)
 role_told = Begun 0 (Atomic starts.AcquireProducer) ∷ Finished 0 (Atomic starts.AcquireProducer) (answers.Truth true) ∷ []
 
--- a number of parties that has room for all of these turns
+-- a number above each party that begins a call in these turns
 abbrev pub parties_of : List (machine.Turn page.Call) → ℕ
 parties_of [] = 1
 parties_of (machine.Begin p call ∷ turns) = p + parties_of turns + 1

@@ -12,10 +12,13 @@ module _ {Call Answer : Type 0} (n : ℕ) where
   open_after b (Invoked p call) = if p == n then true else b
   open_after b (Responded p answer) = if p == n then false else b
 
+  -- If the party invokes a call by this event, it has none pending (`b` is false).
   abbrev pub Fits : Bool → Event Call Answer → Type 0
   Fits b (Invoked p call) = (p == n) ≡ true → b ≡ false
   Fits b (Responded p answer) = Unit {0}
 
+  -- In these events the party invokes only where it has no call pending; `b` says whether it has
+  -- one before them.
   abbrev pub Alternates : Bool → List (Event Call Answer) → Type 0
   Alternates b [] = Unit {0}
   Alternates b (e ∷ es) = Fits b e × Alternates (open_after b e) es
@@ -80,6 +83,7 @@ module _ {Call Stage Answer : Type 0} (of : Structure Call Stage Answer) (n : �
         tells = open_then w.history (Responded p answer) ∙ responds p _ (w.pending n) h.tells;
       }
 
+  -- A step of a party's pending call keeps `Ties`, and a party without one takes no step.
   steps : (w : World Call Stage Answer) (p : ℕ) (o : Option Stage) → w.pending p ≡ o → Ties w → Ties (stepped of w p o)
   steps w p None is h = h
   steps w p (Some stage) is h =

@@ -11,6 +11,7 @@ use Rattle.pages.specs.RolesBridge.{Naming, RunsByRole, all_told, turn_taken, tu
 use Rattle.pages_threads.specs.Known.{Paged, PassesAreLinearizable, PassesRun, RunsThePage, turns_of, world_of}
 
 module _ {T Call Answer : Type 0} (by : Naming T Call Answer) where
+  -- The page takes the turns of two lists as those of the first and then of the second.
   taken_more : (t : Trace T) (xs ys : List (Turn T)) → turns_taken by t (xs ++ ys) ≡ turns_taken by t xs ++ turns_taken by (after_turns t xs) ys
   taken_more t [] ys = refl
   taken_more t (x ∷ xs) ys =
@@ -21,6 +22,7 @@ module _ {T Call Stage Answer : Type 0} (page : Paged T Call Stage Answer)
     (free : (t : Trace T) (turns : List (Turn T)) → AreAllowedBy (refusal_as page.kind) t turns → AreAllowedOn t turns)
     (runs : capacity_error page.kind page.capacity ≡ None → RunsByRole page.by page.structure (opening page.code page.kind page.capacity 0))
   where
+    -- A pass that knows a run of the machine knows a run of the page.
     known : (v : View T) → Knows page.code page.kind page.capacity v → RunsThePage page v
     known v knows =
         ap (all_told page.by) knows.is

@@ -34,6 +34,7 @@ use Rattle.pages_threads.specs.Known.{RunsThePage, index_page, turns_of}
 use Rattle.pages_threads.specs.Silent.{IsSilent, party_of}
 use Rattle.pages_threads.proofs.Alternating.{Alternates, alternates}
 
+-- whether the call is a push
 abbrev is_push : Start ℕ → Bool
 is_push (Queues (PushIndex value)) = true
 is_push (Queues (Push value)) = true
@@ -68,6 +69,7 @@ told_ended p start answer pushed = grind arith
 
 -- ---- of whom a push is under way
 
+-- whether a push of the party is under way
 abbrev pushes : Span ℕ → Bool
 pushes Never = false
 pushes (Open start wrote) = is_push start
@@ -93,11 +95,13 @@ begins_none b span start not_push pushing = grind arith
 ends_none : (b : Bool) (span : Span ℕ) (answer : Answer ℕ) → pushes (if b then ended span answer else span) ≡ true → pushes span ≡ true
 ends_none b span answer pushing = grind (arith, never_ended)
 
+-- A push that is under way after an event that neither begins nor ends one was under way before it.
 after_plain : (q : ℕ) (span : Span ℕ) (e : Event ℕ) → is_plain e ≡ true → pushes (span_after q span e) ≡ true → pushes span ≡ true
 after_plain q span (Begun p start) other pushing = begins_none (p == q) span start other pushing
 after_plain q span (Finished p start answer) other pushing = ends_none (p == q) span answer pushing
 after_plain q span e other pushing = writes_more (is_party q (whose e)) span e pushing
 
+-- A party whose push may end has it under way.
 open_pushes : (start : Start ℕ) (P : List (Event ℕ) → Type 0) (span : Span ℕ) → IsOpenFor start P span → is_push start ≡ true → pushes span ≡ true
 open_pushes start P Never open_for push = absurd open_for
 open_pushes start P (Open call wrote) open_for push = ap is_push open_for.0 ∙ push
@@ -120,7 +124,7 @@ only_plain o before e plain only q pushing =
 only_begun : (before : List (Event ℕ)) (p : ℕ) (start : Start ℕ) → Only None before → Only (Some p) (before ++ Begun p start ∷ [])
 only_begun before p start only q pushing = go (p == q) refl (subst (λ s. pushes s ≡ true) (span_more q before (Begun p start)) pushing)
   where
-    -- so it is of that party and of every other
+    -- the cases are whether q is the party p
     go : (b : Bool) → (p == q) ≡ b → pushes (span_after q (span_of q before) (Begun p start)) ≡ true → Some p ≡ Some q
     go true same pushing = ap Some (is_it p q same)
     go false other pushing =
@@ -132,7 +136,7 @@ only_begun before p start only q pushing = go (p == q) refl (subst (λ s. pushes
 only_ended : (before : List (Event ℕ)) (p : ℕ) (start : Start ℕ) (answer : Answer ℕ) → Only (Some p) before → Only None (before ++ Finished p start answer ∷ [])
 only_ended before p start answer only q pushing = go (p == q) refl (subst (λ s. pushes s ≡ true) (span_more q before (Finished p start answer)) pushing)
   where
-    -- so it is of that party and of every other
+    -- the cases are whether q is the party p
     go : (b : Bool) → (p == q) ≡ b → pushes (span_after q (span_of q before) (Finished p start answer)) ≡ true → None ≡ Some q
     go true same pushing =
         let there : pushes (ended (span_of q before) answer) ≡ true = rw same at pushing in
@@ -156,7 +160,7 @@ none_is None nothing = refl
 none_is (Some p) nothing = absurd (cc)
 
 module _ (promise : Promise ℕ) (capacity : ℕ) (es : List (Event ℕ)) (spans : Each (StandsRight promise capacity) es) where
-  -- so far at most this party pushes, and the page sees its calls alternate from here on
+  -- at most this party pushes in these events, and the page sees its calls alternate from here on
   record Here (before after : List (Event ℕ)) : Type 0 where
     pub who : Option ℕ
     pub only : Only who before
@@ -215,7 +219,7 @@ module _ (promise : Promise ℕ) (capacity : ℕ) (es : List (Event ℕ)) (spans
 
   -- while this party pushes, and writes nothing but what a step writes
   module _ (p : ℕ) (during before after : List (Event ℕ)) (only : Only (Some p) before) where
-    -- one event, and then the others
+    -- the first event, and then the rest
     abbrev Silent : Event ℕ → Type 0
     Silent e =
         es ≡ before ++ e ∷ (during ++ after) → Alternates 0 true (all_told by_role (e ∷ during ++ after))
@@ -243,6 +247,7 @@ module _ (promise : Promise ℕ) (capacity : ℕ) (es : List (Event ℕ)) (spans
         let ends : ⊥ × AllByRecursion IsQuiet (events_by p during) = rw mine at quiet in
         absurd ends.0
 
+    -- No event at which the party's push goes on shows the page a call of its producer.
     one : (e : Event ℕ) → Silent e
     one (Begun q start) is rest quiet next = begun q start (is_push start) refl is rest quiet next
     one (Finished q start answer) is rest quiet next = finished q start answer (is_push start) refl is rest quiet next

@@ -14,7 +14,7 @@ use Rattle.pages.specs.IndexQueue.{Pop, Push}
 use Rattle.pages.specs.Machine as machine
 use Rattle.pages_threads.specs.Known.{RunsThePage, index_page, turns_of}
 
--- a call of a queue, with so many of its steps
+-- the turns of a call of a queue by party p: its begin and `steps` steps
 abbrev call : ℕ → QueueStart ℕ → ℕ → List (Turn ℕ)
 call p start steps = begins p (Queues start) steps
 

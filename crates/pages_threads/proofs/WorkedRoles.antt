@@ -22,7 +22,7 @@ use Rattle.pages.specs.Value as single
 use Rattle.pages_threads.specs.Known.{RunsThePage, overflowing_page, queue_page, turns_of, value_page, world_of}
 
 module _ {T : Type 0} where
-  -- the party begins the call, and takes so many of its steps
+  -- party p begins the call, and takes `steps` of its steps
   abbrev call : ℕ → Start T → ℕ → List (Turn T)
   call p start steps = Begin p start ∷ replicate steps (Next p)
 
@@ -49,6 +49,7 @@ overflow_turns : turns_of (overflowing_page 1) overflows
     ∷ machine.Begin 1 overflowing.Pop ∷ machine.Next 1 ∷ machine.Next 1 ∷ machine.Next 1 ∷ machine.Next 1 ∷ machine.Next 0 ∷ []
 overflow_turns = refl
 
+-- The page sees two pushes of party 0 that hand nothing back, and a pop of party 1 that gets 5.
 overflow_history : (world_of (overflowing_page 1) (turns_of (overflowing_page 1) overflows)).history
     ≡ machine.Invoked 0 (overflowing.Push 5) ∷ machine.Responded 0 None ∷ machine.Invoked 0 (overflowing.Push 6)
     ∷ machine.Invoked 1 overflowing.Pop ∷ machine.Responded 1 (Some 5) ∷ machine.Responded 0 None ∷ []
@@ -91,6 +92,7 @@ value_turns : turns_of value_page stores
     ∷ machine.Begin 4 single.LoadValue ∷ machine.Next 4 ∷ machine.Next 4 ∷ machine.Next 4 ∷ []
 value_turns = refl
 
+-- The page sees a store of 5 that has ended, one of 6 that has not, and a load that answers 5.
 value_history : (world_of value_page (turns_of value_page stores)).history
     ≡ machine.Invoked 0 (single.StoreValue 5) ∷ machine.Responded 0 (single.Stored true) ∷ machine.Invoked 0 (single.StoreValue 6)
     ∷ machine.Invoked 4 single.LoadValue ∷ machine.Responded 4 (single.Loaded 5) ∷ []
@@ -141,6 +143,7 @@ values_turns : turns_of (queue_page pairs 2) pushes
     ∷ machine.Begin 1 page.Pop ∷ machine.Next 1 ∷ machine.Next 1 ∷ []
 values_turns = refl
 
+-- The first pop gets the first value, and the second none: the second push has not answered.
 values_history : (world_of (queue_page pairs 2) (turns_of (queue_page pairs 2) pushes)).history
     ≡ machine.Invoked 0 (page.Push (5, 6)) ∷ machine.Responded 0 (page.Pushed true) ∷ machine.Invoked 0 (page.Push (7, 8))
     ∷ machine.Invoked 1 page.Pop ∷ machine.Responded 1 (page.Popped (Some (5, 6)))

@@ -1,4 +1,5 @@
--- The words of a set that is emptied, one word after another.
+-- A `reset_all` of a counting bit set, one word after another: what each step does, and that the closure is
+-- called with each count.
 use Rattle.std.proofs.Common.{◌≡◌, ◌≢◌, ℕ, zero, suc, ◌+◌, ◌<◌, ◌≤◌, ⊎_elim, List, [], ◌∷◌, length, drop}
 use Rattle.std.proofs.Common.{replicate, refl, sym, ap, subst, ◌∙◌, arith, slice_index, slice_set, eq-eqb, ne_eqb}
 use Rattle.plain.proofs.Names.{FoldsTo, cases_lt, nat_tests, GoOn, ResetAll}
@@ -14,14 +15,17 @@ use Rattle.plain.specs.Visits.{Takes, WasCalled}
 -- ---- one step of the call
 
 module _ (call : ResetAll) (low : call.word < call.end) (words : List ℕ) where
+  -- a `reset_all` that is not done asks to swap its word with 0
   asks : reset_all_want call ≡ wants.Ask (record { word = call.word; op = Swap 0 })
   asks = grind (arith, nat_tests)
 
+  -- after the step the room has what stood in the word
   pub room_is : (room : OneWord)
       → room_then (reset_all_want call) room (reset_all_kept room (answer_in words (reset_all_want call)))
       ≡ record { 0 = slice_index words call.word }
   room_is room = ap (λ w. room_then w room (reset_all_kept room (answer_in words w))) asks
 
+  -- after the step the word is 0, and all others are as before
   pub words_are : words_then words (reset_all_want call) ≡ slice_set words call.word 0
   words_are = ap (words_then words) asks
 
@@ -31,38 +35,44 @@ module _ (call : ResetAll) (low : call.word < call.end) (words : List ℕ) where
       ≡ GoOn (record { word = call.word + 1; end = call.end })
   goes_on = grind (arith, stepped, asks, nat_tests)
 
--- ---- the words so far
+-- ---- the words after the first few steps
 
--- the first few are 0
+-- the words with the first n of them 0
 abbrev pub swept : ℕ → List ℕ → List ℕ
 swept zero xs = xs
 swept (suc n) [] = []
 swept (suc n) (x ∷ xs) = 0 ∷ swept n xs
 
+-- the word n is not swept yet
 pub swept_at : (n : ℕ) (xs : List ℕ) → slice_index (swept n xs) n ≡ slice_index xs n
 swept_at zero xs = refl
 swept_at (suc n) [] = refl
 swept_at (suc n) (x ∷ xs) = swept_at n xs
 
+-- to set the word n to 0 sweeps one word more
 swept_more : (n : ℕ) (xs : List ℕ) → n < length xs → slice_set (swept n xs) n 0 ≡ swept (suc n) xs
 swept_more n [] within = absurd (omega arith)
 swept_more zero (x ∷ xs) within = refl
 swept_more (suc n) (x ∷ xs) within = ap (λ ys. 0 ∷ ys) (swept_more n xs (omega arith))
 
+-- as many words are left
 pub swept_length : (n : ℕ) (xs : List ℕ) → length (swept n xs) ≡ length xs
 swept_length zero xs = refl
 swept_length (suc n) [] = refl
 swept_length (suc n) (x ∷ xs) = ap suc (swept_length n xs)
 
+-- once all words are swept, all are 0
 pub swept_all : (xs : List ℕ) → swept (length xs) xs ≡ replicate (length xs) 0
 swept_all [] = refl
 swept_all (x ∷ xs) = ap (λ ys. 0 ∷ ys) (swept_all xs)
 
+-- the words from n on are the word n and those after it
 rest_of : (n : ℕ) (xs : List ℕ) → n < length xs → drop n xs ≡ slice_index xs n ∷ drop (suc n) xs
 rest_of n [] within = absurd (omega arith)
 rest_of zero (x ∷ xs) within = refl
 rest_of (suc n) (x ∷ xs) within = rest_of n xs (omega arith)
 
+-- after all words there is none
 drop_all : (xs : List ℕ) → drop (length xs) xs ≡ []
 drop_all [] = refl
 drop_all (x ∷ xs) = drop_all xs
@@ -71,10 +81,12 @@ drop_all (x ∷ xs) = drop_all xs
 
 module _ {F : Type 0} (pre : F → BitState → Type 0) (step : F → BitState → Unit {0} → F → Type 0)
     (capacity : ℕ) (before : List ℕ) (first : F) where
+  -- the counts from this place on, each with its place
   abbrev left : ℕ → List BitState
   left place = states_from place (drop place before)
 
-  -- before this place each word is 0, and the counts from it on are those that are still to be handed out
+  -- The emptying has come to this place. The words before it are 0, the closure may be called with the counts
+  -- from there on, and if it is, it will have been called with all counts.
   pub record Emptying (place : ℕ) (call : ResetAll) (words : List ℕ) (visit : F) : Type 0 where
     pub long : length before ≡ capacity
     pub at : place < capacity → call ≡ record { word = place; end = capacity }
@@ -84,87 +96,102 @@ module _ {F : Type 0} (pre : F → BitState → Type 0) (step : F → BitState �
         → FoldsTo (λ p x q. step p x tt q) visit (states_from place (drop place before)) last
         → FoldsTo (λ p x q. step p x tt q) first (states before) last
 
+  -- an emptying that begins has come to place 0
   pub begins : length before ≡ capacity → Takes pre step (states before) first
       → (call : ResetAll) → call ≡ record { word = 0; end = capacity } → Emptying 0 call before first
   begins = grind (arith, words_are)
 
+  -- a place without a count is not among those left
   left_none : (place : ℕ) → place < length before → slice_index before place ≡ 0
       → left place ≡ left (place + 1)
   left_none = grind (arith, suc, rest_of, drop, eq-eqb)
 
+  -- a place with a count is the first of those left
   left_one : (place : ℕ) → place < length before → slice_index before place ≢ 0
       → left place ≡ record { bit = place; count = slice_index before place } ∷ left (place + 1)
   left_one = grind (arith, suc, rest_of, drop, ne_eqb)
 
+  -- the word at the place has still its count
   pub found : (place : ℕ) (call : ResetAll) (words : List ℕ) (visit : F) → Emptying place call words visit
       → slice_index words place ≡ slice_index before place
-  found place call words visit h = ap (λ ws. slice_index ws place) h.words_are ∙ swept_at place before
+  found place call words visit emptying = ap (λ ws. slice_index ws place) emptying.words_are ∙ swept_at place before
 
+  -- after the step one word more is 0
   more_swept : (place : ℕ) (call : ResetAll) (words now : List ℕ) (visit : F) → place < capacity
       → Emptying place call words visit → now ≡ slice_set words place 0 → now ≡ swept (place + 1) before
   more_swept = grind (arith, suc, swept_more)
 
   module _ (place : ℕ) (low : place < capacity) (call : ResetAll) (words : List ℕ) (visit : F)
-      (h : Emptying place call words visit) (n : ℕ) (counted : n ≡ slice_index words call.word) where
+      (emptying : Emptying place call words visit) (n : ℕ) (counted : n ≡ slice_index words call.word) where
+    -- what the step has swapped out is the count of the place
     count_is : n ≡ slice_index before place
     count_is =
-        counted ∙ (ap (λ (c : ResetAll). slice_index words c.word) (h.at low) ∙ found place call words visit h)
+        counted ∙ (ap (λ (c : ResetAll). slice_index words c.word) (emptying.at low) ∙ found place call words visit emptying)
 
+    -- the place with its count
     abbrev state : BitState
     state = record { bit = place; count = n }
 
+    -- where the count is above 0, the place is the first of those left
     split : 0 < n → left place ≡ state ∷ left (place + 1)
     split = grind (arith, count_is, left_one)
 
+    -- where the count is above 0, the closure may be called with the place and then with those after it
     both : 0 < n → Takes pre step (state ∷ left (place + 1)) visit
-    both some = subst (λ xs. Takes pre step xs visit) (split some) h.takes
+    both some = subst (λ xs. Takes pre step xs visit) (split some) emptying.takes
 
+    -- where the count is above 0, the closure may be called with it
     pub callable : 0 < n → pre visit (record { bit = place; count = n })
     callable some = (both some).0
 
     module _ (next : ResetAll) (now : List ℕ) (is : now ≡ slice_set words call.word 0)
         (goes : call.word + 1 < call.end → next ≡ record { word = call.word + 1; end = call.end }) where
+      -- after the step the word of this place is 0
       now_is : now ≡ slice_set words place 0
-      now_is = is ∙ ap (λ (c : ResetAll). slice_set words c.word 0) (h.at low)
+      now_is = is ∙ ap (λ (c : ResetAll). slice_set words c.word 0) (emptying.at low)
 
+      -- the call goes on at the next place
       next_at : place + 1 < capacity → next ≡ record { word = place + 1; end = capacity }
       next_at = grind arith
 
-      -- once the count of a place is handed out, where it is not 0, the word is 0 and the emptying
-      -- goes on at the next place
+      -- after a step, and a call of the closure where the count is above 0, the emptying has
+      -- come to the next place
       pub empties_one : (later : F) → (0 < n → step visit (record { bit = place; count = n }) tt later)
           → (n ≡ 0 → later ≡ visit) → Emptying (place + 1) next now later
       empties_one later did same =
           ⊎_elim
+          -- the place has a count: the closure was called with it
           (λ (some : 0 < n).
           record {
-            long = h.long;
+            long = emptying.long;
             at = next_at;
-            words_are = more_swept place call words now visit low h now_is;
+            words_are = more_swept place call words now visit low emptying now_is;
             takes = (both some).1 later (did some);
-            calls = λ last f. h.calls last
+            calls = λ last f. emptying.calls last
                 (subst (λ xs. FoldsTo (λ p x q. step p x tt q) visit xs last) (sym (split some)) (later, did some, f));
           })
+          -- the place has no count: the closure was not called and is the same
           (λ (none : n ≤ 0).
-          let long = h.long in
+          let long = emptying.long in
           let is_none : n ≡ 0 = omega arith in
           let rest = left_none place (omega arith) (sym count_is ∙ is_none) in
           subst (λ f. Emptying (place + 1) next now f) (sym (same is_none))
           (record {
-            long = h.long;
+            long = emptying.long;
             at = next_at;
-            words_are = more_swept place call words now visit low h now_is;
-            takes = subst (λ xs. Takes pre step xs visit) rest h.takes;
-            calls = λ last f. h.calls last (subst (λ xs. FoldsTo (λ p x q. step p x tt q) visit xs last) (sym rest) f);
+            words_are = more_swept place call words now visit low emptying now_is;
+            takes = subst (λ xs. Takes pre step xs visit) rest emptying.takes;
+            calls = λ last f. emptying.calls last (subst (λ xs. FoldsTo (λ p x q. step p x tt q) visit xs last) (sym rest) f);
           }))
           (cases_lt 0 n)
 
-  -- all have been
+  -- once it has come to the capacity all counts are 0, and the closure was called with
+  -- each place that had one
   pub ends : (call : ResetAll) (words : List ℕ) (visit : F) → Emptying capacity call words visit
       → (words ≡ uncounted capacity) × WasCalled step (states before) first visit
-  ends call words visit h =
+  ends call words visit emptying =
       let none : left capacity ≡ [] =
-      ap (λ n. states_from capacity (drop n before)) (sym h.long) ∙ ap (states_from capacity) (drop_all before) in (
-        h.words_are ∙ (ap (λ n. swept n before) (sym h.long) ∙ (swept_all before ∙ ap (λ n. replicate n 0) h.long)),
-        h.calls visit (subst (λ xs. FoldsTo (λ p x q. step p x tt q) visit xs visit) (sym none) refl),
+      ap (λ n. states_from capacity (drop n before)) (sym emptying.long) ∙ ap (states_from capacity) (drop_all before) in (
+        emptying.words_are ∙ (ap (λ n. swept n before) (sym emptying.long) ∙ (swept_all before ∙ ap (λ n. replicate n 0) emptying.long)),
+        emptying.calls visit (subst (λ xs. FoldsTo (λ p x q. step p x tt q) visit xs visit) (sym none) refl),
       )

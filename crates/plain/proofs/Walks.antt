@@ -1,4 +1,5 @@
--- What holds where a call that runs alone stops, part by part.
+-- Walks: that a call, run alone, stops within a number of steps with a property of the stop. The walk of a
+-- call within another gives that of the outer call, and a walk gives `Halts` or `Runs`.
 use Rattle.std.proofs.Common.{◌≡◌, ℕ, zero, suc, ◌+◌, ◌^◌, ◌-◌, ◌≤◌, List, refl, sym, subst, arith}
 use Rattle.plain.proofs.Names.{Want, After, GoOn, Done}
 use Rattle.plain.specs.declared.drive.Stop.{Stop}
@@ -6,43 +7,46 @@ use Rattle.plain.specs.declared.drive.Stop.TheVariants.{Asked, Ended}
 use Rattle.plain.specs.Alone.{answer_in, words_then, room_then, goes, stepped, StopsFrom, StopsIn}
 use Rattle.plain.proofs.Alone.{Runs, Halts}
 
--- a sum that computes in its first number
+-- a sum that computes in its first number, as a number of steps has to
 abbrev pub plus : ℕ → ℕ → ℕ
 plus zero n = n
 plus (suc m) n = suc (plus m n)
 
+-- `plus` is the sum
 pub plus_sum : (m n : ℕ) → plus m n ≡ m + n
 plus_sum zero n = omega arith
 plus_sum (suc m) n = omega (arith, plus_sum m n)
 
 module _ {C E : Type 0} where
-  -- it has stopped, and P holds of that, or it goes on
+  -- after a step: P holds of the stop if the call has stopped, and `rest` holds of the call if it goes on
   abbrev pub WalksFrom : (C → List ℕ → Type 0) → (Stop C E → List ℕ → Type 0) → After C (Stop C E) → List ℕ → Type 0
   WalksFrom rest P (GoOn d) words = rest d words
   WalksFrom rest P (Done s) words = P s words
 
-  -- it puts no question, and P holds of its end
+  -- the stop is an end, of which P holds; it is no question
   abbrev pub OnEnd : (E → List ℕ → Type 0) → Stop C E → List ℕ → Type 0
   OnEnd P (Ended e) words = P e words
   OnEnd P (Asked question call) words = ⊥
 
+  -- what follows for each call that goes on follows after a step
   from_map : (rest more : C → List ℕ → Type 0) (P : Stop C E → List ℕ → Type 0) (a : After C (Stop C E)) (words : List ℕ)
       → ((d : C) → rest d words → more d words) → WalksFrom rest P a words → WalksFrom more P a words
-  from_map rest more P (GoOn d) words f walks_from = f d walks_from
-  from_map rest more P (Done s) words f walks_from = walks_from
+  from_map rest more P (GoOn d) words more_of walks_from = more_of d walks_from
+  from_map rest more P (Done s) words more_of walks_from = walks_from
 
 module _ {C E : Type 0} (want : C → Want (Unit {0})) (after : C → ℕ → After C E) where
-  -- in at most so many steps it stops, and P holds of the stop and of the words then
+  -- run alone from these words the call stops within n steps, and P holds of the stop and of the words then
   abbrev pub Walks : ℕ → (Stop C E → List ℕ → Type 0) → C → List ℕ → Type 0
   Walks zero P call words = ⊥
   Walks (suc n) P call words =
       WalksFrom (Walks n P) P (stepped (want call) call (after call (answer_in words (want call)))) (words_then words (want call))
 
-  -- the same of what has become of it
-  abbrev pub Goes : ℕ → (Stop C E → List ℕ → Type 0) → After C E → List ℕ → Type 0
-  Goes n P a words = WalksFrom (Walks n P) P (goes a) words
+  -- what a step has answered stops at once or within n steps more, and P holds of the stop
+  -- and of the words then
+  abbrev pub WalksOn : ℕ → (Stop C E → List ℕ → Type 0) → After C E → List ℕ → Type 0
+  WalksOn n P a words = WalksFrom (Walks n P) P (goes a) words
 
-  -- a walk within so many steps is one within one step more
+  -- a walk within n steps is a walk within one step more
   longer_by_one : (n : ℕ) (P : Stop C E → List ℕ → Type 0) (call : C) (words : List ℕ)
       → Walks n P call words → Walks (suc n) P call words
   longer_by_one zero P call words walks = absurd walks
@@ -50,29 +54,33 @@ module _ {C E : Type 0} (want : C → Want (Unit {0})) (after : C → ℕ → Af
       from_map (Walks n P) (Walks (suc n) P) P (stepped (want call) call (after call (answer_in words (want call)))) (words_then words (want call))
       (λ d u. longer_by_one n P d (words_then words (want call)) u) walks
 
+  -- a walk within n steps is a walk within m + n steps
   pub longer : (m n : ℕ) (P : Stop C E → List ℕ → Type 0) (call : C) (words : List ℕ)
       → Walks n P call words → Walks (plus m n) P call words
   longer zero n P call words walks = walks
   longer (suc m) n P call words walks =
       longer_by_one (plus m n) P call words (longer m n P call words walks)
 
+  -- what a step has answered and stops within n steps stops within m + n steps
   pub goes_longer : (m n : ℕ) (P : Stop C E → List ℕ → Type 0) (a : After C E) (words : List ℕ)
-      → Goes n P a words → Goes (plus m n) P a words
+      → WalksOn n P a words → WalksOn (plus m n) P a words
   goes_longer m n P a words walked =
       from_map (Walks n P) (Walks (plus m n) P) P (goes a) words (λ d u. longer m n P d words u) walked
 
--- this holds of the call, if it goes on
+-- Low holds of the call that a step leads to, if the call goes on
 module _ {C E : Type 0} (Low : C → Type 0) where
+  -- what holds after a step: Low of the call, if it goes on
   abbrev pub LowThen : After C E → Type 0
   LowThen (GoOn d) = Low d
   LowThen (Done e) = Unit {0}
 
+-- what holds of every call holds of the one that a step leads to
 pub any_low : {C E : Type 0} (a : After C E) → LowThen (λ d. Unit {0}) a
 any_low (GoOn d) = tt
 any_low (Done e) = tt
 
--- A call within another: each step of the inner is one of the outer, which goes on from its end. Of the inner call Low
--- holds all the way.
+-- A call within another: each step of the inner call is a step of the outer one, and the outer call goes on
+-- from the end of the inner. Low is a property that the inner call keeps at each step.
 module _ {C E D X : Type 0} (want : C → Want (Unit {0})) (after : C → ℕ → After C E)
     (part_want : D → Want (Unit {0})) (part_after : D → ℕ → After D X)
     (within : D → C) (lift : After D X → After C E) (Low : D → Type 0)
@@ -80,27 +88,30 @@ module _ {C E D X : Type 0} (want : C → Want (Unit {0})) (after : C → ℕ �
     (wants_so : (d : D) → want (within d) ≡ part_want d)
     (goes_so : (d : D) (old : ℕ) → Low d → after (within d) old ≡ lift (part_after d old))
     (lifts : (d : D) → lift (GoOn d) ≡ GoOn (within d)) where
-  abbrev pub Then : ℕ → (Stop C E → List ℕ → Type 0) → X → List ℕ → Type 0
-  Then n P x words = Goes want after n P (lift (Done x)) words
+  -- from the inner call's end x the outer call goes on and stops within n steps, and P holds of the stop
+  abbrev pub OuterWalksOn : ℕ → (Stop C E → List ℕ → Type 0) → X → List ℕ → Type 0
+  OuterWalksOn n P x words = WalksOn want after n P (lift (Done x)) words
 
-  -- what has become of the inner call goes on as the outer one, for so many steps more
+  -- After a step of the inner call the outer one stops within m + n steps: m bounds the steps of the inner
+  -- call, and n those of the outer call after them.
   part_goes : (m n : ℕ) (P : Stop C E → List ℕ → Type 0) (a : After D X) (words : List ℕ) → LowThen Low a
-      → ((d : D) → Low d → Walks part_want part_after m (OnEnd (Then n P)) d words → Walks want after (plus m n) P (within d) words)
-      → Goes part_want part_after m (OnEnd (Then n P)) a words
-      → Goes want after (plus m n) P (lift a) words
-  part_goes m n P (GoOn d) words low on walked =
-      subst (λ a. Goes want after (plus m n) P a words) (sym (lifts d)) (on d low walked)
-  part_goes m n P (Done x) words low on walked = goes_longer want after m n P (lift (Done x)) words walked
+      → ((d : D) → Low d → Walks part_want part_after m (OnEnd (OuterWalksOn n P)) d words → Walks want after (plus m n) P (within d) words)
+      → WalksOn part_want part_after m (OnEnd (OuterWalksOn n P)) a words
+      → WalksOn want after (plus m n) P (lift a) words
+  part_goes m n P (GoOn d) words low later walked =
+      subst (λ a. WalksOn want after (plus m n) P a words) (sym (lifts d)) (later d low walked)
+  part_goes m n P (Done x) words low later walked = goes_longer want after m n P (lift (Done x)) words walked
 
+  -- `part_goes` for a step of any kind: an operation, a question or none
   part_from : (m n : ℕ) (P : Stop C E → List ℕ → Type 0) (w : Want (Unit {0})) (d : D) (a : After D X) (words : List ℕ) → LowThen Low a
-      → ((e : D) → Low e → Walks part_want part_after m (OnEnd (Then n P)) e words → Walks want after (plus m n) P (within e) words)
-      → WalksFrom (Walks part_want part_after m (OnEnd (Then n P))) (OnEnd (Then n P)) (stepped w d a) words
+      → ((e : D) → Low e → Walks part_want part_after m (OnEnd (OuterWalksOn n P)) e words → Walks want after (plus m n) P (within e) words)
+      → WalksFrom (Walks part_want part_after m (OnEnd (OuterWalksOn n P))) (OnEnd (OuterWalksOn n P)) (stepped w d a) words
       → WalksFrom (Walks want after (plus m n) P) P (stepped w (within d) (lift a)) words
   part_from = grind (arith, part_goes)
 
-  -- a walk of the inner call, to an end from which the outer goes on, is a walk of the outer
+  -- a walk of the inner call to an end from which the outer call goes on is a walk of the outer call
   pub part_walks_low : (m n : ℕ) (P : Stop C E → List ℕ → Type 0) (d : D) (words : List ℕ) → Low d
-      → Walks part_want part_after m (OnEnd (Then n P)) d words → Walks want after (plus m n) P (within d) words
+      → Walks part_want part_after m (OnEnd (OuterWalksOn n P)) d words → Walks want after (plus m n) P (within d) words
   part_walks_low zero n P d words low walks = absurd walks
   part_walks_low (suc m) n P d words low walks =
       subst (λ w. WalksFrom (Walks want after (plus m n) P) P
@@ -112,7 +123,7 @@ module _ {C E D X : Type 0} (want : C → Want (Unit {0})) (after : C → ℕ �
       (low_on d (answer_in words (part_want d)) low)
       (λ e less u. part_walks_low m n P e (words_then words (part_want d)) less u) walks))
 
--- the same where nothing is asked of the inner call
+-- a walk of the inner call is a walk of the outer call, where the inner call has to keep no property
 pub part_walks : {C E D X : Type 0} (want : C → Want (Unit {0})) (after : C → ℕ → After C E)
     (part_want : D → Want (Unit {0})) (part_after : D → ℕ → After D X)
     (within : D → C) (lift : After D X → After C E)
@@ -120,36 +131,37 @@ pub part_walks : {C E D X : Type 0} (want : C → Want (Unit {0})) (after : C �
     (goes_so : (d : D) (old : ℕ) → after (within d) old ≡ lift (part_after d old))
     (lifts : (d : D) → lift (GoOn d) ≡ GoOn (within d))
     (m n : ℕ) (P : Stop C E → List ℕ → Type 0) (d : D) (words : List ℕ)
-    → Walks part_want part_after m (OnEnd (λ x ws. Goes want after n P (lift (Done x)) ws)) d words → Walks want after (plus m n) P (within d) words
+    → Walks part_want part_after m (OnEnd (λ x ws. WalksOn want after n P (lift (Done x)) ws)) d words → Walks want after (plus m n) P (within d) words
 part_walks want after part_want part_after within lift wants_so goes_so lifts m n P d words walks =
     part_walks_low want after part_want part_after within lift (λ d. Unit {0}) (λ d old low. any_low (part_after d old))
     wants_so (λ d old low. goes_so d old) lifts m n P d words tt walks
 
--- a walk is a run of the driver
+-- A walk of a call without a room is a run of the driver.
 module _ {C G E : Type 0} (want_of : C → G → Want (Unit {0})) (after : C → G → ℕ → After C E) (given : G) where
-  abbrev Found : ℕ → (Stop C E → List ℕ → Type 0) → C → Unit {0} → List ℕ → Type 0
-  Found n P call room words =
+  -- the driver stops within n steps, and P holds of the stop and of the words then
+  abbrev DriverStops : ℕ → (Stop C E → List ℕ → Type 0) → C → Unit {0} → List ℕ → Type 0
+  DriverStops n P call room words =
       (s : Stop C E) × (r : Unit {0}) × (ws : List ℕ) × StopsIn want_of after (λ c (room : Unit {0}) old. room) given n s r ws call room words × P s ws
 
-  -- where the walk of each call that goes on is a run of the driver, so is that of what a step comes to
+  -- what a step has answered is found by the driver, if each call that goes on is
   found_from : (n : ℕ) (P : Stop C E → List ℕ → Type 0) (a : After C (Stop C E)) (room : Unit {0}) (words : List ℕ)
-      → ((d : C) → Walks (λ c. want_of c given) (λ c old. after c given old) n P d words → Found n P d room words)
+      → ((d : C) → Walks (λ c. want_of c given) (λ c old. after c given old) n P d words → DriverStops n P d room words)
       → WalksFrom (Walks (λ c. want_of c given) (λ c old. after c given old) n P) P a words
       → (s : Stop C E) × (r : Unit {0}) × (ws : List ℕ) × StopsFrom want_of after (λ c (room : Unit {0}) old. room) given
       (StopsIn want_of after (λ c (room : Unit {0}) old. room) given n s r ws) a room words s r ws × P s ws
-  found_from n P (GoOn d) room words on walks_from = on d walks_from
-  found_from n P (Done s) room words on walks_from = (s, room, words, (refl, refl, refl), walks_from)
+  found_from n P (GoOn d) room words later walks_from = later d walks_from
+  found_from n P (Done s) room words later walks_from = (s, room, words, (refl, refl, refl), walks_from)
 
-  -- a walk finds a stop of the driver, of which the same holds
+  -- a walk within n steps gives a stop of the driver within n steps, and P holds of it
   found : (n : ℕ) (P : Stop C E → List ℕ → Type 0) (call : C) (room : Unit {0}) (words : List ℕ)
-      → Walks (λ c. want_of c given) (λ c old. after c given old) n P call words → Found n P call room words
+      → Walks (λ c. want_of c given) (λ c old. after c given old) n P call words → DriverStops n P call room words
   found zero P call room words walks = absurd walks
   found (suc n) P call room words walks =
       found_from n P (stepped (want_of call given) call (after call given (answer_in words (want_of call given))))
       (room_then (want_of call given) room room) (words_then words (want_of call given))
       (λ d u. found n P d (room_then (want_of call given) room room) (words_then words (want_of call given)) u) walks
 
-  -- a call that is walked within a driver's number of steps halts so
+  -- a call that is walked within 2^64 - 1 steps halts, with the walk's property of its stop
   pub halts : (n : ℕ) (P : Stop C E → List ℕ → Type 0) (call : C) (words : List ℕ) → n ≤ 2 ^ 64 - 1
       → Walks (λ c. want_of c given) (λ c old. after c given old) n P call words
       → Halts want_of after (λ c (room : Unit {0}) old. room) given (λ s room ws. P s ws) call tt words
@@ -157,11 +169,13 @@ module _ {C G E : Type 0} (want_of : C → G → Want (Unit {0})) (after : C →
       let f = found n P call tt words walks in
       record { steps = n; few = few; stop = f.0; last_room = f.1; last_words = f.2; stops = f.3; holds = f.4 }
 
+  -- a stop of the driver that is an end is a run of the call
   ended : (n : ℕ) (P : E → List ℕ → Type 0) (call : C) (words : List ℕ) (s : Stop C E) (r : Unit {0}) (ws : List ℕ)
       → n ≤ 2 ^ 64 - 1 → StopsIn want_of after (λ c (room : Unit {0}) old. room) given n s r ws call tt words → OnEnd P s ws
       → Runs want_of after (λ c (room : Unit {0}) old. room) given (λ e room ws. P e ws) call tt words
   ended = grind arith
 
+  -- a call that is walked to its end within 2^64 - 1 steps runs, with the walk's property of its end
   pub runs : (n : ℕ) (P : E → List ℕ → Type 0) (call : C) (words : List ℕ) → n ≤ 2 ^ 64 - 1
       → Walks (λ c. want_of c given) (λ c old. after c given old) n (OnEnd P) call words
       → Runs want_of after (λ c (room : Unit {0}) old. room) given (λ e room ws. P e ws) call tt words

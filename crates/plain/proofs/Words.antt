@@ -1,4 +1,4 @@
--- Words that are read and written one after another.
+-- Words that are stored to a cell or loaded from it one after another.
 use Rattle.std.proofs.Common.{◌≡◌, ℕ, zero, suc, ◌+◌, ◌^◌, ◌<◌, ◌≤◌, ◌⊎◌, inl, inr, ⊎_elim, List, [], ◌∷◌, length}
 use Rattle.std.proofs.Common.{refl, sym, ap, subst, ◌∙◌, arith, slice_index, slice_set, get_or-set_same}
 use Rattle.std.proofs.Common.{get_or-set_other, length-set, take}
@@ -17,15 +17,17 @@ words_same ws vs at (suc n) same_words =
     let tail = words_same ws vs (suc at) n (λ i low high. same_words i (omega arith) (omega arith)) in
     λ i. head i ∷ tail i
 
+-- words of a list with one word before it are those of the list, one place further on
 shifted : (x : ℕ) (xs : List ℕ) (at n : ℕ) → words_from (x ∷ xs) (suc at) n ≡ words_from xs at n
 shifted x xs at zero = refl
 shifted x xs at (suc n) = ap (λ z. slice_index xs at ∷ z) (shifted x xs (suc at) n)
 
+-- all words of a list from its first one on are the list
 pub words_all : (xs : List ℕ) → words_from xs 0 (length xs) ≡ xs
 words_all [] = refl
 words_all (x ∷ xs) = ap (λ z. x ∷ z) (shifted x xs 0 (length xs) ∙ words_all xs)
 
--- these words, from one place on, stored to a cell
+-- the list ws after a store of n words of xs, from place `at` on, to the cell that begins at k
 abbrev pub stored : List ℕ → ℕ → List ℕ → ℕ → ℕ → List ℕ
 stored ws k xs at zero = ws
 stored ws k xs at (suc n) =
@@ -58,10 +60,12 @@ stored_words ws k xs at (suc n) small within =
     let vs : List ℕ = slice_set ws (word_at k at) (slice_index xs at) in
     let long : length vs ≡ length ws = length-set ws (word_at k at) (slice_index xs at) in
     let place : word_at k at ≡ k + at = omega arith in
+    -- the first stored word stands where it was stored, since the later ones are stored behind it
     let head : slice_index (stored vs k xs (at + 1) n) (k + at) ≡ slice_index xs at =
     stored_other vs k xs (at + 1) n (k + at) (omega arith) (inl (omega arith))
     ∙ subst (λ p. slice_index (slice_set ws p (slice_index xs at)) (k + at) ≡ slice_index xs at)
     (sym place) (get_or-set_same ws (k + at) (slice_index xs at) 0 (omega arith)) in
+    -- the later words stand behind it
     let tail : words_from (stored vs k xs (at + 1) n) (k + (at + 1)) n ≡ words_from xs (at + 1) n =
     stored_words vs k xs (at + 1) n (omega arith) (omega arith) in
     let there : k + (at + 1) ≡ suc (k + at) = omega arith in
@@ -70,7 +74,7 @@ stored_words ws k xs at (suc n) small within =
     subst (λ (z : ℕ × ℕ). words_from (stored vs k xs (at + 1) n) z.0 n ≡ words_from xs z.1 n) (λ i. (there i, here i)) tail in
     λ i. head i ∷ tail₂ i
 
--- words of a cell, from one place on, loaded to a room
+-- the list xs after a load into it of n words of the cell of ws that begins at k, from place `at` on
 abbrev pub loaded : List ℕ → List ℕ → ℕ → ℕ → ℕ → List ℕ
 loaded xs ws k at zero = xs
 loaded xs ws k at (suc n) = loaded (slice_set xs at (slice_index ws (word_at k at))) ws k (at + 1) n
@@ -85,6 +89,7 @@ loaded_other xs ws k at (suc n) j out =
     ∙ get_or-set_other xs at j (slice_index ws (word_at k at)) 0
     (λ e. ⊎_elim (λ h. absurd (omega arith)) (λ h. absurd (omega arith)) out)
 
+-- a load of words leaves the room as long as it was
 pub loaded_length : (xs ws : List ℕ) (k at n : ℕ) → length (loaded xs ws k at n) ≡ length xs
 loaded_length xs ws k at zero = refl
 loaded_length xs ws k at (suc n) =
@@ -99,10 +104,12 @@ loaded_words xs ws k at (suc n) small within =
     let ys : List ℕ = slice_set xs at (slice_index ws (word_at k at)) in
     let long : length ys ≡ length xs = length-set xs at (slice_index ws (word_at k at)) in
     let place : word_at k at ≡ k + at = omega arith in
+    -- the first loaded word stands where it was loaded, since the later ones are loaded behind it
     let head : slice_index (loaded ys ws k (at + 1) n) at ≡ slice_index ws (k + at) =
     loaded_other ys ws k (at + 1) n at (inl (omega arith))
     ∙ get_or-set_same xs at (slice_index ws (word_at k at)) 0 (omega arith)
     ∙ ap (slice_index ws) place in
+    -- the later words stand behind it
     let tail : words_from (loaded ys ws k (at + 1) n) (at + 1) n ≡ words_from ws (k + (at + 1)) n =
     loaded_words ys ws k (at + 1) n (omega arith) (omega arith) in
     let there : k + (at + 1) ≡ suc (k + at) = omega arith in
@@ -111,6 +118,7 @@ loaded_words xs ws k at (suc n) small within =
     subst (λ (z : ℕ × ℕ). words_from (loaded ys ws k (at + 1) n) z.0 n ≡ words_from ws z.1 n) (λ i. (here i, there i)) tail in
     λ i. head i ∷ tail₂ i
 
+-- the first n words of a list, taken at once, are those that are taken one after another
 pub take_words : (xs : List ℕ) (n : ℕ) → n ≤ length xs → take n xs ≡ words_from xs 0 n
 take_words xs zero within = refl
 take_words [] (suc n) within = absurd (omega arith)
@@ -120,6 +128,7 @@ take_words (x ∷ xs) (suc n) within =
 -- ---- words of a cell, from one place on, read into a room
 
 module _ {R : Type 0} (with_word : R → ℕ → ℕ → R) where
+  -- the room after n words of the cell that begins at k were put into it, from place `at` on
   abbrev pub read_in : R → List ℕ → ℕ → ℕ → ℕ → R
   read_in room ws k at zero = room
   read_in room ws k at (suc n) =
@@ -136,7 +145,7 @@ module _ {V R : Type 0} (value_of : List ℕ → V) (size : ℕ) (words_in : R �
       read_words (with_word room at (slice_index ws (word_at k at))) ws k (at + 1) n
       ∙ ap (λ xs. loaded xs ws k (at + 1) n) (put_in room at (slice_index ws (word_at k at)))
 
-  -- the value that a room then has
+  -- the value that a room makes after a whole cell was read into it is the value of the cell's words
   pub value_read : (room : R) (ws : List ℕ) (k : ℕ) → size ≤ length (words_in room)
       → k + 0 + size < 2 ^ 64
       → value_in value_of size (words_in (read_in with_word room ws k 0 size)) ≡ value_of (words_from ws k size)

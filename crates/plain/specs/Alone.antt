@@ -29,31 +29,32 @@ written_by words at (Exchange from to) =
 abbrev pub written_at : List ℕ → Ask → List ℕ
 written_at words ask = written_by words ask.word ask.op
 
--- what the call is handed: the word's old value, or 0 where it asks for none
+-- what the call is handed as an answer: the word's old value, or 0 where it asks for no operation
 abbrev pub answer_in : List ℕ → Want (Unit {0}) → ℕ
 answer_in words (wants.Ask ask) = slice_index words ask.word
 answer_in words (wants.Question question) = 0
 answer_in words wants.Nothing = 0
 
--- the words after what a call waits for: an operation writes its word, a question none
+-- the words after what a call asks for: an operation changes its word, a question no word
 abbrev pub words_then : List ℕ → Want (Unit {0}) → List ℕ
 words_then words (wants.Ask ask) = written_at words ask
 words_then words (wants.Question question) = words
 words_then words wants.Nothing = words
 
--- the room after what a call waits for: a question changes nothing
+-- the room after what a call asks for: a question does not change it
 abbrev pub room_then : {M : Type 0} → Want (Unit {0}) → M → M → M
 room_then (wants.Ask ask) room new = new
 room_then (wants.Question question) room new = room
 room_then wants.Nothing room new = new
 
 module _ {C E : Type 0} where
-  -- a call that goes on, or has come to its end
+  -- what a driver makes of the answer to a step: the call goes on, or the driver stops at its end
   abbrev pub goes : After C E → After C (Stop C E)
   goes (GoOn d) = GoOn d
   goes (Done e) = Done (Ended e)
 
-  -- a call that waits for this: at a question it stops, and else it goes on so
+  -- one step of a driver whose call asks for this: at a question it stops, and else the call goes on or ends
+  -- as `next` says
   abbrev pub stepped : Want (Unit {0}) → C → After C E → After C (Stop C E)
   stepped (wants.Ask ask) call next = goes next
   stepped (wants.Question question) call next = Done (Asked question call)
@@ -63,13 +64,15 @@ module _ {C E : Type 0} where
 
 module _ {C G M E : Type 0} (want_of : C → G → Want (Unit {0})) (after : C → G → ℕ → After C E)
     (kept : C → M → ℕ → M) (given : G) where
-  -- a call that has come so far has stopped so, or stops so from where it stands
+  -- How a call stops after a step: where the step has stopped it, it is this stop with this room and these
+  -- words; where the call goes on, `rest` holds of the stage that it has come to.
   abbrev pub StopsFrom : (C → M → List ℕ → Type 0) → After C (Stop C E) → M → List ℕ → Stop C E → M → List ℕ → Type 0
   StopsFrom rest (GoOn d) room words stop last_room last_words = rest d room words
   StopsFrom rest (Done s) room words stop last_room last_words =
       (stop ≡ s) × (last_room ≡ room) × (last_words ≡ words)
 
-  -- the call, run alone from here, takes so many steps and stops with these
+  -- the call, run alone from these words, stops within this many steps, at this stop, with this last room and
+  -- these last words; a question at which it stops counts as a step
   abbrev pub StopsIn : ℕ → Stop C E → M → List ℕ → C → M → List ℕ → Type 0
   StopsIn zero stop last_room last_words call room words = ⊥
   StopsIn (suc n) stop last_room last_words call room words =
@@ -79,7 +82,7 @@ module _ {C G M E : Type 0} (want_of : C → G → Want (Unit {0})) (after : C �
       (kept call room (answer_in words (want_of call given))))
       (words_then words (want_of call given)) stop last_room last_words
 
-  -- the call, run alone, comes to a stop, in fewer than 2^64 steps
+  -- the call, run alone from these words, comes to a stop in fewer than 2^64 steps
   pub record CanStop (call : C) (room : M) (words : List ℕ) : Type 0 where
     pub steps : ℕ
     -- these are fewer than 2^64
@@ -89,26 +92,26 @@ module _ {C G M E : Type 0} (want_of : C → G → Want (Unit {0})) (after : C �
     pub last_words : List ℕ
     pub stops : StopsIn steps stop last_room last_words call room words
 
-  -- the stop is that at which the call stops when it runs alone
+  -- this is the stop, with its room and words, of each run of the call alone
   abbrev pub StopsAlike : C → M → List ℕ → Stop C E → M → List ℕ → Type 0
   StopsAlike call room words stop last_room last_words =
       (n : ℕ) (s : Stop C E) (r : M) (ws : List ℕ) → StopsIn n s r ws call room words
       → (stop ≡ s) × (last_room ≡ r) × (last_words ≡ ws)
 
-  -- ---- the same for a call that puts no question
+  -- ---- a call that puts no question: it stops only at its end
 
-  -- the call comes to this end in n steps
+  -- the call, run alone from these words, comes to this end within n steps
   abbrev pub EndsIn : ℕ → E → M → List ℕ → C → M → List ℕ → Type 0
   EndsIn n end last_room last_words call room words =
       StopsIn n (Ended end) last_room last_words call room words
 
-  -- a call that goes on so, or has ended, comes to this end in n steps more
+  -- what a step of the call has answered leads to this end: at once, or within n steps more
   abbrev pub EndsFrom : ℕ → E → M → List ℕ → After C E → M → List ℕ → Type 0
   EndsFrom n end last_room last_words next room words =
       StopsFrom (StopsIn n (Ended end) last_room last_words) (goes next) room words (Ended end)
       last_room last_words
 
-  -- it comes to an end, in fewer than 2^64 steps
+  -- the call, run alone from these words, comes to an end in fewer than 2^64 steps
   pub record CanEnd (call : C) (room : M) (words : List ℕ) : Type 0 where
     pub steps : ℕ
     -- these are fewer than 2^64
@@ -118,7 +121,7 @@ module _ {C G M E : Type 0} (want_of : C → G → Want (Unit {0})) (after : C �
     pub last_words : List ℕ
     pub ends : EndsIn steps end last_room last_words call room words
 
-  -- the end is that with which the call ends when it runs alone
+  -- this is the end, with its room and words, of each run of the call alone
   abbrev pub EndsAlike : C → M → List ℕ → E → M → List ℕ → Type 0
   EndsAlike call room words end last_room last_words =
       (n : ℕ) (e : E) (r : M) (ws : List ℕ) → EndsIn n e r ws call room words
@@ -126,7 +129,9 @@ module _ {C G M E : Type 0} (want_of : C → G → Want (Unit {0})) (after : C �
 
 -- ---- a call of an object
 
--- It took one state of an object to the next, and answered as the object does; the words fit again.
+-- The call does to the words what the object's call does to the object: `answer` and `next` of the object
+-- that the words were read as are what it answered and what the words are read as then. The words represent
+-- an object again.
 abbrev pub BehavesAs : {S A : Type 0} → (List ℕ → Type 0) → (List ℕ → S) → (S → A) → (S → S)
     → List ℕ → A → List ℕ → Type 0
 BehavesAs Represents read answer next old answered new =

@@ -10,15 +10,16 @@ use Rattle.steps.specs.Objects.Owners.{Owners, Owned, to_recover, recovered}
 
 -- ---- find
 
--- the closure may be called with each of these, once it was called with those before and said Continue
+-- the closure may be called with each of these indices, once it was called with those before
+-- it and said Continue
 pub record TakesIndices {F : Type 0} (pre : F → ℕ → Type 0)
     (step : F → ℕ → CallbackProgression → F → Type 0) (indices : List ℕ) (f : F) : Type 0 where
   pub at : (before : List ℕ) (now : F) (index : ℕ) (rest : List ℕ)
       → FoldsTo (λ p x q. step p x Continue q) f before now → before ++ index ∷ rest ≡ indices
       → pre now index
 
--- It was called with these, up to the first on which it said Stop, and n is how many.
--- These calls made it what it is at the end.
+-- The closure was called with these indices, up to the first on which it said Stop: n is the number of calls.
+-- These calls led it from its state f to its state `last`.
 pub record HasFound {F : Type 0} (step : F → ℕ → CallbackProgression → F → Type 0)
     (indices : List ℕ) (f : F) (n : ℕ) (last : F) : Type 0 where
   -- those on which it said Continue
@@ -45,22 +46,23 @@ questions asked = map (λ (a : Asked). a.of) asked
 abbrev pub agreed : List Asked → List Owned
 agreed asked = map (λ (a : Asked). a.of) (filter (λ (a : Asked). a.yes) asked)
 
--- the calls of a closure that is asked, and of one that is told
+-- the closure that a recovery asks was called with the question's owner and index, and gave its answer
 abbrev pub asks : {F : Type 0} → (F → ℕ → ℕ → Bool → F → Type 0) → F → Asked → F → Type 0
 asks step p a q = step p a.of.owner a.of.index a.yes q
 
--- the closure was told of this index
+-- the closure that a recovery tells of freed indices was told of this index and its owner
 abbrev pub tells : {S : Type 0} → (S → ℕ → ℕ → S → Type 0) → S → Owned → S → Type 0
 tells step p o q = step p o.owner o.index q
 
--- the closure may be asked about each of these, once it was asked about those before
+-- the closure may be asked about each of these indices, once it was asked about those before it
 pub record TakesQuestions {F : Type 0} (pre : F → ℕ → ℕ → Type 0)
     (step : F → ℕ → ℕ → Bool → F → Type 0) (all : List Owned) (f : F) : Type 0 where
   pub at : (before : List Asked) (now : F) (o : Owned) (rest : List Owned)
       → FoldsTo (asks step) f before now → questions before ++ o ∷ rest ≡ all
       → pre now o.owner o.index
 
--- after a yes about one of these the other closure may be told of it, once it was told of those of a yes before
+-- after a yes about one of these indices the other closure may be told of it, once it was told of those
+-- before it with a yes
 pub record TakesFreed {F S : Type 0} (step : F → ℕ → ℕ → Bool → F → Type 0)
     (pre : S → ℕ → ℕ → Type 0) (tell : S → ℕ → ℕ → S → Type 0) (all : List Owned)
     (f : F) (s : S) : Type 0 where
@@ -69,8 +71,9 @@ pub record TakesFreed {F S : Type 0} (step : F → ℕ → ℕ → Bool → F �
       → questions before ++ o ∷ rest ≡ all → FoldsTo (tells tell) s (agreed before) now
       → pre now o.owner o.index
 
--- The one closure was asked about all there is to recover, in its order, the other told of those of a yes, and these
--- were given back. These calls made the closures what they are at the end.
+-- What a recovery has done: one closure was asked about each index that there is to recover, in order, the
+-- other was told of those of a yes, and these were given back. These calls led the closures from their states
+-- f and s to `f_last` and `s_last`.
 pub record HasRecovered {F S : Type 0} (step : F → ℕ → ℕ → Bool → F → Type 0)
     (tell : S → ℕ → ℕ → S → Type 0) (mode : ReleaseMode) (old new : Owners)
     (f : F) (s : S) (f_last : F) (s_last : S) : Type 0 where

@@ -9,7 +9,8 @@ module _ {V : Type 0} where
   abbrev pub MayChange : Contents V → Type 0
   MayChange s = s.changes < 2 ^ 63 - 1
 
-  -- Each index has a number, which is even where nothing stands. A change raises it by 2 at most.
+  -- What numbers of the indices of a container must be: each index has one, at most twice the number of
+  -- changes, and no value stands under an even one.
   pub record IsCounted (s : Contents V) : Type 0 where
     pub counts : length s.counts ≡ capacity s
     pub values : length s.values ≡ capacity s
@@ -19,8 +20,9 @@ module _ {V : Type 0} where
     pub even : (i : ℕ) → is_even (slice_index s.counts i) ≡ true
         → slice_index_or s.values i None ≡ None
 
-  -- What a state has seen of its container: no higher number than is there, under the number that is there the value
-  -- that stands there, and where no change was counted since, all numbers.
+  -- The state of the container whose snapshot is `seen` follows the container: it has seen no number higher
+  -- than the container has, at each index whose number it has seen it shows the value that stands there, and
+  -- where no change was counted since, it has seen all numbers.
   pub record Follows (s : Contents V) (seen : Snapshot V) : Type 0 where
     pub counted : IsCounted s
     pub counts : length seen.counts ≡ capacity s
@@ -35,7 +37,8 @@ module _ {V : Type 0} where
     -- where no change was counted since, it has seen all numbers
     pub all : s.changes ≡ seen.changes → s.counts ≡ seen.counts
 
-  -- a call that makes the one of the other leaves each state of the container following it
+  -- a call that makes `new` of the container `old` keeps its numbers as they must be, and each state that
+  -- followed it follows it still
   pub record Keeps (old new : Contents V) : Type 0 where
     pub counts : IsCounted old → IsCounted new
     pub follows : (seen : Snapshot V) → Follows old seen → Follows new seen

@@ -34,7 +34,8 @@ module _ {V : Type 0} where
   abbrev pub IsStateOf : Contents V → ContainerState V → Type 0
   IsStateOf s state = (state.container ≡ s.container) × (state.capacity ≡ capacity s)
 
-  -- Its parts agree: what it shows is what it has seen. So it comes from the container, and so each call leaves it.
+  -- The state's parts agree: it shows the numbers that it has seen. A state that `get_state` has made is
+  -- settled, and each call on it leaves it settled.
   pub record IsSettled (state : ContainerState V) : Type 0 where
     pub change : state.shown.change ≡ state.seen.change
     pub counts : map (λ (e : Element V). e.count) state.shown.elements ≡ state.seen.counts
@@ -43,7 +44,8 @@ module _ {V : Type 0} where
 
   -- ---- brought up to date
 
-  -- an index whose number it has seen shows what it showed, each other one what stands there
+  -- the value that an updated state shows at an index: what it showed where it has seen the number,
+  -- else what stands there
   abbrev pub value_then : Contents V → Snapshot V → ℕ → Option V
   value_then s seen index =
       if slice_index s.counts index == slice_index seen.counts index
@@ -62,7 +64,7 @@ module _ {V : Type 0} where
         values = map (value_then s seen) (range_with_len 0 (capacity s));
       }
 
-  -- a call brought the state up to date, and answered so
+  -- an update of the state by a call on its container, which answered this
   pub record Brought (s : Contents V) (old : ContainerState V) (answer : Bool) (new : ContainerState V) : Type 0 where
     -- whether a change was counted since it was up to date
     pub answers : answer ≡ not (s.changes == old.seen.change)

@@ -5,7 +5,7 @@ use Rattle.steps.specs.Indices.Head.{next_word, flag_word, has_flag, proposed, s
 use Rattle.steps.specs.Indices.Unique.{borrowed_number}
 use Rattle.steps.specs.Objects.Stacks.{Stack}
 
--- n indices of the list of free ones, from this one on: the word of each names the next
+-- n indices of the chain of free ones, from this one on: the next word of each index names the one after it
 abbrev pub chain : List ℕ → ℕ → ℕ → List ℕ
 chain words index zero = []
 chain words index (suc n) =

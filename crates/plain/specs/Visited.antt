@@ -20,12 +20,12 @@ module _ {V : Type 0} where
   abbrev pub handle_of : Contents V → (owner index : ℕ) → ContainerHandle
   handle_of s owner index = record { index = index; owner = owner; container = s.container }
 
-  -- the closure may be called with the value at the index and its handle
+  -- the closure may be called with the value that stands at the index, and its handle
   abbrev pub MaySee : {F : Type 0} → (F → V → ContainerHandle → Type 0) → Contents V → ℕ → F → ℕ → Type 0
   MaySee pre s owner p index =
       (value : V) → Stands s index value → pre p value (handle_of s owner index)
 
-  -- the closure was called with the value at the index and its handle, and said so
+  -- the closure was called with the value that stands at the index and its handle, and answered `said`
   abbrev pub Sees : {F : Type 0} → (F → V → ContainerHandle → CallbackProgression → F → Type 0) → Contents V
       → ℕ → F → ℕ → CallbackProgression → F → Type 0
   Sees step s owner p index said q =
@@ -33,15 +33,15 @@ module _ {V : Type 0} where
 
   -- ---- recover
 
-  -- the indices of the owner, ascending, none once it is locked
+  -- the indices of the owner, ascending, each with its owner; none once the container is locked
   abbrev pub to_ask : Contents V → ℕ → List Owned
   to_ask s owner = filter (λ (o : Owned). o.owner == owner) (to_recover s.owners)
 
-  -- the closure may be asked about the value at the index
+  -- the closure may be asked about the value that stands at the index
   abbrev pub MayAsk : {F : Type 0} → (F → V → Type 0) → Contents V → F → ℕ → ℕ → Type 0
   MayAsk pre s p owner index = (value : V) → Stands s index value → pre p value
 
-  -- the closure was asked about the value at the index, and said so
+  -- the closure was asked about the value that stands at the index, and answered `said`
   abbrev pub Says : {F : Type 0} → (F → V → Bool → F → Type 0) → Contents V → F → ℕ → ℕ → Bool → F → Type 0
   Says step s p owner index said q =
       (value : V) × Stands s index value × step p value said q
@@ -57,7 +57,7 @@ module _ {V : Type 0} where
         changes = s.changes;
       }
 
-  -- the contents once all of these were freed in turn
+  -- the contents once all of these indices were freed, one after another
   abbrev pub all_freed : ReleaseMode → Contents V → List Owned → Contents V
   all_freed mode s which = fold (λ t (o : Owned). freed mode t o.index) s which
 
@@ -65,8 +65,8 @@ module _ {V : Type 0} where
   abbrev pub one_change : Contents V → Contents V
   one_change s = record s { changes = one_more s.changes }
 
-  -- The closure was asked about the values of all of these, in their order, and those of a yes were freed, as one
-  -- change. These calls made the closure what it is at the end.
+  -- What a recovery has done: the closure was asked about the value at each index of `to_ask`, in order, and
+  -- those of a yes were freed, as one change. These calls led the closure from its state f to `last`.
   pub record HasRecovered {F : Type 0} (step : F → V → Bool → F → Type 0) (owner : ℕ) (mode : ReleaseMode)
       (old new : Contents V) (f last : F) : Type 0 where
     pub asked : List Asked

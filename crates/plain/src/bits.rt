@@ -38,7 +38,7 @@ impl Model for BitSet {
     ghost invariant = { λ s. Represents s.capacity s.words.items };
 }
 
-/// A place is set, over the words of a set.
+/// Drives a call `Set` on the place to its end, over the words of a bit set.
 fn set(words: &mut Vec<u64>, capacity: u32, place: u64) -> bool
     requires fits { Represents capacity words.old.items }
     requires below { place < capacity }
@@ -49,7 +49,7 @@ fn set(words: &mut Vec<u64>, capacity: u32, place: u64) -> bool
     drive(words, Set::new(), &place, &mut room)
 }
 
-/// The next place is reset, over the words of a set.
+/// Drives a call `ResetNext` to its end, over the words of a bit set.
 fn reset_next(words: &mut Vec<u64>, capacity: u32) -> Option<u64>
     requires { Represents capacity words.old.items }
     ensures { BehavesAs (Represents capacity) (places_in capacity) next_place after_next words.old.items
@@ -59,7 +59,7 @@ fn reset_next(words: &mut Vec<u64>, capacity: u32) -> Option<u64>
     drive(words, ResetNext::new(capacity), &(), &mut room)
 }
 
-/// A look at a place, over the words of a set.
+/// Drives a look at the place to its end, over the words of a bit set.
 fn is_set(words: &mut Vec<u64>, capacity: u32, place: u64) -> bool
     requires fits { Represents capacity words.old.items }
     requires below { place < capacity }
@@ -70,7 +70,7 @@ fn is_set(words: &mut Vec<u64>, capacity: u32, place: u64) -> bool
     drive(words, IsSet, &place, &mut room)
 }
 
-/// An emptying, over the words of a set.
+/// Empties the words of a bit set, one element after another. It calls `visit` with each place that stood.
 fn empty<F: FnMut(usize)>(words: &mut Vec<u64>, capacity: u32, visit: &mut F)
     requires fits { Represents capacity words.old.items }
     requires takes { Takes F.pre F.step (standing (places_in capacity words.old.items)) visit.old }

@@ -58,7 +58,7 @@ impl<T: Words> Model for Container<T> {
     ghost invariant = { λ s. Holds T.value_of T.WORDS s.capacity s.id s.words.items };
 }
 
-/// An add, over the words of a container.
+/// Drives an add to its end, over the words of a container.
 fn add<T: Words>(
     words: &mut Vec<u64>,
     capacity: u32,
@@ -82,7 +82,7 @@ fn add<T: Words>(
     }
 }
 
-/// A remove by a handle of this container, over its words.
+/// Drives a remove to its end, over the words of the container that the handle names.
 fn remove<T: Words>(
     words: &mut Vec<u64>,
     capacity: u32,
@@ -110,7 +110,7 @@ fn remove<T: Words>(
     )
 }
 
-/// A replace by a handle of this container, over its words.
+/// Drives a replace to its end, over the words of the container that the handle names.
 fn replace<T: Words>(
     words: &mut Vec<u64>,
     capacity: u32,
@@ -138,7 +138,7 @@ fn replace<T: Words>(
     )
 }
 
-/// A count of the indices that have an owner, over the words of a container.
+/// Counts the indices that have an owner, over the words of a container.
 fn count<T: Words>(words: &mut Vec<u64>, capacity: u32, id: u64) -> usize
     requires { Holds T.value_of T.WORDS capacity id words.old.items }
     ensures { BehavesAs (Holds T.value_of T.WORDS capacity id) (contents_in T.value_of T.WORDS capacity id) number
@@ -149,7 +149,7 @@ fn count<T: Words>(words: &mut Vec<u64>, capacity: u32, id: u64) -> usize
     drive(words, BorrowedIndices::new(capacity), &(), &mut room)
 }
 
-/// A look at the lock, over the words of a container.
+/// Drives a look at the lock to its end, over the words of a container.
 fn look<T: Words>(words: &mut Vec<u64>, capacity: u32, id: u64) -> bool
     requires { Holds T.value_of T.WORDS capacity id words.old.items }
     ensures { BehavesAs (Holds T.value_of T.WORDS capacity id) (contents_in T.value_of T.WORDS capacity id) is_locked
@@ -160,7 +160,7 @@ fn look<T: Words>(words: &mut Vec<u64>, capacity: u32, id: u64) -> bool
     drive(words, IsLocked, &(), &mut room)
 }
 
-/// A look of a state, over the words of its container.
+/// Drives a look to its end, over the words of a container. It brings `state` up to date.
 fn bring_up<T: Words>(
     words: &mut Vec<u64>,
     capacity: u32,
@@ -219,8 +219,8 @@ impl<T: Words> Container<T> {
         remove::<T>(&mut self.words, self.capacity, handle, mode)
     }
 
-    /// Puts `value` in the place of that of `handle`. That is a change. It is refused as a remove is; then nothing
-    /// changes.
+    /// Puts `value` in the place of that of `handle`. That is a change. It is refused where a remove of the
+    /// handle would be, and nothing changes then.
     pub fn replace(&mut self, handle: ContainerHandle, value: T) -> Result<(), ContainerRemoveError>
         ensures answer { result ≡ replaced self.old handle }
         ensures map { self.new ≡ after_replace self.old handle value }

@@ -38,7 +38,7 @@ impl Model for CountingBitSet {
     ghost invariant = { λ s. length s.words.items ≡ s.capacity };
 }
 
-/// A count of one more, over the words of a set.
+/// Drives a call `Set`, which adds 1 to the place's count, over the words of a counting bit set.
 fn set(words: &mut Vec<u64>, place: u64) -> u64
     ensures answer { result ≡ slice_index words.old.items place }
     ensures counts { words.new.items ≡ counted words.old.items place }
@@ -47,7 +47,7 @@ fn set(words: &mut Vec<u64>, place: u64) -> u64
     drive(words, Set, &place, &mut room)
 }
 
-/// A look at a count, over the words of a set.
+/// Drives a look at the count of the place to its end, over the words of a counting bit set.
 fn count(words: &mut Vec<u64>, place: u64) -> u64
     ensures answer { result ≡ slice_index words.old.items place }
     ensures counts { words.new.items ≡ words.old.items }
@@ -56,7 +56,8 @@ fn count(words: &mut Vec<u64>, place: u64) -> u64
     drive(words, Count, &place, &mut room)
 }
 
-/// An emptying, over the words of a set.
+/// Empties the words of a counting bit set, one after another. It calls `visit` with each
+/// place that had a count.
 fn empty<F: FnMut(BitState)>(words: &mut Vec<u64>, capacity: u32, visit: &mut F)
     requires long { length words.old.items ≡ capacity }
     requires takes { Takes F.pre F.step (states words.old.items) visit.old }

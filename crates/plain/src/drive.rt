@@ -36,14 +36,15 @@ fn write(words: &mut [u64], word: usize, new: u64) -> u64
     }
 }
 
-/// Does the operation, and answers the word's old value. Where there is no such word, nothing changes, and the answer
-/// is 0.
+/// Does the operation on its word, and returns the word's old value. Where there is no such word, nothing
+/// changes, and it returns 0.
 #[inline(always)]
 fn perform(words: &mut [u64], ask: Ask) -> u64
     ensures old { result ≡ slice_index words.old ask.word }
     ensures words { words.new ≡ written_at words.old ask }
 {
-    // The operation comes before the look for the word, so that a compiler keeps a call's stages apart.
+    // The match on the operation comes before the look for the word, so that a compiler keeps a
+    // call's stages apart.
     match ask.op {
         Op::Load => read(words, ask.word),
         Op::Store(new) => write(words, ask.word, new),
@@ -63,7 +64,8 @@ fn perform(words: &mut [u64], ask: Ask) -> u64
     }
 }
 
-/// Takes one step of a call. It stops at a question, which changes nothing.
+/// Takes one step of a call over these words. It stops at a question, which changes nothing,
+/// and at the call's end.
 #[inline(always)]
 pub fn step<C: Routine>(
     words: &mut [u64],
@@ -88,7 +90,7 @@ pub fn step<C: Routine>(
     }
 }
 
-/// Two steps, or one where it stops at that.
+/// Takes two steps of a call, or one where the call stops at it.
 #[inline(always)]
 fn two_steps<C: Routine>(
     words: &mut [u64],
@@ -105,7 +107,7 @@ fn two_steps<C: Routine>(
     }
 }
 
-/// Four steps, or fewer where it stops at one of them.
+/// Takes four steps of a call, or fewer where the call stops at one of them.
 #[inline(always)]
 fn four_steps<C: Routine>(
     words: &mut [u64],
@@ -122,7 +124,8 @@ fn four_steps<C: Routine>(
     }
 }
 
-/// As `drive_to_stop`, over the words themselves: so a compiler reads once where they lie and how many they are.
+/// Does what `drive_to_stop` does, over a slice. So a compiler looks up only once where the
+/// words are and how many.
 #[inline(always)]
 fn drive_words_to_stop<C: Routine>(
     words: &mut [u64],
@@ -134,7 +137,8 @@ fn drive_words_to_stop<C: Routine>(
     ensures alone { StopsAlike C.want_of C.after C.kept given.now call room.old words.old
         result room.new words.new }
 {
-    // The first steps stand by themselves, so that a compiler sees at each of them the call's stage.
+    // The first four steps are taken outside the loop, so that a compiler knows the call's
+    // stage at each of them.
     let mut call = match four_steps(words, call, given, room) {
         After::GoOn(next) => next,
         After::Done(stop) => return stop,

@@ -1,6 +1,7 @@
-//! When a state of a container of one caller is the map. `Follows` holds of what `get_state` gives, and each call keeps it.
-//! By it `update_state` gives the map, as long as the container has not come to 2^63 - 1 changes. These functions do
-//! nothing: the contract of each is a law, whose proof is a lemma that a client's proof can cite. The last is such a client.
+//! Laws about states of a container of one caller: when a state shows the container's map. `Follows` holds of
+//! the state that `get_state` gives, and each call keeps it. After `update_state` such a state shows the map,
+//! as long as the container has not come to 2^63 - 1 changes. These functions do nothing: the contract of
+//! each is a law, and its proof a lemma that a client's proof can cite. The last function is such a client.
 
 ghost use Rattle.std.specs.Prelude.{◌≡◌, ℕ, List};
 ghost use Rattle.steps.specs.Objects.Owners.{Owned};
@@ -18,47 +19,55 @@ use steps::container::state::ContainerState;
 use steps::enums::OwnerId;
 use steps::words::Words;
 
-/// Of a new container the numbers are counted. The lemma is `opens` of `proofs/States/Showing.antt`.
+/// The numbers of a new container are as `IsCounted` says. The lemma is
+/// `opens` of `proofs/States/Showing.antt`.
 pub fn opens<V>()
     ensures { (size container : ℕ) → IsCounted {V = V} (opened size container) }
 {}
 
-/// What `get_state` gives follows the container, and shows the map. The lemma is `gets` there.
+/// What `get_state` gives follows the container, and shows the map. The lemma is
+/// `gets` of `proofs/States/Showing.antt`.
 pub fn gets<V>()
     ensures { (s : Contents V) → IsCounted s → Follows s (updated s (blank (capacity s)))
         × ((updated s (blank (capacity s))).values ≡ s.values) }
 {}
 
-/// A state that follows the container is the map, once it is brought up to date, and follows it still. The lemma is
-/// `updates` there.
+/// A state that follows the container still follows it once brought up to date, and then shows the map. The
+/// lemma is `updates` of `proofs/States/Showing.antt`.
 pub fn updates<V>()
     ensures { (s : Contents V) (seen : Snapshot V) → Follows s seen
         → Follows s (updated s seen) × ((updated s seen).values ≡ s.values) }
 {}
 
-/// An add keeps that. The lemma is `adds` of `proofs/States/Changing.antt`.
+/// After an add each state that followed the container still follows it. The lemma is
+/// `adds` of `proofs/States/Changing.antt`.
 pub fn adds<V>()
     ensures { (s : Contents V) (owner : ℕ) (value : V) → MayChange s → Keeps s (after_add s owner value) }
 {}
 
-/// So does a remove. The lemma is `removes` there.
+/// After a remove each state that followed the container still follows it. The lemma is
+/// `removes` of `proofs/States/Changing.antt`.
 pub fn removes<V>()
     ensures { (s : Contents V) (handle : ContainerHandle) (mode : ReleaseMode) → MayChange s
         → Keeps s (after_remove s handle mode) }
 {}
 
-/// So does a replace. The lemma is `replaces` there.
+/// After a replace each state that followed the container still follows it. The lemma is
+/// `replaces` of `proofs/States/Changing.antt`.
 pub fn replaces<V>()
     ensures { (s : Contents V) (handle : ContainerHandle) (value : V) → MayChange s
         → Keeps s (after_replace s handle value) }
 {}
 
-/// So does a count, which is no change. The lemma is `counts` there.
+/// After a count, which is no change, each state that followed the container still follows it. The lemma is
+/// `counts` of `proofs/States/Changing.antt`.
 pub fn counts<V>()
     ensures { (s : Contents V) → Keeps s (counted s) }
 {}
 
-/// So does a recovery, which frees some indices as one change: by `next` of `HasRecovered`. The lemma is `recovers` there.
+/// After a recovery each state that followed the container still follows it. What a recovery leaves
+/// is said by `next` of `HasRecovered`: some indices are freed, as one change. The lemma is
+/// `recovers` of `proofs/States/Changing.antt`.
 pub fn recovers<V>()
     ensures { (s : Contents V) (mode : ReleaseMode) (which : List Owned) → MayChange s
         → Keeps s (one_change (all_freed mode s which)) }

@@ -16,14 +16,8 @@ use steps::queues::overflow::{Pop, Push};
 use steps::queues::ring::{CONSUMER, FIRST_CELL, PRODUCER, READ, WRITE};
 use steps::routine::Routine;
 
-/// An overflowing queue that one caller uses: a list of at most so many numbers. Where it is full, a push hands the
-/// oldest one back. After `SafelyOverflowingIndexQueue` of the Rust crate.
-///
-/// ```rust
-/// let mut queue = SafelyOverflowingIndexQueue::new(rt.alloc(), 1)?;
-/// assert!(rt; queue.push(3).is_none());
-/// assert!(rt; queue.push(4) == Some(3));
-/// ```
+/// An overflowing queue that one caller uses: a list of at most as many numbers as its capacity. Where it is
+/// full, a push hands the oldest one back. After `SafelyOverflowingIndexQueue` of the Rust crate.
 #[derive(Drop)]
 pub struct SafelyOverflowingIndexQueue {
     words: Vec<u64>,
@@ -38,7 +32,7 @@ impl Model for SafelyOverflowingIndexQueue {
     ghost invariant = { λ q. Represents q.capacity q.words.items };
 }
 
-/// A push, over the words of a queue.
+/// Drives a push to its end, over the words of an overflowing queue.
 fn push(words: &mut Vec<u64>, capacity: u32, value: u64) -> Option<u64>
     requires { Represents capacity words.old.items }
     ensures { BehavesAs (Represents capacity) (list_in capacity) (λ q. handed_back q value)
@@ -49,7 +43,7 @@ fn push(words: &mut Vec<u64>, capacity: u32, value: u64) -> Option<u64>
     Push::answer(end, &value, &room)
 }
 
-/// A pop, over the words of a queue.
+/// Drives a pop to its end, over the words of an overflowing queue.
 fn pop(words: &mut Vec<u64>, capacity: u32) -> Option<u64>
     requires { Represents capacity words.old.items }
     ensures { BehavesAs (Represents capacity) (list_in capacity) front popped words.old.items result
@@ -60,7 +54,7 @@ fn pop(words: &mut Vec<u64>, capacity: u32) -> Option<u64>
     Pop::answer(end, &(), &room)
 }
 
-/// A count of the values, over the words of a queue.
+/// Counts the values that wait, over the words of an overflowing queue.
 fn len(words: &mut Vec<u64>, capacity: u32) -> u64
     requires { Represents capacity words.old.items }
     ensures { BehavesAs (Represents capacity) (list_in capacity) (λ q. length q.values) (λ q. q)
@@ -71,8 +65,8 @@ fn len(words: &mut Vec<u64>, capacity: u32) -> u64
 }
 
 impl SafelyOverflowingIndexQueue {
-    /// Appends the number and returns None, or the oldest number if there was no room. Where there is no position, or
-    /// the capacity is 0, it hands the number itself back, and nothing changes.
+    /// Appends the number and returns None, or the oldest number if there was no room. If the positions are
+    /// used up, or the capacity is 0, it hands the number itself back, and nothing changes.
     pub fn push(&mut self, value: u64) -> Option<u64>
         ensures answer { result ≡ handed_back self.old value }
         ensures list { self.new ≡ pushed_over self.old value }
@@ -136,7 +130,7 @@ impl SafelyOverflowingIndexQueue {
         SafelyOverflowingIndexQueue::new_at(alloc, capacity, 0)
     }
 
-    /// Makes an empty list, whose first number has this position. It is refused as `new` is.
+    /// Makes an empty list, whose first number has this position. It is refused where `new` is.
     pub fn new_at(
         alloc: Global,
         capacity: usize,
@@ -162,7 +156,7 @@ impl SafelyOverflowingIndexQueue {
         Ok(SafelyOverflowingIndexQueue { words, capacity })
     }
 
-    /// Returns the list that these words of a queue are.
+    /// Returns the queue that these words are, with the list that stands in them.
     pub fn of_words(words: Vec<u64>, capacity: u32) -> SafelyOverflowingIndexQueue
         requires { Represents capacity words.items }
         ensures { result ≡ list_in capacity words.items }

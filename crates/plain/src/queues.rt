@@ -25,7 +25,7 @@ pub struct Numbers;
 #[derive(Clone, Copy)]
 pub struct Values;
 
-/// A bounded queue that one caller uses, and that holds at most so many values. What goes in first comes out first.
+/// A bounded queue that one caller uses, of at most `capacity` values. What goes in first comes out first.
 /// Two types have these calls, `IndexQueue` and `Queue`, and each its own `push`.
 #[derive(Drop)]
 pub struct List<E: Copy, T: Words> {
@@ -61,7 +61,7 @@ impl<E: Copy, T: Words> Model for List<E, T> {
     ghost invariant = { λ q. Represents T.WORDS q.capacity q.words.items };
 }
 
-/// A push, over the words of a queue.
+/// Drives a push to its end, over the words of a bounded queue.
 fn push<T: Words>(words: &mut Vec<u64>, capacity: u32, value: &T) -> bool
     requires { Represents T.WORDS capacity words.old.items }
     ensures { BehavesAs (Represents T.WORDS capacity) (list_in T.value_of T.WORDS capacity) takes_more
@@ -71,7 +71,7 @@ fn push<T: Words>(words: &mut Vec<u64>, capacity: u32, value: &T) -> bool
     drive(words, Push::new(capacity), value, &mut room)
 }
 
-/// A pop, over the words of a queue.
+/// Drives a pop to its end, over the words of a bounded queue.
 fn pop<T: Words>(words: &mut Vec<u64>, capacity: u32) -> Option<T>
     requires { Represents T.WORDS capacity words.old.items }
     ensures { BehavesAs (Represents T.WORDS capacity) (list_in T.value_of T.WORDS capacity) front popped
@@ -82,7 +82,7 @@ fn pop<T: Words>(words: &mut Vec<u64>, capacity: u32) -> Option<T>
     Pop::<T, Copied>::answer(end, &(), &room)
 }
 
-/// A look at the oldest value, over the words of a queue.
+/// Drives a look at the oldest value to its end, over the words of a bounded queue.
 fn peek<T: Words>(words: &mut Vec<u64>, capacity: u32) -> Option<T>
     requires { Represents T.WORDS capacity words.old.items }
     ensures { BehavesAs (Represents T.WORDS capacity) (list_in T.value_of T.WORDS capacity) front (λ q. q)
@@ -93,7 +93,7 @@ fn peek<T: Words>(words: &mut Vec<u64>, capacity: u32) -> Option<T>
     Peek::<T, Copied>::answer(end, &(), &room)
 }
 
-/// A count of the values, over the words of a queue.
+/// Counts the values that wait, over the words of a bounded queue.
 fn len<T: Words>(words: &mut Vec<u64>, capacity: u32) -> u64
     requires { Represents T.WORDS capacity words.old.items }
     ensures { BehavesAs (Represents T.WORDS capacity) (list_in T.value_of T.WORDS capacity)
@@ -104,7 +104,8 @@ fn len<T: Words>(words: &mut Vec<u64>, capacity: u32) -> u64
 }
 
 impl IndexQueue {
-    /// Appends the number and returns true, or returns false where there is no room, or no position.
+    /// Appends the number and returns true, or returns false if there is no room or the
+    /// positions are used up.
     pub fn push(&mut self, value: u64) -> bool
         ensures answer { result ≡ takes_more self.old }
         ensures list { self.new ≡ pushed self.old value }
@@ -114,7 +115,7 @@ impl IndexQueue {
 }
 
 impl<T: Words> Queue<T> {
-    /// Appends the value and returns true, or returns false where there is no room, or no position.
+    /// Appends the value and returns true, or returns false if there is no room or the positions are used up.
     pub fn push(&mut self, value: &T) -> bool
         ensures answer { result ≡ takes_more self.old }
         ensures list { self.new ≡ pushed self.old value.now }
@@ -185,7 +186,7 @@ impl<E: Copy, T: Words> List<E, T> {
         List::new_at(alloc, capacity, 0)
     }
 
-    /// Makes an empty list, whose first value has this position. It is refused as `new` is.
+    /// Makes an empty list, whose first value has this position. It is refused where `new` is.
     pub fn new_at(
         alloc: Global,
         capacity: usize,
@@ -218,7 +219,7 @@ impl<E: Copy, T: Words> List<E, T> {
         })
     }
 
-    /// Returns the list that these words of a queue are.
+    /// Returns the queue that these words are, with the list that stands in them.
     pub fn of_words(words: Vec<u64>, capacity: u32) -> List<E, T>
         requires { Represents T.WORDS capacity words.items }
         ensures { result ≡ list_in T.value_of T.WORDS capacity words.items }

@@ -51,7 +51,7 @@ impl Model for RobustUniqueIndexSet {
     ghost invariant = { λ s. Represents s.capacity s.words.items };
 }
 
-/// An acquire, over the words of a set.
+/// Drives an acquire for the owner to its end, over the words of a robust set.
 fn acquire(
     words: &mut Vec<u64>,
     capacity: u32,
@@ -66,7 +66,7 @@ fn acquire(
     drive(words, Acquire::new(capacity), &owner, &mut room)
 }
 
-/// A release, over the words of a set.
+/// Drives a release of the owner's index to its end, over the words of a robust set.
 fn release(
     words: &mut Vec<u64>,
     capacity: u32,
@@ -85,7 +85,7 @@ fn release(
     drive(words, Release::new(capacity), &given, &mut room)
 }
 
-/// A count of the indices that have an owner, over the words of a set.
+/// Counts the indices that have an owner, over the words of a robust set.
 fn borrowed_indices(words: &mut Vec<u64>, capacity: u32) -> usize
     requires { Represents capacity words.old.items }
     ensures { BehavesAs (Represents capacity) owners_in borrowed raised words.old.items result
@@ -95,7 +95,7 @@ fn borrowed_indices(words: &mut Vec<u64>, capacity: u32) -> usize
     drive(words, BorrowedIndices::new(capacity), &(), &mut room)
 }
 
-/// A look at the lock, over the words of a set.
+/// Drives a look at the lock to its end, over the words of a robust set.
 fn is_locked(words: &mut Vec<u64>, capacity: u32) -> bool
     requires { Represents capacity words.old.items }
     ensures { BehavesAs (Represents capacity) owners_in is_locked (λ s. s) words.old.items result
@@ -116,7 +116,8 @@ fn visit_at<F: FnMut(usize) -> CallbackProgression>(
     visit(index)
 }
 
-/// A find, over the words of a set.
+/// Drives a find of the owner's indices to its end, over the words of a robust set. It calls
+/// `visit` at each question.
 fn find<F: FnMut(usize) -> CallbackProgression>(
     words: &mut Vec<u64>,
     capacity: u32,
@@ -160,7 +161,7 @@ fn ask_about<F: FnMut(OwnerId, usize) -> bool>(
     predicate(owner, index)
 }
 
-/// Tells the closure of the owner and the index after a yes.
+/// Calls the closure with the owner and the index, if the answer was a yes.
 fn tell_where<S: FnMut(OwnerId, usize)>(recovered: &mut S, yes: bool, owner: OwnerId, index: usize)
     requires { IsTrue yes → S.pre recovered.old owner index }
     ensures told { IsTrue yes → S.step recovered.old owner index tt recovered.new }
@@ -171,7 +172,7 @@ fn tell_where<S: FnMut(OwnerId, usize)>(recovered: &mut S, yes: bool, owner: Own
     }
 }
 
-/// A recovery, over the words of a set.
+/// Drives a recovery to its end, over the words of a robust set. It calls the closures at each question.
 fn recover<F: FnMut(OwnerId, usize) -> bool, S: FnMut(OwnerId, usize)>(
     words: &mut Vec<u64>,
     capacity: u32,
@@ -328,7 +329,7 @@ impl RobustUniqueIndexSet {
         RobustUniqueIndexSet::new_at(alloc, capacity, 0)
     }
 
-    /// Makes a set of this generation, which is locked for `u64::MAX`. It is refused as `new` is.
+    /// Makes a set of this generation, which is locked for `u64::MAX`. It is refused where `new` is.
     pub fn new_at(
         alloc: Global,
         capacity: usize,

@@ -1,4 +1,4 @@
-//! The steps of the call that empties the words of a set. Its closure is handed what stood there.
+//! The steps of `reset_all`, which empties the words of a set, and the calls of its closure.
 ghost use Rattle.std.specs.Prelude.{◌≡◌, ◌+◌, ◌-◌, ◌<◌, ◌≤◌, IsTrue, IsFalse, slice_index, slice_set};
 ghost use Rattle.std.specs.List.{FoldsTo};
 ghost use Rattle.plain.specs.Bits.{standing_in};
@@ -11,7 +11,7 @@ use steps::bits::flags::{has_flag, without_flag};
 use steps::bits::reset_all::ResetAll;
 use steps::copied::OneWord;
 
-/// Swaps the next word with 0, and answers what stood there.
+/// Swaps the next word of the call with 0, and returns what stood there.
 pub fn swap_next(words: &mut Vec<u64>, call: &mut ResetAll) -> u64
     requires { call.old.word < call.old.end }
     ensures answer { result ≡ slice_index words.old.items call.old.word }
@@ -26,7 +26,8 @@ pub fn swap_next(words: &mut Vec<u64>, call: &mut ResetAll) -> u64
     room.0
 }
 
-/// The place after those of the element whose first place this is.
+/// Returns the place after the last place of an element whose first place is `first`. It is
+/// at most the capacity.
 pub fn end_of_element(first: u64, capacity: u64) -> u64
     requires { first ≤ capacity }
     ensures order { first ≤ result }
@@ -41,7 +42,7 @@ pub fn end_of_element(first: u64, capacity: u64) -> u64
     }
 }
 
-/// Calls the closure with the place where it stood.
+/// Calls the closure with the place, if its flag stood.
 fn call_standing<F: FnMut(usize)>(visit: &mut F, stood: bool, place: u64)
     requires { IsTrue stood → F.pre visit.old place }
     ensures called { IsTrue stood → F.step visit.old place tt visit.new }
@@ -52,7 +53,8 @@ fn call_standing<F: FnMut(usize)>(visit: &mut F, stood: bool, place: u64)
     }
 }
 
-/// Calls the closure with each place of one element whose flag was found, ascending. It ends at the last flag.
+/// Calls the closure with each place of one element whose flag stands in `found`, ascending. It ends after
+/// the last flag.
 pub fn visit_element<F: FnMut(usize)>(visit: &mut F, found: u64, first: u64, end: u64)
     requires order { first ≤ end }
     requires near { end ≤ first + 64 }
@@ -70,7 +72,7 @@ pub fn visit_element<F: FnMut(usize)>(visit: &mut F, found: u64, first: u64, end
     }
 }
 
-/// Calls the closure with a place and its count, where that is above 0.
+/// Calls the closure with a place and its count, if the count is above 0.
 pub fn call_counted<F: FnMut(BitState)>(visit: &mut F, place: u32, count: u64)
     requires { 0 < count → F.pre visit.old (record { bit = place; count = count }) }
     ensures called { 0 < count

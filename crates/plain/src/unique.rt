@@ -38,7 +38,7 @@ impl Model for UniqueIndexSet {
     ghost invariant = { λ s. Represents s.capacity s.words.items };
 }
 
-/// The words of a set of which all indices are free, 0 on top.
+/// Makes the words of a set of which all indices are free, with 0 on top of the stack.
 fn open(alloc: Global, capacity: u32) -> Result<Vec<u64>, AllocError>
     requires some { 1 ≤ capacity }
     requires few { capacity ≤ 2 ^ 24 - 2 }
@@ -56,7 +56,7 @@ fn open(alloc: Global, capacity: u32) -> Result<Vec<u64>, AllocError>
     Ok(words)
 }
 
-/// An acquire, over the words of a set.
+/// Drives an acquire to its end, over the words of a unique index set.
 fn acquire(words: &mut Vec<u64>, capacity: u32) -> Result<u32, UniqueIndexSetAcquireFailure>
     requires { Represents capacity words.old.items }
     ensures { BehavesAs (Represents capacity) (stack_in capacity) acquired after_acquire words.old.items
@@ -66,7 +66,7 @@ fn acquire(words: &mut Vec<u64>, capacity: u32) -> Result<u32, UniqueIndexSetAcq
     drive(words, Acquire::new(capacity), &(), &mut room)
 }
 
-/// A release in mode `Default`, over the words of a set.
+/// Drives a release in mode `Default` to its end, over the words of a unique index set.
 fn release(words: &mut Vec<u64>, capacity: u32, index: u32) -> ReleaseState
     requires fits { Represents capacity words.old.items }
     requires out { IsOut (stack_in capacity words.old.items) index }
@@ -82,7 +82,7 @@ fn release(words: &mut Vec<u64>, capacity: u32, index: u32) -> ReleaseState
     )
 }
 
-/// A release in mode `LockIfLastIndex`, over the words of a set.
+/// Drives a release in mode `LockIfLastIndex` to its end, over the words of a unique index set.
 fn release_or_lock(words: &mut Vec<u64>, capacity: u32, index: u32) -> ReleaseState
     requires fits { Represents capacity words.old.items }
     requires out { IsOut (stack_in capacity words.old.items) index }
@@ -93,7 +93,7 @@ fn release_or_lock(words: &mut Vec<u64>, capacity: u32, index: u32) -> ReleaseSt
     drive(words, Release::<LockMode>::new(capacity), &index, &mut room)
 }
 
-/// A count of the indices that are out, over the words of a set.
+/// Drives a look at the number of borrowed indices to its end, over the words of a unique index set.
 fn count(words: &mut Vec<u64>, capacity: u32) -> usize
     requires { Represents capacity words.old.items }
     ensures { BehavesAs (Represents capacity) (stack_in capacity) out (λ s. s) words.old.items result
@@ -103,7 +103,7 @@ fn count(words: &mut Vec<u64>, capacity: u32) -> usize
     drive(words, BorrowedIndices, &(), &mut room)
 }
 
-/// A look at the lock, over the words of a set.
+/// Drives a look at the lock to its end, over the words of a unique index set.
 fn look(words: &mut Vec<u64>, capacity: u32) -> bool
     requires { Represents capacity words.old.items }
     ensures { BehavesAs (Represents capacity) (stack_in capacity) (λ s. s.locked) (λ s. s) words.old.items
@@ -113,7 +113,7 @@ fn look(words: &mut Vec<u64>, capacity: u32) -> bool
     drive(words, IsLocked, &(), &mut room)
 }
 
-/// Whether the claim flag of an index stands, in the words of a set.
+/// Returns whether the claim flag of an index stands, in the words of a unique index set.
 fn is_claimed(words: &Vec<u64>, capacity: u32, index: u32) -> bool
     requires fits { Represents capacity words.now.items }
     requires below { index < capacity }

@@ -37,7 +37,7 @@ impl<T: Words> Model for UnrestrictedAtomic<T> {
     ghost invariant = { λ s. Represents T.WORDS s.words.items };
 }
 
-/// A store, over the words of a value.
+/// Drives a store to its end, over the words of a single value.
 fn store<T: Words>(words: &mut Vec<u64>, value: &T) -> bool
     requires { Represents T.WORDS words.old.items }
     ensures { BehavesAs (Represents T.WORDS) (value_in T.value_of T.WORDS) has_version
@@ -47,7 +47,7 @@ fn store<T: Words>(words: &mut Vec<u64>, value: &T) -> bool
     drive(words, Store::new(), value, &mut room)
 }
 
-/// A load, over the words of a value.
+/// Drives a load to its end, over the words of a single value.
 fn load<T: Words>(words: &mut Vec<u64>) -> T
     requires { Represents T.WORDS words.old.items }
     ensures { BehavesAs (Represents T.WORDS) (value_in T.value_of T.WORDS) (λ s. s.value) (λ s. s)
@@ -58,7 +58,7 @@ fn load<T: Words>(words: &mut Vec<u64>) -> T
     Load::<T, Copied>::answer((), &(), &room)
 }
 
-/// A look at the version, over the words of a value.
+/// Drives a look at the version to its end, over the words of a single value.
 fn version(words: &mut Vec<u64>) -> u64
     ensures answer { result ≡ slice_index words.old.items 0 }
     ensures words { words.new.items ≡ words.old.items }
@@ -100,7 +100,7 @@ impl<T: Words> UnrestrictedAtomic<T> {
         UnrestrictedAtomic::new_at(alloc, value, 1)
     }
 
-    /// Makes a value of this version, which is at least 1. It is refused as `new` is.
+    /// Makes a value of this version, which is at least 1. It is refused where `new` is.
     pub fn new_at(
         alloc: Global,
         value: T,

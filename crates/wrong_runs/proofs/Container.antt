@@ -66,12 +66,14 @@ unnamed_dead container = cc (container.dead 7)
 
 -- ---- a run of which the events are forgotten: an add, and a find that asks about its value, or a look at it
 
+-- An add has taken eight steps and these turns follow, but the trace has none of their events.
 abbrev pub forgotten : List (Turn ℕ) → Trace ℕ
 forgotten turns = record { world = (ran one_word kinds.Container 1 2 (begins 0 (Container (Add 5 1)) 8 ++ turns)).world; events = [] }
 
+-- The empty list of acts has no last act.
 pub no_copy : (before : List (Act ℕ)) (one : Act ℕ) → [] ≡ before ++ one ∷ [] → ⊥
-no_copy [] one e = cc
-no_copy (a ∷ bs) one e = cc
+no_copy [] one split = cc
+no_copy (a ∷ bs) one split = cc
 
 -- a find asks about a value that it has not copied
 asks_uncopied : IsContainer (forgotten (begins 1 (Container (Find 1)) 4)) → ⊥
@@ -84,6 +86,8 @@ shows_uncopied container = let shown_there = container.states 1 0 _ 5 refl refl 
 
 -- ---- a well-formed run
 
+-- A run in which no replace is under way is well-formed if what it has freed and replaced was
+-- begun where it might be.
 pub well_formed : (events : List (Event ℕ)) (words : List ℕ) → Each FreesRight events → Each ReplacesRight events
     → IsWellFormedRun (container words events)
 well_formed events words frees replaced = record { frees = frees; replaced = replaced; replaces = λ p. tt }
@@ -92,14 +96,17 @@ well_formed events words frees replaced = record { frees = frees; replaced = rep
 abbrev pub copied : List (Event ℕ)
 copied = Copied 0 0 5 ∷ []
 
+-- A copy of a value that does not stand at the index is refused.
 pub copies_nothing : IsContained (container still copied) → ⊥
 copies_nothing contained = cc (contained.contents [] [] (Copied 0 0 5) refl)
 
+-- The run in which a value is copied that nobody has placed is well-formed.
 pub copied_well_formed : IsWellFormedRun (container still copied)
 copied_well_formed =
     well_formed copied still (Each-append FreesRight [] copied (Each-nil FreesRight) (tt, tt))
     (Each-append ReplacesRight [] copied (Each-nil ReplacesRight) (tt, tt))
 
+-- A container refuses the well-formed run in which a value is copied that does not stand at the index.
 not_contained : IsContainer (container still copied) → ⊥
 not_contained container = copies_nothing (container.well_formed copied_well_formed)
 
@@ -111,6 +118,7 @@ granted_twice contained = cc (contained.holders (Filled 0 0 7 ∷ Granted 0 0 7 
 abbrev pub unplaced : List (Event ℕ)
 unplaced = Begun 0 (Container (Add 5 7)) ∷ Finished 0 (Container (Add 5 7)) (Index 0) ∷ []
 
+-- An add that answers an index and has placed nothing is refused.
 places_nothing : IsContained (container still unplaced) → ⊥
 places_nothing contained =
     cc (contained.placed (Begun 0 (Container (Add 5 7)) ∷ []) [] (Finished 0 (Container (Add 5 7)) (Index 0)) refl)
@@ -119,9 +127,10 @@ places_nothing contained =
 abbrev before_end : List (Event ℕ)
 before_end = Placed 0 0 5 ∷ Begun 0 (Container (Remove 0 7 Default)) ∷ FreedOf 0 0 7 ∷ []
 
+-- The empty list of acts on the set has no act in it.
 no_act : (before after : List SetAct) (one : SetAct) → [] ≡ before ++ one ∷ after → ⊥
-no_act [] after one e = cc
-no_act (a ∷ bs) after one e = cc
+no_act [] after one split = cc
+no_act (a ∷ bs) after one split = cc
 
 -- a remove that ends while its value still stands is refused
 hides_nothing : IsContained (container still (before_end ++ Finished 0 (Container (Remove 0 7 Default)) (State states.Unlocked) ∷ [])) → ⊥

@@ -30,16 +30,19 @@ turns (suc k) = Next 0
 refused_then : call_refusal (moment_on started turns 5).world (turns 5) ≡ Some Idle
 refused_then = refl
 
+-- From the fifth moment on the machine stays as it is.
 stays : (n : ℕ) → moment_on started turns (suc (suc (suc (suc (suc n))))) ≡ moment_on started turns 5
 stays zero = refl
 stays (suc n) = let so_far = stays n in rw so_far refl
 
 -- ---- to party 0 it is fair
 
+-- The moment, not before moment k, at which party 0 takes a step or rests.
 abbrev at : ℕ → ℕ
 at zero = 1
 at (suc k) = suc k
 
+-- That moment is not before moment k.
 later : (k : ℕ) → k ≤ at k
 later zero = omega arith
 later (suc k) = omega arith
@@ -53,35 +56,41 @@ goes (suc (suc (suc zero))) = inr (refl, refl)
 goes (suc (suc (suc (suc zero)))) = inr (refl, refl)
 goes (suc (suc (suc (suc (suc n))))) = let so = stays n in inl (rw so refl)
 
+-- The schedule is fair to party 0.
 fair : IsFairOn started turns 0
 fair = record { at = at; later = later; goes = goes }
 
 -- ---- to party 1, which takes one step and never another, it is not
 
+-- From the fifth moment on each party's call stays where it is.
 same_call : (p n : ℕ) → flight_in (moment_on started turns (suc (suc (suc (suc (suc n)))))).world p
     ≡ flight_in (moment_on started turns 5).world p
 same_call p n = ap (λ (t : Trace ℕ). flight_in t.world p) (stays n)
 
+-- At moment 5 the call of party 1 is under way.
 waits_there : flight_in (moment_on started turns 5).world 1 ≢ None
 waits_there e = cc
 
+-- From moment 5 on the call of party 1 is under way.
 waits : (n : ℕ) → flight_in (moment_on started turns (suc (suc (suc (suc (suc n)))))).world 1 ≢ None
 waits n none = waits_there (sym (same_call 1 n) ∙ none)
 
 -- from the second moment on party 1 has a call under way and takes no step
 none_more : (k : ℕ) → 1 ≤ k → (flight_in (moment_on started turns k).world 1 ≡ None) ⊎ IsStepOf 1 (moment_on started turns k).world (turns k) → ⊥
-none_more zero past h = absurd (omega arith)
-none_more (suc zero) past h = ⊎_elim (λ e. cc) (λ s. cc (s.1)) h
-none_more (suc (suc zero)) past h = ⊎_elim (λ e. cc) (λ s. cc (s.1)) h
-none_more (suc (suc (suc zero))) past h = ⊎_elim (λ e. cc) (λ s. cc (s.1)) h
-none_more (suc (suc (suc (suc zero)))) past h = ⊎_elim (λ e. cc) (λ s. cc (s.1)) h
-none_more (suc (suc (suc (suc (suc n))))) past h = ⊎_elim (waits n) (λ s. cc (s.1)) h
+none_more zero past rests_or_steps = absurd (omega arith)
+none_more (suc zero) past rests_or_steps = ⊎_elim (λ e. cc) (λ s. cc (s.1)) rests_or_steps
+none_more (suc (suc zero)) past rests_or_steps = ⊎_elim (λ e. cc) (λ s. cc (s.1)) rests_or_steps
+none_more (suc (suc (suc zero))) past rests_or_steps = ⊎_elim (λ e. cc) (λ s. cc (s.1)) rests_or_steps
+none_more (suc (suc (suc (suc zero)))) past rests_or_steps = ⊎_elim (λ e. cc) (λ s. cc (s.1)) rests_or_steps
+none_more (suc (suc (suc (suc (suc n))))) past rests_or_steps = ⊎_elim (waits n) (λ s. cc (s.1)) rests_or_steps
 
+-- The schedule is not fair to party 1.
 starves : IsFairOn started turns 1 → ⊥
 starves fair_on = none_more (fair_on.at 1) (fair_on.later 1) (fair_on.goes 1)
 
 -- ---- it is one of those of which `EndsIfFairOn` speaks: all turns are of two parties, and no call begins
 
+-- Each turn of the schedule is of one of two parties.
 below : (k : ℕ) → IsBelow 2 (turns k)
 below zero = omega arith
 below (suc k) = omega arith

@@ -30,6 +30,7 @@ use Rattle.wrong_runs.proofs.HeadlineSets.{two}
 use Rattle.wrong_runs.proofs.Machines.{at_no_moment, at_none_since, Stays}
 use Rattle.wrong_runs.proofs.Robust.{well_formed as grants_well_formed}
 
+-- What `headline` says of a container holds of these events.
 abbrev runs : List (Event ℕ) → Type 0
 runs events = ContainerRuns (container still events)
 
@@ -55,56 +56,67 @@ filled_twice k = two (9 ∷ 7 ∷ []) (k.no_two_fill (Filled 0 0 7 ∷ Filled 1 
 granted_twice : runs two_grants → ⊥
 granted_twice k = two (9 ∷ 7 ∷ []) (k.no_two_hold grants_well_formed two_grants [] refl 0) refl
 
--- it is locked while an owner holds an index
+-- The container is locked while an owner holds an index.
 locked_over : runs over → ⊥
 locked_over k = let none = k.none_once_locked over_well_formed over [] refl refl 0 in cc
 
--- an add is answered an index that it was not granted, or one that the container does not have
+-- An add answers an index that it was not granted.
 answered_ungranted : runs unplaced → ⊥
 answered_ungranted k = cc ((k.acquired 0 0 7 5 (Begun 0 add ∷ []) ([], refl)).0)
 
+-- An add has filled index 5, which the container does not have, and was granted it.
 abbrev past : List (Event ℕ)
 past = Begun 0 add ∷ Filled 0 5 7 ∷ Granted 0 5 7 ∷ []
 
+-- An add answers an index that the container does not have.
 answered_past : runs (past ++ Finished 0 add (Index 5) ∷ []) → ⊥
 answered_past k = absurd (omega (arith, (k.acquired 0 5 7 5 past ([], refl)).1))
 
--- an index is freed that is not filled, or that is filled with another owner
+-- An index is freed that is not filled.
 freed_unfilled : runs (FreedOf 0 0 7 ∷ []) → ⊥
 freed_unfilled k = cc ((k.freed 0 0 7 [] ([], refl)).0)
 
+-- Index 0 is filled for owner 9, and a remove of it for owner 7 has begun.
 abbrev of_another : List (Event ℕ)
 of_another = Filled 1 0 9 ∷ Begun 0 (remove 0 7) ∷ []
 
+-- An index is freed for owner 7 that is filled with owner 9.
 freed_of_another : runs (of_another ++ FreedOf 0 0 7 ∷ []) → ⊥
 freed_of_another k = cc ((k.freed 0 0 7 of_another ([], refl)).0)
 
--- it is freed by an add, by a remove of another index or for another owner, by a recovery of another owner,
+-- An index is freed by an add.
 freed_by_add : runs (Begun 0 add ∷ Filled 0 0 7 ∷ FreedOf 0 0 7 ∷ []) → ⊥
 freed_by_add k = (k.freed 0 0 7 (Begun 0 add ∷ Filled 0 0 7 ∷ []) ([], refl)).1
 
+-- Two indices are filled for owner 7, and a remove of index 1 has begun.
 abbrev wrong_index : List (Event ℕ)
 wrong_index = Filled 0 0 7 ∷ Filled 0 1 7 ∷ Begun 0 (remove 1 7) ∷ []
 
+-- Index 0 is freed by a remove of index 1.
 freed_by_wrong_index : runs (wrong_index ++ FreedOf 0 0 7 ∷ []) → ⊥
 freed_by_wrong_index k = cc ((k.freed 0 0 7 wrong_index ([], refl)).1.0)
 
+-- Index 0 is filled for owner 7, and a remove of it for owner 9 has begun.
 abbrev wrong_owner : List (Event ℕ)
 wrong_owner = Filled 0 0 7 ∷ Begun 0 (remove 0 9) ∷ []
 
+-- An index of owner 7 is freed by a remove for owner 9.
 freed_by_wrong_owner : runs (wrong_owner ++ FreedOf 0 0 7 ∷ []) → ⊥
 freed_by_wrong_owner k = cc ((k.freed 0 0 7 wrong_owner ([], refl)).1.1)
 
+-- Index 0 is filled for owner 9, and a recovery of owner 7 has begun.
 abbrev wrong_recovery : List (Event ℕ)
 wrong_recovery = Filled 0 0 9 ∷ Begun 1 (recover Default) ∷ []
 
+-- An index of owner 9 is freed by a recovery of owner 7.
 freed_by_wrong_recovery : runs (wrong_recovery ++ FreedOf 1 0 9 ∷ []) → ⊥
 freed_by_wrong_recovery k = cc ((k.freed 1 0 9 wrong_recovery ([], refl)).1.0)
 
--- or by a recovery of its owner that was neither told to free it nor shown it empty
+-- The recovery of an owner has begun, and was neither told to free the owner's index nor shown it empty.
 abbrev untold : List (Event ℕ)
 untold = Filled 0 0 7 ∷ Begun 1 (recover Default) ∷ []
 
+-- A recovery frees an index that it was neither told to free nor shown empty.
 freed_untold : runs (untold ++ FreedOf 1 0 7 ∷ []) → ⊥
 freed_untold k =
     ⊎_elim (λ one. no_more one.before (Yes 0 7) one.after one.is) (λ one. no_more one.before (Sees 0) one.after one.is)
@@ -122,17 +134,19 @@ unplaced_well_formed =
     well_formed unplaced still (Each-append FreesRight [] unplaced (Each-nil FreesRight) (tt, (tt, tt)))
     (Each-append ReplacesRight [] unplaced (Each-nil ReplacesRight) (tt, (tt, tt)))
 
+-- A container refuses an add that answers an index and has placed nothing.
 adds_nothing : runs unplaced → ⊥
 adds_nothing k = cc (k.added unplaced_well_formed 0 0 7 5 (Begun 0 add ∷ []) ([], refl))
 
--- a replace ends, and has placed nothing
+-- An add has ended at index 0, and a replace of its value has begun.
 abbrev replacing : List (Event ℕ)
 replacing = Finished 0 (Container (Add 4 7)) (Index 0) ∷ Begun 0 replace ∷ []
 
+-- The replace ends, and has placed nothing.
 abbrev unreplaced : List (Event ℕ)
 unreplaced = replacing ++ Finished 0 replace Done ∷ []
 
--- the replace is begun as it may be
+-- The replace was begun where its party may replace what stands at the index.
 may_replace : MayReplace 0 0 7 replacing
 may_replace =
     record {
@@ -144,11 +158,13 @@ may_replace =
       holds = (refl, tt);
     }
 
+-- The run with the replace that has placed nothing is well-formed.
 unreplaced_well_formed : IsWellFormedRun (container still unreplaced)
 unreplaced_well_formed =
     well_formed unreplaced still (Each-append FreesRight [] unreplaced (Each-nil FreesRight) (tt, (tt, (tt, tt))))
     (Each-append ReplacesRight [] unreplaced (Each-nil ReplacesRight) (tt, (tt, (may_replace, tt))))
 
+-- A container refuses a replace that answers Done and has placed nothing.
 replaces_nothing : runs unreplaced → ⊥
 replaces_nothing k = cc (k.replaced unreplaced_well_formed 0 0 7 5 replacing ([], refl))
 
@@ -156,7 +172,7 @@ replaces_nothing k = cc (k.replaced unreplaced_well_formed 0 0 7 5 replacing ([]
 
 -- a find asks about a value that it has not copied
 asks_uncopied : ContainerRuns (forgotten (begins 1 (Container (Find 1)) 4)) → ⊥
-asks_uncopied k = let asked_there = k.asked 1 0 5 refl in no_copy asked_there.before (Copies 0 5) asked_there.is
+asks_uncopied container_runs = let asked_there = container_runs.asked 1 0 5 refl in no_copy asked_there.before (Copies 0 5) asked_there.is
 
 -- a state shows a value that was not copied
 shows_uncopied : ContainerRuns (forgotten (begins 1 (Container GetState) 4)) → ⊥
@@ -168,19 +184,21 @@ shows_uncopied k = let shown_there = k.shown 1 0 _ 5 refl refl refl in no_more s
 abbrev shown : List (Event ℕ)
 shown = Filled 0 0 7 ∷ Begun 1 (recover Default) ∷ Shown 1 0 ∷ []
 
+-- A recovery that answers Unlocked, and has left an index that it was shown empty, is refused.
 leaves_shown : runs (shown ++ Finished 1 (recover Default) (State Unlocked) ∷ []) → ⊥
 leaves_shown k = k.recovered 1 0 7 Default shown ([], refl) (inr (record { before = []; after = []; is = refl })) refl
 
--- it has neither asked about its owner's index, nor was it shown it
+-- A recovery has begun, which has asked about no index and was shown none, while its owner has one.
 abbrev unasked : List (Event ℕ)
 unasked = Filled 0 0 7 ∷ Begun 1 (recover Default) ∷ []
 
+-- A recovery answers Unlocked that has neither asked about its owner's index nor was shown it empty.
 asks_nothing : runs (unasked ++ Finished 1 (recover Default) (State Unlocked) ∷ []) → ⊥
 asks_nothing k =
     ⊎_elim (λ one. no_more one.before (Asks 0 7) one.after one.is) (λ one. no_more one.before (Sees 0) one.after one.is)
     (k.asked_each 1 0 7 Default unasked ([], refl) (held_since (StillToFree 1 7 0) 7 (recover Default) (inl refl)))
 
--- one that might lock ends unlocked, and after it has freed an index none is filled
+-- A recovery in the mode that locks has freed the one index that was filled.
 abbrev emptied : List (Event ℕ)
 emptied = Filled 0 0 7 ∷ Begun 1 (recover LockIfLastIndex) ∷ FreedOf 1 0 7 ∷ []
 
@@ -199,28 +217,31 @@ unlocked_empty k =
 
 -- ---- a recovery that began after the lock
 
+-- A recovery that began after the lock met the container unlocked at no moment.
 never_unlocked : (before : List (Event ℕ)) → Stays (λ part. is_locked part ≡ false → ⊥) (before ++ Begun 1 (recover Default) ∷ []) []
     → HeldSometime 1 IsUnlocked (before ++ Begun 1 (recover Default) ∷ [])
     → ⊥
-never_unlocked before locked h = at_none_since 1 (recover Default) IsUnlocked before [] locked h
+never_unlocked before locked held = at_none_since 1 (recover Default) IsUnlocked before [] locked held
 
--- it copies a value
+-- A value stands at index 0, and the container is locked.
 abbrev placed : List (Event ℕ)
 placed = Placed 0 0 5 ∷ Locked 0 ∷ []
 
+-- A recovery that began after the lock copies a value.
 copies_late : runs ((placed ++ Begun 1 (recover Default) ∷ []) ++ Copied 1 0 5 ∷ []) → ⊥
 copies_late k =
     never_unlocked placed (λ e. cc) (k.visits 1 7 Default (Copied 1 0 5) (placed ++ Begun 1 (recover Default) ∷ []) refl ([], refl) refl)
 
--- it is shown that nothing stands at an index
+-- A recovery that began after the lock is shown that nothing stands at an index.
 sees_late : runs ((Locked 0 ∷ Begun 1 (recover Default) ∷ []) ++ Shown 1 0 ∷ []) → ⊥
 sees_late k =
     never_unlocked (Locked 0 ∷ []) (λ e. cc) (k.visits 1 7 Default (Shown 1 0) (Locked 0 ∷ Begun 1 (recover Default) ∷ []) refl ([], refl) refl)
 
--- it frees an index
+-- Index 0 is filled, and the container is locked.
 abbrev locked_full : List (Event ℕ)
 locked_full = Filled 0 0 7 ∷ Locked 0 ∷ []
 
+-- A recovery that began after the lock frees an index.
 frees_late : runs ((locked_full ++ Begun 1 (recover Default) ∷ Told 1 0 7 ∷ []) ++ FreedOf 1 0 7 ∷ []) → ⊥
 frees_late k =
     at_none_since 1 (recover Default) IsUnlocked locked_full (Told 1 0 7 ∷ []) ((λ e. cc), (λ e. cc))
@@ -238,10 +259,11 @@ finds_unfilled k =
     none_counted found.count.chosen found.bound 0 found.count.is
     (λ index below one. at_no_moment 0 (IsFilledWith 7 index) (Begun 0 find ∷ []) ((λ e. cc), (λ e. cc)) (found.count.once index below one))
 
--- it counts more indices than the container has
+-- Three indices are filled for owner 7, in a container of two, and a find has begun.
 abbrev three : List (Event ℕ)
 three = Filled 0 0 7 ∷ Filled 0 1 7 ∷ Filled 0 2 7 ∷ Begun 1 find ∷ []
 
+-- A find counts more indices than the container has.
 finds_past : runs (three ++ Finished 1 find (Number 3) ∷ []) → ⊥
 finds_past k =
     let found = k.found 1 7 3 three ([], refl) in
@@ -253,20 +275,22 @@ finds_past k =
 abbrev waiting : List (Turn ℕ)
 waiting = begins 0 (Robust (robust.Acquire 1)) 8 ++ begins 1 (Robust (robust.Find 1)) 1
 
+-- A call that waits for a decision and asks about no value is refused.
 waits_for_nothing : ContainerRuns (ran one_word kinds.Robust 1 2 waiting) → ⊥
-waits_for_nothing k = cc (k.waits 1)
+waits_for_nothing container_runs = cc (container_runs.waits 1)
 
 -- the number of changes has gone on, and nothing has changed
 changed_by_nobody : ContainerRuns (container (0 ∷ 7 ∷ 7 ∷ 1 ∷ 0 ∷ 0 ∷ 0 ∷ 0 ∷ []) []) → ⊥
-changed_by_nobody k = cc (k.changes)
+changed_by_nobody container_runs = cc (container_runs.changes)
 
 -- an update says that something has changed, and nothing has
 update_of_nothing : runs (Finished 0 (Container UpdateState) (Truth true) ∷ []) → ⊥
 update_of_nothing k = absurd (omega (arith, k.met 0 [] ([], refl)))
 
--- an update says that nothing has changed, and an add has ended
+-- An add has ended.
 abbrev added : List (Event ℕ)
 added = Finished 1 add (Index 0) ∷ []
 
+-- An update says that nothing has changed, though an add has ended since.
 misses_an_add : runs (added ++ Finished 0 (Container UpdateState) (Truth false) ∷ []) → ⊥
 misses_an_add k = cc (k.met_none 0 added ([], refl))

@@ -26,28 +26,32 @@ use Rattle.wrong_runs.proofs.Machines.{machine, Stays, throughout}
 no_decision : (p : ℕ) → ◌≡◌ {A = Turn ℕ} (Next p) (Decide p false) → ⊥
 no_decision p e = cc
 
+-- Two runs that end the same call with a number, and are equal, have the same number.
 same_number : (start : Start ℕ) (events : List (Event ℕ)) (n m : ℕ) → events ++ Finished 1 start (Number n) ∷ [] ≡ events ++ Finished 1 start (Number m) ∷ []
     → n ≡ m
-same_number start [] n m e = cc
-same_number start (x ∷ xs) n m e =
+same_number start [] n m same_events = cc
+same_number start (x ∷ xs) n m same_events =
     let rest : xs ++ Finished 1 start (Number n) ∷ [] ≡ xs ++ Finished 1 start (Number m) ∷ [] = cc in same_number start xs n m rest
 
+-- A run does not equal itself with one event more.
 not_ended : (start : Start ℕ) (events : List (Event ℕ)) (n : ℕ) → events ≡ events ++ Finished 1 start (Number n) ∷ [] → ⊥
-not_ended start [] n e = cc
-not_ended start (x ∷ xs) n e = let rest : xs ≡ xs ++ Finished 1 start (Number n) ∷ [] = cc in not_ended start xs n rest
+not_ended start [] n same_events = cc
+not_ended start (x ∷ xs) n same_events = let rest : xs ≡ xs ++ Finished 1 start (Number n) ∷ [] = cc in not_ended start xs n rest
 
 -- ---- of a robust set
 
 abbrev find : Start ℕ
 find = Robust (Find 7)
 
+-- A robust set of two indices, of which owner 7 fills one, with these events.
 abbrev set : List (Event ℕ) → Trace ℕ
 set events = machine kinds.Robust (0 ∷ 7 ∷ []) (registries.Owners []) events
 
--- a find passes an index that its owner filled throughout
+-- Index 0 is filled for owner 7, and a find of a robust set has begun.
 abbrev filled : List (Event ℕ)
 filled = Filled 0 0 7 ∷ Begun 1 find ∷ []
 
+-- A find that ends with 0, and has passed over an index that its owner filled throughout, is refused.
 passes_one : Takes (set filled) (Next 1) (set (filled ++ Finished 1 find (Number 0) ∷ [])) → ⊥
 passes_one takes =
     let count = (takes.found refl).all 1 7 0 refl (no_decision 1) in
@@ -62,10 +66,11 @@ goes_on : Takes asking (Decide 1 false) asking → ⊥
 goes_on takes =
     let stopped = (takes.found refl).up_to 1 1 0 refl (refl, tt) refl in not_ended (Robust (Find 1)) asking.events stopped.0 stopped.1
 
--- it ends, and has not counted the index that it asked about
+-- The find has ended with 0.
 abbrev ended_by_no : Trace ℕ
 ended_by_no = record asking { events = asking.events ++ Finished 1 (Robust (Find 1)) (Number 0) ∷ [] }
 
+-- Owner 1 has acquired index 0.
 abbrev acquired : List (Event ℕ)
 acquired = Begun 0 (Robust (Acquire 1)) ∷ Filled 0 0 1 ∷ Granted 0 0 1 ∷ Finished 0 (Robust (Acquire 1)) (Index 0) ∷ []
 
@@ -77,6 +82,7 @@ forgets : (start : Start ℕ) (before since : List (Event ℕ)) (number : ℕ) �
 forgets start before since number none filled count =
     one_of_one count.chosen (count.through 0 (omega arith) (throughout 1 start (IsFilledWith 1 0) before since filled)) (count.is ∙ sym none)
 
+-- A find that a decision to stop ends, and that has not counted the index that it asked about, is refused.
 forgets_one : Takes asking (Decide 1 false) ended_by_no → ⊥
 forgets_one takes =
     let stopped = (takes.found refl).up_to 1 1 0 refl (refl, tt) refl in
@@ -87,19 +93,21 @@ forgets_one takes =
 abbrev find_there : Start ℕ
 find_there = Container (containers.Find 7)
 
--- a find passes an index that its owner filled throughout
+-- Index 0 is filled for owner 7, and a find of a container has begun.
 abbrev filled_there : List (Event ℕ)
 filled_there = Filled 0 0 7 ∷ Begun 1 find_there ∷ []
 
+-- A find of a container that ends with 0, and has passed over an index that its owner filled throughout, is refused.
 passes_one_there : Takes (container still filled_there) (Next 1) (container still (filled_there ++ Finished 1 find_there (Number 0) ∷ [])) → ⊥
 passes_one_there takes =
     let count = (takes.found_there refl).all 1 7 0 [] refl (no_decision 1) in
     one_of_two count.chosen (count.through 0 (omega arith) (throughout 1 find_there (IsFilledWith 7 0) (Filled 0 0 7 ∷ []) [] refl)) count.is
 
--- it has counted one, and has not copied the value that stood there throughout
+-- Index 0 is filled for owner 7 and has the value 5, and a find has begun.
 abbrev placed : List (Event ℕ)
 placed = Filled 0 0 7 ∷ Placed 0 0 5 ∷ Begun 1 find_there ∷ []
 
+-- The find has ended with 1, and has copied no value.
 abbrev uncopied : List (Event ℕ)
 uncopied = placed ++ Finished 1 find_there (Number 1) ∷ []
 
@@ -127,7 +135,7 @@ goes_on_there takes =
     let stopped = (takes.found_there refl).up_to 1 1 0 5 refl (refl, tt) refl in
     not_ended (Container (containers.Find 1)) asking_there.events stopped.0 stopped.1
 
--- it ends, and has not counted the index that it asked about
+-- The find of the container has ended with 0.
 abbrev ended_by_no_there : Trace ℕ
 ended_by_no_there = record asking_there { events = asking_there.events ++ Finished 1 (Container (containers.Find 1)) (Number 0) ∷ [] }
 
@@ -141,6 +149,7 @@ added =
     ∷ Finished 0 (Container (containers.Add 5 1)) (Index 0)
     ∷ []
 
+-- A find of a container that a decision to stop ends without counting the index that it asked about is refused.
 forgets_one_there : Takes asking_there (Decide 1 false) ended_by_no_there → ⊥
 forgets_one_there takes =
     let stopped = (takes.found_there refl).up_to 1 1 0 5 refl (refl, tt) refl in

@@ -22,16 +22,17 @@ use Rattle.wrong_runs.proofs.Value.{value}
 abbrev IsList : List (Event ℕ) → Type 0
 IsList events = ActAs (as_list queues.IndexQueue 2) events
 
+-- A push has ended with true, and no act of it is written.
 abbrev unacted : List (Event ℕ)
 unacted = Begun 0 (push 7) ∷ Finished 0 (push 7) (Truth true) ∷ []
 
 -- a push of which no act is written has not acted since it began
 acts_nowhere : (before since : List (Event ℕ)) → Begun 0 (push 7) ∷ [] ≡ before ++ Begun 0 (push 7) ∷ since
     → flat_map (act_of 0) since ≡ (push 7, Truth true) ∷ [] → ⊥
-acts_nowhere [] since is once =
+acts_nowhere [] since split once =
     let none : since ≡ [] = cc in
-    cc (subst (λ (xs : List (Event ℕ)). flat_map (act_of 0) xs ≡ (push 7, Truth true) ∷ []) none once)
-acts_nowhere (e ∷ before) since is once = let more : [] ≡ before ++ Begun 0 (push 7) ∷ since = cc in no_more before (Begun 0 (push 7)) since more
+    cc (rw none at once)
+acts_nowhere (e ∷ before) since split once = let more : [] ≡ before ++ Begun 0 (push 7) ∷ since = cc in no_more before (Begun 0 (push 7)) since more
 
 -- a push ends, and has not acted
 ends_unacted : IsList unacted → ⊥
@@ -44,13 +45,14 @@ begun_again = Begun 0 (push 7) ∷ Begun 0 (push 8) ∷ Acted 0 (push 7) (Truth 
 
 -- a push that has begun again acts only behind another begin
 begins_again : (before since : List (Event ℕ)) → begun_again ≡ before ++ Begun 0 (push 7) ∷ since → BeginsNone 0 since → ⊥
-begins_again [] since is none =
+begins_again [] since split none =
     let rest : Begun 0 (push 8) ∷ Acted 0 (push 7) (Truth true) ∷ [] ≡ since = cc in (subst (BeginsNone 0) (sym rest) none).0 refl
-begins_again (a ∷ []) since is none = absurd (cc)
-begins_again (a ∷ b ∷ []) since is none = absurd (cc)
-begins_again (a ∷ b ∷ c ∷ before) since is none =
+begins_again (a ∷ []) since split none = absurd (cc)
+begins_again (a ∷ b ∷ []) since split none = absurd (cc)
+begins_again (a ∷ b ∷ c ∷ before) since split none =
     let more : [] ≡ before ++ Begun 0 (push 7) ∷ since = cc in no_more before (Begun 0 (push 7)) since more
 
+-- A push that acts after its party has begun another one has not acted once within itself.
 acts_late : ActedOnce 0 (push 7) (Truth true) begun_again → ⊥
 acts_late act = begins_again act.before act.since act.is act.within
 
@@ -58,6 +60,7 @@ acts_late act = begins_again act.before act.since act.is act.within
 abbrev twice : List (Event ℕ)
 twice = Acted 0 (push 7) (Truth true) ∷ Acted 0 (push 7) (Truth true) ∷ []
 
+-- A push that acts twice is refused.
 acts_twice : IsList (Begun 0 (push 7) ∷ twice) → ⊥
 acts_twice list = ⊎_elim (λ none. cc) (λ one. cc (one.1)) (list.once 0 (push 7) [] twice [] refl tt)
 
@@ -69,21 +72,22 @@ full_at_once list = cc (list.answers)
 abbrev too_late : List (Event ℕ)
 too_late = Begun 0 (push 5) ∷ Finished 0 (push 5) (Truth true) ∷ Begun 1 pop ∷ Finished 1 pop PoppedNone ∷ []
 
+-- A run in which a push has ended and a later pop answers None is not linearizable, so it is refused.
 lost : ActAs (as_list queues.IndexQueue 1) too_late → ⊥
-lost k = no_lost_value k.linearizable
+lost acts_as = no_lost_value acts_as.linearizable
 
 -- ---- a queue
 
 -- a push says that an empty queue is full
 queue_full_at_once : QueueRuns queues.IndexQueue (queue (0 ∷ 0 ∷ 1 ∷ 1 ∷ 0 ∷ 0 ∷ []) (Acted 0 (push 7) (Truth false) ∷ [])) → ⊥
-queue_full_at_once k = full_at_once k.list
+queue_full_at_once queue_runs = full_at_once queue_runs.list
 
 -- another value stands in the cell than was published
 other_cell : QueueRuns queues.IndexQueue (queue (1 ∷ 0 ∷ 1 ∷ 1 ∷ 8 ∷ 0 ∷ []) (Published 0 (Index 7) ∷ [])) → ⊥
-other_cell k = cc (k.conserved)
+other_cell queue_runs = cc (queue_runs.conserved)
 
 -- ---- the single value
 
 -- a load answers what nobody has stored
 invents : ValueRuns (value (1 ∷ 1 ∷ 0 ∷ 0 ∷ []) (Acted 0 (Atomic Load) (Loaded 5) ∷ [])) → ⊥
-invents k = cc (k.value.answers)
+invents value_runs = cc (value_runs.value.answers)

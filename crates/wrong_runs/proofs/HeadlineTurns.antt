@@ -25,7 +25,7 @@ use Rattle.wrong_runs.proofs.Queues.{queue, push}
 
 -- ---- the progress of calls
 
--- an index queue in which party 0 has begun a push that has come so far
+-- An index queue in which party 0 has begun a push, with these counts of its steps and turns back.
 abbrev went : ℕ → ℕ → Trace ℕ
 went steps backs =
     record {
@@ -38,23 +38,25 @@ went steps backs =
 
 -- a call has turned back, and nobody has changed a word
 turns_back : MakesProgress (went 0 1) → ⊥
-turns_back k = absurd (omega (arith, k.paid 0 _ refl))
+turns_back progress = absurd (omega (arith, progress.paid 0 _ refl))
 
 -- a push has taken 9 steps
 steps_on : MakesProgress (went 9 0) → ⊥
-steps_on k = absurd (omega (arith, k.bounded 0 (push 7) _ refl refl))
+steps_on progress = absurd (omega (arith, progress.bounded 0 (push 7) _ refl refl))
 
+-- A push that has taken 9 steps is not within its guarantee, which is wait-free.
 waits_on : MakesProgress (went 9 0) → ⊥
-waits_on k = absurd (omega (arith, k.guaranteed 0 (push 7) _ refl refl))
+waits_on progress = absurd (omega (arith, progress.guaranteed 0 (push 7) _ refl refl))
 
 -- ---- any kind
 
 -- a push says that an empty queue is full
 says_full : Holds 0 (queue (0 ∷ 0 ∷ 1 ∷ 1 ∷ 0 ∷ 0 ∷ []) (Acted 0 (push 7) (Truth false) ∷ [])) → ⊥
-says_full k = full_at_once k.runs.list
+says_full all_kept = full_at_once all_kept.runs.list
 
+-- A machine is refused in which a call has turned back, and nobody has changed a word.
 not_progressing : Holds 0 (went 0 1) → ⊥
-not_progressing k = turns_back k.progress
+not_progressing all_kept = turns_back all_kept.progress
 
 -- a role is refused that nobody holds
 not_kept : IsKept (queue (0 ∷ 0 ∷ 1 ∷ 1 ∷ 0 ∷ 0 ∷ []) queues.refused) → ⊥
@@ -62,6 +64,7 @@ not_kept kept = queues.refused_role kept.promised
 
 -- ---- one turn
 
+-- An index queue of capacity 2 as it opens.
 abbrev opened : Trace ℕ
 opened = ran one_word kinds.IndexQueue 2 2 []
 
@@ -73,6 +76,7 @@ writes_unasked takes = cc (takes.one_word)
 other : ◌≡◌ {A = ℕ} 1 0 → ⊥
 other e = cc
 
+-- A turn of party 0 in which a call of party 1 begins is refused.
 moves_another : Takes opened (Next 0) (ran one_word kinds.IndexQueue 2 2 (Begin 1 (Queues Len) ∷ [])) → ⊥
 moves_another takes = cc (takes.others_stay 1 other)
 
@@ -88,17 +92,20 @@ grows_longer takes = cc (takes.keeps_queue)
 abbrev refusing : Trace ℕ
 refusing = ran one_word kinds.Container 1 2 (Begin 0 (Container (Remove 5 7 Default)) ∷ [])
 
+-- A turn in which that remove stays under way is refused.
 refuses_on : Takes refusing (Next 0) refusing → ⊥
 refuses_on takes = cc (takes.ends 0 refl refl)
 
--- a robust set of one index, which owner 1 has, and for which party 1 has begun a find that has taken so many steps
+-- A robust set of one index, which owner 1 has, and in which party 1 has begun a find for that owner and
+-- taken a number of turns.
 abbrev finding : ℕ → Trace ℕ
 finding steps = ran one_word kinds.Robust 1 2 (begins 0 (Robust (Acquire 1)) 8 ++ begins 1 (Robust (Find 1)) steps)
 
+-- A robust set in whose words owner 7 fills an index, with these events.
 abbrev set : List (Event ℕ) → Trace ℕ
 set events = machine kinds.Robust (0 ∷ 7 ∷ []) (registries.Owners []) events
 
--- it writes that a recovery asks which asks nothing
+-- A turn that writes that a call asks about an index, while no call does, is refused.
 asks_nothing : Takes (set []) (Next 0) (set (Asked 0 0 7 ∷ [])) → ⊥
 asks_nothing takes = let e = takes.asks refl 0 0 7 (Asked 0 0 7 ∷ []) refl (record { before = []; after = []; is = refl }) in cc
 

@@ -50,5 +50,6 @@ released =
       events = [];
     }
 
+-- A release in the default mode that has turned back is refused.
 turns_back : IsIndexSet released → ⊥
 turns_back index_set = cc (index_set.straight 0 turned_back refl)

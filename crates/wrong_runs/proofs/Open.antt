@@ -37,9 +37,11 @@ honest = Each-append ActsForRight [] two (Each-nil ActsForRight) (refl, (refl, (
 
 -- ---- the robust index set: the counter, and a cell for each index
 
+-- A robust set with these words (the counter, and a cell for each index) and events.
 abbrev set : List ℕ → List (Event ℕ) → Trace ℕ
 set words events = machine kinds.Robust words (registries.Owners []) events
 
+-- An index is filled for two owners.
 filled_twice : IsOpenSet (set (0 ∷ 7 ∷ empty ∷ []) (Filled 0 0 7 ∷ Filled 1 0 9 ∷ [])) → ⊥
 filled_twice open_set = cc ((open_set.does (Filled 0 0 7 ∷ []) [] (Filled 1 0 9) refl).1)
 
@@ -47,15 +49,19 @@ filled_twice open_set = cc ((open_set.does (Filled 0 0 7 ∷ []) [] (Filled 1 0 
 asks_of_nothing : IsOpenSet (set (0 ∷ empty ∷ empty ∷ []) (Asked 1 0 7 ∷ [])) → ⊥
 asks_of_nothing open_set = cc ((open_set.asks [] [] (Asked 1 0 7) refl).0)
 
+-- A look answers that the set is locked, and nobody has locked it.
 says_so : IsOpenSet (set (0 ∷ empty ∷ empty ∷ []) (Finished 0 (starts.Robust robust.IsLocked) (Truth true) ∷ [])) → ⊥
 says_so open_set = cc (open_set.answers [] [] (Finished 0 (starts.Robust robust.IsLocked) (Truth true)) refl)
 
+-- An index is granted to two owners.
 granted_twice : IsOpenSet (set (0 ∷ 7 ∷ empty ∷ []) two) → ⊥
 granted_twice open_set = cc (open_set.holds well_formed honest (Filled 0 0 7 ∷ Granted 0 0 7 ∷ []) [] (Granted 1 0 9) refl)
 
+-- A cell holds an owner, and nobody has filled it.
 holds_unfilled : IsOpenSet (set (0 ∷ 7 ∷ empty ∷ []) []) → ⊥
 holds_unfilled open_set = absurd (omega (arith, open_set.cells 0 (omega arith)))
 
+-- The counter says that the set is locked, and nobody has locked it.
 counter_says_so : IsOpenSet (set ((2 ^ 64 - 1) ∷ empty ∷ empty ∷ []) []) → ⊥
 counter_says_so open_set = cc (open_set.lock)
 
@@ -63,15 +69,17 @@ counter_says_so open_set = cc (open_set.lock)
 seen_to_die : IsOpenSet (set (0 ∷ empty ∷ empty ∷ []) (Died 7 ∷ [])) → ⊥
 seen_to_die open_set = cc (open_set.lives 7)
 
+-- The machine takes an owner for dead whom nobody has seen die.
 unnamed_dead : IsOpenSet (machine kinds.Robust (0 ∷ empty ∷ empty ∷ []) (registries.Owners (7 ∷ [])) []) → ⊥
 unnamed_dead open_set = cc (open_set.dead 7)
 
 -- ---- the container, of whatever turns
 
--- it is what such a container promises
+-- What an open container promises does not hold of this machine, whatever turns have reached it.
 abbrev IsRefused : Trace ℕ → Type 0
 IsRefused t = (r : IsReachedOpen t) → IsOpenContainer t r → ⊥
 
+-- An index of a container is filled for two owners.
 filled_twice_there : IsRefused (plain.container plain.still (Filled 0 0 7 ∷ Filled 1 0 9 ∷ []))
 filled_twice_there r k = cc ((k.does (Filled 0 0 7 ∷ []) [] (Filled 1 0 9) refl).1)
 
@@ -79,37 +87,46 @@ filled_twice_there r k = cc ((k.does (Filled 0 0 7 ∷ []) [] (Filled 1 0 9) ref
 told_unbegun : IsRefused (plain.container plain.still (Told 1 0 7 ∷ []))
 told_unbegun r k = cc (k.asks [] [] (Told 1 0 7) refl)
 
--- a recovery frees an index of an owner who is not its own
+-- A recovery of owner 9.
 abbrev other : Start ℕ
 other = starts.Container (containers.Recover 9 Default)
 
 not_another : (o p : ℕ) → o < p → o ≡ p → ⊥
-not_another o p far e = absurd (omega arith)
+not_another o p far same = absurd (omega arith)
 
+-- A recovery of owner 9 frees an index of owner 7.
 frees_another : IsRefused (plain.container plain.still (Filled 0 0 7 ∷ Begun 1 other ∷ FreedOf 1 0 7 ∷ []))
 frees_another r k = not_another 7 9 (omega arith) (k.recovers (Filled 0 0 7 ∷ Begun 1 other ∷ []) [] (FreedOf 1 0 7) refl).0
 
+-- A look answers that the container is locked, and nobody has locked it.
 says_so_there : IsRefused (plain.container plain.still (Finished 0 (starts.Container containers.IsLocked) (Truth true) ∷ []))
 says_so_there r k = cc (k.answers [] [] (Finished 0 (starts.Container containers.IsLocked) (Truth true)) refl)
 
+-- A cell of a container holds an owner, and nobody has filled it.
 holds_unfilled_there : IsRefused (plain.container (0 ∷ 7 ∷ empty ∷ 0 ∷ 0 ∷ 0 ∷ 0 ∷ 0 ∷ []) [])
 holds_unfilled_there r k = absurd (omega (arith, k.cells 0 (omega arith)))
 
+-- The counter of a container says that it is locked, and nobody has locked it.
 counter_says_so_there : IsRefused (plain.container ((2 ^ 64 - 1) ∷ empty ∷ empty ∷ 0 ∷ 0 ∷ 0 ∷ 0 ∷ 0 ∷ []) [])
 counter_says_so_there r k = cc (k.lock)
 
+-- An owner of a container is seen to die.
 seen_to_die_there : IsRefused (plain.container plain.still (Died 7 ∷ []))
 seen_to_die_there r k = cc (k.lives 7)
 
+-- The machine of a container takes an owner for dead whom nobody has seen die.
 unnamed_dead_there : IsRefused (machine kinds.Container plain.still (registries.Container (7 ∷ []) []) [])
 unnamed_dead_there r k = cc (k.dead 7)
 
+-- A find asks about a value that it has not copied.
 asks_uncopied : IsRefused (plain.forgotten (begins 1 (starts.Container (containers.Find 1)) 4))
 asks_uncopied r k = let asked_there = k.questions 1 0 5 refl in plain.no_copy asked_there.before (Copies 0 5) asked_there.is
 
+-- A state shows a value that its party has not copied.
 shows_uncopied : IsRefused (plain.forgotten (begins 1 (starts.Container containers.GetState) 4))
 shows_uncopied r k = let shown_there = k.states 1 0 _ 5 refl refl refl in no_more shown_there.before (Copied 1 0 5) shown_there.after shown_there.is
 
+-- An index of a container is granted to two owners.
 granted_twice_there : IsRefused (plain.container plain.still two)
 granted_twice_there r k = cc (k.holds well_formed honest (Filled 0 0 7 ∷ Granted 0 0 7 ∷ []) [] (Granted 1 0 9) refl)
 
@@ -117,6 +134,7 @@ granted_twice_there r k = cc (k.holds well_formed honest (Filled 0 0 7 ∷ Grant
 abbrev dishonest : Trace ℕ
 dishonest = plain.container plain.still (Begun 1 (starts.Container (containers.Recover 7 Default)) ∷ Filled 0 0 7 ∷ [])
 
+-- A step for an owner who is gone is refused in a run that is faithful.
 fills_for_gone : (r : IsReachedOpen dishonest) → IsFaithful dishonest r → IsOpenContainer dishonest r → ⊥
 fills_for_gone r faithful open_container =
     cc (open_container.honest faithful (Begun 1 (starts.Container (containers.Recover 7 Default)) ∷ []) [] (Filled 0 0 7) refl)

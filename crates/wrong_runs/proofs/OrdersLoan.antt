@@ -54,11 +54,13 @@ sends_over =
     ∷ Acted 0 (send 1) (PoppedIndex 0)
     ∷ []
 
+-- The index that was sent is not left over, since no reclaim is under way.
 not_left : IsLeftOver {T = ℕ} 0 1 sends_over → ⊥
 not_left left = cc (left.reclaims)
 
+-- A send that frees the index that it has sent, and not the one that it took out, is refused.
 loan_send_releases_its_own : ChannelRuns 1 (narrow (sends_over ++ Freed 0 1 ∷ [])) → ⊥
-loan_send_releases_its_own k = ⊎_elim (λ held. cc) not_left (k.freed 0 1 sends_over ([], refl))
+loan_send_releases_its_own channel_runs = ⊎_elim (λ held. cc) not_left (channel_runs.freed 0 1 sends_over ([], refl))
 
 -- ---- reclaim
 
@@ -66,6 +68,7 @@ loan_send_releases_its_own k = ⊎_elim (λ held. cc) not_left (k.freed 0 1 send
 abbrev reclaiming : List (Event ℕ)
 reclaiming = loaned 0 ++ sent 0 ++ Died 1 ∷ Begun 0 reclaim ∷ []
 
+-- A reclaim that ends while an index is still sent is refused.
 loan_reclaim_leaves_the_queue_filled : IsChannelOf fresh (channel still (reclaiming ++ Finished 0 reclaim (Number 0) ∷ [])) → ⊥
-loan_reclaim_leaves_the_queue_filled k =
-    ⊎_elim (λ free. cc) (λ held. cc) (k.answers reclaiming [] (Finished 0 reclaim (Number 0)) refl 0)
+loan_reclaim_leaves_the_queue_filled channel =
+    ⊎_elim (λ free. cc) (λ held. cc) (channel.answers reclaiming [] (Finished 0 reclaim (Number 0)) refl 0)

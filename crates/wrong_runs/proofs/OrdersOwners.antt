@@ -1,5 +1,5 @@
 -- Wrong bodies of the robust index set: for each a run or a turn that it makes, and what refuses that.
-use Rattle.std.proofs.Common.{◌≡◌, ℕ, ◌+◌, ◌==◌, Bool, true, false, List, [], ◌∷◌, ◌++◌, if◌then◌else◌, refl, subst, arith}
+use Rattle.std.proofs.Common.{◌≡◌, ℕ, ◌+◌, ◌==◌, Bool, true, false, List, [], ◌∷◌, ◌++◌, if◌then◌else◌, refl, arith}
 use Rattle.steps.specs.declared.indices.enums.ReleaseMode.TheVariants.{Default, LockIfLastIndex}
 use Rattle.steps.specs.declared.indices.enums.ReleaseState.TheVariants.{Unlocked}
 use Rattle.steps.specs.declared.indices.enums.UniqueIndexSetAcquireFailure.TheVariants.{OutOfIndices}
@@ -58,39 +58,45 @@ uncounted =
     ∷ Locked 1
     ∷ []
 
+-- The run in which the recovery locks without counting is well-formed.
 uncounted_well_formed : IsWellFormed uncounted
 uncounted_well_formed =
     Each-append FreesRight [] uncounted (Each-nil FreesRight)
     (tt, (tt, (tt, (tt, (tt, (tt, (tt, (tt, (tt, (tt, (tt, (tt, (tt, tt)))))))))))))
 
+-- A lock while an owner holds an index is refused.
 locks_without_counting : RobustRuns (set (0 ∷ 7 ∷ 9 ∷ []) uncounted) → ⊥
-locks_without_counting k = let none = k.none_once_locked uncounted_well_formed uncounted [] refl refl 0 in cc
+locks_without_counting robust_runs = let none = robust_runs.none_once_locked uncounted_well_formed uncounted [] refl refl 0 in cc
 
 -- an acquire is granted an index after the lock
 abbrev late : List (Event ℕ)
 late = Begun 0 (acquire 7) ∷ Filled 0 0 7 ∷ Locked 1 ∷ Granted 0 0 7 ∷ []
 
+-- The run in which an index is granted after the lock is well-formed.
 late_well_formed : IsWellFormed late
 late_well_formed = Each-append FreesRight [] late (Each-nil FreesRight) (tt, (tt, (tt, (tt, tt))))
 
+-- An index that is granted after the lock is refused.
 acquire_goes_on_after_lock : RobustRuns (set (0 ∷ 7 ∷ 9 ∷ []) late) → ⊥
-acquire_goes_on_after_lock k = let none = k.none_once_locked late_well_formed late [] refl refl 0 in cc
+acquire_goes_on_after_lock robust_runs = let none = robust_runs.none_once_locked late_well_formed late [] refl refl 0 in cc
 
 -- ---- a recovery
 
--- it is told to free an index, frees nothing, and answers Unlocked
+-- A recovery was told to free the index of owner 7.
 abbrev told : List (Event ℕ)
 told = Filled 0 0 7 ∷ Begun 1 (starts.Robust (Recover Default)) ∷ Asked 1 0 7 ∷ Told 1 0 7 ∷ []
 
+-- A recovery that was told to free an index, has freed nothing and answers Unlocked is refused.
 recovers_nothing : RobustRuns (set (0 ∷ 7 ∷ 9 ∷ []) (told ++ Finished 1 (starts.Robust (Recover Default)) (State Unlocked) ∷ [])) → ⊥
-recovers_nothing k = k.recovered 1 0 7 Default told ([], refl) (record { before = Asks 0 7 ∷ []; after = []; is = refl }) refl
+recovers_nothing robust_runs = robust_runs.recovered 1 0 7 Default told ([], refl) (record { before = Asks 0 7 ∷ []; after = []; is = refl }) refl
 
 -- ---- a release in the mode that locks
 
--- it has freed the last index, does not lock, and answers Unlocked
+-- A release of index 0 for owner 7 in the mode that locks.
 abbrev last : Start ℕ
 last = starts.Robust (Release 0 7 LockIfLastIndex)
 
+-- The release has freed the last index that was filled.
 abbrev unlocked : List (Event ℕ)
 unlocked = Filled 0 0 7 ∷ Begun 0 last ∷ FreedOf 0 0 7 ∷ []
 
@@ -109,17 +115,19 @@ release_never_locks robust_set =
 
 -- ---- a find
 
--- it passes over all cells and answers 0, though its owner had index 0 through the whole call
+-- Index 0 is filled for owner 7, and a find of this owner has begun.
 abbrev finding : List (Event ℕ)
 finding = Filled 0 0 7 ∷ Begun 1 find ∷ []
 
+-- A count of 0 of two indices does not count index 0.
 none_chosen : (chosen : ℕ → Bool) → count_below chosen 2 ≡ 0 → chosen 0 ≡ true → ⊥
-none_chosen chosen none is =
-    absurd (omega (arith, subst (λ (b : Bool). (if chosen 1 then 1 else 0) + ((if b then 1 else 0) + 0) ≡ 0) is none))
+none_chosen chosen none chosen_is =
+    absurd (omega (arith, rw chosen_is at none))
 
 not_stopped : ◌≡◌ {A = Turn ℕ} (Next 1) (Decide 1 false) → ⊥
 not_stopped e = cc
 
+-- A find that answers 0, though its owner had index 0 through the whole call, is refused.
 find_does_nothing : IsTurn (set (0 ∷ 7 ∷ 9 ∷ []) finding) (Next 1) (set (0 ∷ 7 ∷ 9 ∷ []) (finding ++ Finished 1 find (Number 0) ∷ [])) → ⊥
 find_does_nothing turn =
     let count = turn.tells.0.0 1 7 0 refl not_stopped in

@@ -21,7 +21,7 @@ use Rattle.wrong_runs.proofs.Queues.{queue, push, pop}
 
 -- ---- one turn
 
--- an index queue in which a push has taken so many steps
+-- An index queue in which a push has taken `steps` steps.
 abbrev pushing : ℕ → Trace ℕ
 pushing steps = ran one_word kinds.IndexQueue 2 2 (roles ++ begins 0 (push 7) steps)
 
@@ -29,10 +29,11 @@ pushing steps = ran one_word kinds.IndexQueue 2 2 (roles ++ begins 0 (push 7) st
 whole_call_in_one_turn : Takes (pushing 0) (Next 0) (pushing 4) → ⊥
 whole_call_in_one_turn takes = cc (takes.one_word)
 
--- an index queue in which a count has taken so many steps
+-- An index queue in which a count has taken `steps` steps.
 abbrev counting : ℕ → Trace ℕ
 counting steps = ran one_word kinds.IndexQueue 2 2 (begins 1 (Queues Len) steps)
 
+-- A turn that runs a whole count is refused.
 whole_look_in_one_turn : IsTurn (counting 0) (Next 1) (counting 3) → ⊥
 whole_look_in_one_turn turn = cc (turn.counts.steps)
 
@@ -40,6 +41,7 @@ whole_look_in_one_turn turn = cc (turn.counts.steps)
 abbrev with_words : List ℕ → Trace ℕ → Trace ℕ
 with_words words t = record t { world = record t.world { words = words } }
 
+-- A turn that adds 2 to the write position, where its operation adds 1, is refused.
 operation_adds_twice : Takes (pushing 3) (Next 0) (with_words (2 ∷ 0 ∷ 0 ∷ 0 ∷ 7 ∷ 0 ∷ []) (pushing 4)) → ⊥
 operation_adds_twice takes = cc (takes.one_word)
 
@@ -47,17 +49,19 @@ operation_adds_twice takes = cc (takes.one_word)
 
 -- a push raises the write position before it writes the cell: what waits there by the words is not what it has published
 publishes_before_writing : QueueRuns queues.IndexQueue (queue (1 ∷ 0 ∷ 0 ∷ 0 ∷ 0 ∷ 0 ∷ []) (Begun 0 (push 7) ∷ Published 0 (Index 7) ∷ [])) → ⊥
-publishes_before_writing k = cc (k.conserved)
+publishes_before_writing queue_runs = cc (queue_runs.conserved)
 
--- every push answers false, and every pop None
+-- A push of 7 has run whole.
 abbrev pushed : List (Event ℕ)
 pushed = Begun 0 (push 7) ∷ Published 0 (Index 7) ∷ Acted 0 (push 7) (Truth true) ∷ Finished 0 (push 7) (Truth true) ∷ []
 
+-- A push that answers false on an empty queue is refused.
 every_push_is_false : QueueRuns queues.IndexQueue (queue (0 ∷ 0 ∷ 0 ∷ 0 ∷ 0 ∷ 0 ∷ []) (Begun 0 (push 7) ∷ Acted 0 (push 7) (Truth false) ∷ [])) → ⊥
-every_push_is_false k = cc (k.list.answers)
+every_push_is_false queue_runs = cc (queue_runs.list.answers)
 
+-- A pop that answers None while a value waits is refused.
 every_pop_is_none : QueueRuns queues.IndexQueue (queue (1 ∷ 0 ∷ 0 ∷ 0 ∷ 7 ∷ 0 ∷ []) (pushed ++ Begun 1 pop ∷ Acted 1 pop PoppedNone ∷ [])) → ⊥
-every_pop_is_none k = cc (k.list.answers)
+every_pop_is_none queue_runs = cc (queue_runs.list.answers)
 
 -- a push waits until there is room: a fifth step, and nobody has changed a word
 abbrev waiting : Trace ℕ
@@ -70,10 +74,11 @@ waiting =
       events = Begun 0 (push 7) ∷ [];
     }
 
+-- A push that takes a fifth step is refused.
 push_waits : MakesProgress waiting → ⊥
-push_waits k = absurd (omega (arith, k.bounded 0 (push 7) _ refl refl))
+push_waits progress = absurd (omega (arith, progress.bounded 0 (push 7) _ refl refl))
 
--- and a push that has found no room takes it for a turn back, which nobody has paid
+-- A push that has found no room begins again, and nobody has changed a word.
 abbrev turning : Trace ℕ
 turning =
     record {
@@ -84,8 +89,9 @@ turning =
       events = Begun 0 (push 7) ∷ [];
     }
 
+-- A push that turns back, though nobody has changed a word, is refused.
 push_turns_back : MakesProgress turning → ⊥
-push_turns_back k = absurd (omega (arith, k.paid 0 _ refl))
+push_turns_back progress = absurd (omega (arith, progress.paid 0 _ refl))
 
 -- ---- the overflowing queue, of capacity 1
 
@@ -117,8 +123,9 @@ late =
     ∷ Finished 0 (push 2) (PoppedIndex 1)
     ∷ []
 
+-- The run in which the push acts only as it ends is refused: the pop does not answer the front of the list.
 overflow_acts_at_finish : QueueRuns queues.Overflow (overflow (2 ∷ 2 ∷ 0 ∷ 0 ∷ 1 ∷ 2 ∷ []) late) → ⊥
-overflow_acts_at_finish k = cc (k.list.answers)
+overflow_acts_at_finish queue_runs = cc (queue_runs.list.answers)
 
 -- A pop has read 1, a push of 2 takes 1 out, and the pop answers it all the same.
 abbrev stale : List (Event ℕ)
@@ -135,11 +142,13 @@ stale =
     ∷ Finished 1 pop (PoppedIndex 1)
     ∷ []
 
+-- The run in which the pop answers what the push has taken out is refused: the list no longer has it.
 overflow_pop_keeps_stale_value : QueueRuns queues.Overflow (overflow (2 ∷ 2 ∷ 0 ∷ 0 ∷ 1 ∷ 2 ∷ []) stale) → ⊥
-overflow_pop_keeps_stale_value k = cc (k.list.answers)
+overflow_pop_keeps_stale_value queue_runs = cc (queue_runs.list.answers)
 
+-- The same run is refused since 1 is handed out twice.
 hands_out_twice : QueueRuns queues.Overflow (overflow (2 ∷ 2 ∷ 0 ∷ 0 ∷ 1 ∷ 2 ∷ []) stale) → ⊥
-hands_out_twice k = cc (k.conserved)
+hands_out_twice queue_runs = cc (queue_runs.conserved)
 
 -- ---- the single value, of two words
 
@@ -180,5 +189,6 @@ torn =
     ∷ Finished 1 load (Loaded 4)
     ∷ []
 
+-- A load that answers the words of two values is refused.
 value_load_skips_validation : ValueRuns (values torn) → ⊥
-value_load_skips_validation k = cc (k.value.answers)
+value_load_skips_validation value_runs = cc (value_runs.value.answers)

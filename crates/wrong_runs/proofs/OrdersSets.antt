@@ -1,5 +1,5 @@
 -- Wrong bodies of the bit sets and of the unique index set: for each a run that it makes, and what refuses that.
-use Rattle.std.proofs.Common.{◌≡◌, ℕ, true, List, [], ◌∷◌, ◌++◌, refl, sym, subst, ap, arith}
+use Rattle.std.proofs.Common.{◌≡◌, ℕ, true, List, [], ◌∷◌, ◌++◌, refl, ap, arith}
 use Rattle.steps.specs.declared.indices.enums.ReleaseMode.TheVariants.{LockIfLastIndex}
 use Rattle.steps.specs.declared.indices.enums.UniqueIndexSetAcquireFailure.TheVariants.{OutOfIndices}
 use Rattle.model.specs.declared.event.Answer.TheVariants.{Done, Index, NoIndex, Truth}
@@ -28,41 +28,45 @@ set_1 = Bits (Set 1)
 abbrev reset_all : Start ℕ
 reset_all = Bits ResetAll
 
--- a set answers true for a bit that stands
+-- A call has set bit 1, and another party begins to set it.
 abbrev stands_already : List (Event ℕ)
 stands_already = Begun 0 set_1 ∷ events.Set 0 1 ∷ Finished 0 set_1 (Truth true) ∷ Begun 1 set_1 ∷ []
 
+-- A set that answers true for a bit that stands already is refused.
 set_again_is_true : BitsRun (bits (0 ∷ 2 ∷ []) (stands_already ++ Finished 1 set_1 (Truth true) ∷ [])) → ⊥
-set_again_is_true k = cc (k.set 1 1 stands_already ([], refl))
+set_again_is_true bits_run = cc (bits_run.set 1 1 stands_already ([], refl))
 
--- after one event a call has begun: what it has found and done since
+-- If a reset of all has begun right after the event `one`, then what holds since its begin holds with `one`
+-- before it and nothing since.
 only_begin : (one : Event ℕ) (P : List (Event ℕ) → List (Event ℕ) → Type 0) → ((start : Start ℕ) → one ≡ Begun 1 start → ⊥)
     → SinceBegin 1 P (one ∷ Begun 1 reset_all ∷ []) → P (one ∷ []) []
-only_begin one P other h = found h.before h.start h.since h.is h.holds where
-  -- such a call began right behind the first event
+only_begin one P other since_begin = found since_begin.before since_begin.start since_begin.since since_begin.is since_begin.holds where
+  -- The call began right after the event `one`.
   found : (before : List (Event ℕ)) (start : Start ℕ) (since : List (Event ℕ)) → one ∷ Begun 1 reset_all ∷ [] ≡ before ++ Begun 1 start ∷ since
       → P before since → P (one ∷ []) []
-  found [] start since is held = absurd (other start (cc))
-  found (a ∷ []) start since is held =
+  found [] start since split held = absurd (other start (cc))
+  found (a ∷ []) start since split held =
       let first : one ≡ a = cc in
       let none : [] ≡ since = cc in
-      subst (λ (xs : List (Event ℕ)). P (one ∷ []) xs) (sym none) (subst (λ (x : Event ℕ). P (x ∷ []) since) (sym first) held)
-  found (a ∷ b ∷ before) start since is held =
+      rw (← none) at (rw (← first) at held)
+  found (a ∷ b ∷ before) start since split held =
       let more : [] ≡ before ++ Begun 1 start ∷ since = cc in absurd (no_more before (Begun 1 start) since more)
 
--- a reset of all ends, and has cleared nothing
+-- Bit 1 stands, and a reset of all has begun.
 abbrev unreset : List (Event ℕ)
 unreset = events.Set 0 1 ∷ Begun 1 reset_all ∷ []
 
+-- A reset of all that ends and has not cleared the bit that stood is refused.
 reset_all_does_nothing : IsBitSet (bits (0 ∷ 2 ∷ []) (unreset ++ Finished 1 reset_all Done ∷ [])) → ⊥
 reset_all_does_nothing bit_set =
     let held = bit_set.answers unreset [] (Finished 1 reset_all Done) refl in
     let cleared = only_begin (events.Set 0 1) (HasCleared 2) (λ start e. cc) held 1 (omega arith) refl in absurd (omega arith)
 
--- one of a counting set takes nothing out
+-- Place 1 counts 1, and a reset of all has begun.
 abbrev untaken : List (Event ℕ)
 untaken = Counted 0 1 ∷ Begun 1 reset_all ∷ []
 
+-- A reset of all counts that ends and has taken nothing out of the place that counted is refused.
 reset_all_takes_nothing : IsCountingSet (counts (0 ∷ 1 ∷ []) (untaken ++ Finished 1 reset_all Done ∷ [])) → ⊥
 reset_all_takes_nothing counting_set =
     let held = counting_set.answers untaken [] (Finished 1 reset_all Done) refl in
@@ -80,10 +84,11 @@ every_acquire_fails index_set =
 
 -- an acquire answers what the free list proposes, and claims no flag
 acquire_claims_without_flag : IndicesRun (set (0 ∷ 1 ∷ 2 ∷ 0 ∷ []) (Begun 0 acquire ∷ Finished 0 acquire (Index 0) ∷ [])) → ⊥
-acquire_claims_without_flag k =
-    cc (ap (λ (d : SetActs). d.claimed) (k.acquired 0 0 (Begun 0 acquire ∷ []) ([], refl)).0)
+acquire_claims_without_flag indices_run =
+    cc (ap (λ (d : SetActs). d.claimed) (indices_run.acquired 0 0 (Begun 0 acquire ∷ []) ([], refl)).0)
 
--- or it says that it claims, and the flag stays clear; so a second one claims the same
+-- An acquire writes that it claims index 0, and the flag of the index stays clear, so that a
+-- second one could claim it.
 claims_by_word_alone : IsIndexSet (set (0 ∷ 1 ∷ 2 ∷ 0 ∷ []) (Begun 0 acquire ∷ Claimed 0 0 ∷ [])) → ⊥
 claims_by_word_alone index_set = cc (index_set.flags 0 (omega arith))
 
@@ -98,13 +103,15 @@ both_claim =
     ∷ Finished 1 acquire (Index 0)
     ∷ []
 
+-- Two parties that hold index 0 are refused.
 both_claim_it : IndicesRun (set (0 ∷ 1 ∷ 2 ∷ 1 ∷ []) both_claim) → ⊥
-both_claim_it k = two (1 ∷ 0 ∷ []) (k.no_two_hold both_claim [] refl 0) refl
+both_claim_it indices_run = two (1 ∷ 0 ∷ []) (indices_run.no_two_hold both_claim [] refl 0) refl
 
--- a claim of index 1 clears the flag of index 0, which has a holder
+-- Party 0 holds index 0, and party 1 has claimed index 1.
 abbrev neighbours : List (Event ℕ)
 neighbours = Begun 0 acquire ∷ Claimed 0 0 ∷ Finished 0 acquire (Index 0) ∷ Begun 1 acquire ∷ Claimed 1 1 ∷ []
 
+-- A claim of index 1 that clears the flag of index 0, which has a holder, is refused.
 claim_clears_its_neighbours : IsIndexSet (set (0 ∷ 1 ∷ 2 ∷ 2 ∷ []) neighbours) → ⊥
 claim_clears_its_neighbours index_set = cc (index_set.flags 0 (omega arith))
 
@@ -112,8 +119,10 @@ claim_clears_its_neighbours index_set = cc (index_set.flags 0 (omega arith))
 abbrev release : Start ℕ
 release = Indices (Release 0 LockIfLastIndex)
 
+-- The release of index 0 has locked the set, and has not freed the index.
 abbrev locked_first : List (Event ℕ)
 locked_first = Begun 0 acquire ∷ Claimed 0 0 ∷ Finished 0 acquire (Index 0) ∷ Begun 0 release ∷ Locked 0 ∷ []
 
+-- A release that locks the set before it has freed its index is refused, since the index still has a holder.
 release_counts_before_clearing : IndicesRun (set (0 ∷ 1 ∷ 2 ∷ 1 ∷ []) locked_first) → ⊥
-release_counts_before_clearing k = let none = k.none_once_locked locked_first [] refl refl 0 in cc
+release_counts_before_clearing indices_run = let none = indices_run.none_once_locked locked_first [] refl refl 0 in cc

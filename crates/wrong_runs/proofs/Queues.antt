@@ -15,7 +15,8 @@ use Rattle.model.specs.Families.Queues.Promises.{IsQueue}
 use Rattle.model.specs.World.{Trace}
 use Rattle.wrong_runs.proofs.Machines.{machine, at_no_moment}
 
--- words: the write position, the read position, the two roles, which are free, and two cells
+-- A machine of an index queue with these words (the write position, the read position, the two roles and two
+-- cells) and events, in which nobody holds a role.
 abbrev pub queue : List ℕ → List (Event ℕ) → Trace ℕ
 queue words events =
     machine kinds.IndexQueue words (registries.Queues (record { producer = None; consumer = None })) events
@@ -34,10 +35,11 @@ unacted queue = cc (queue.list)
 full_at_once : IsQueue queues.IndexQueue (queue (0 ∷ 0 ∷ 1 ∷ 1 ∷ 0 ∷ 0 ∷ []) (Acted 0 (push 7) (Truth false) ∷ [])) → ⊥
 full_at_once queue = cc (queue.moments)
 
--- a position has gone on, and nothing was handed out, or published
+-- The read position has gone on, and nothing was handed out.
 read_goes_on : IsQueue queues.IndexQueue (queue (0 ∷ 1 ∷ 1 ∷ 1 ∷ 0 ∷ 0 ∷ []) []) → ⊥
 read_goes_on queue = cc (queue.book.read)
 
+-- The write position has gone on, and nothing was published.
 write_goes_on : IsQueue queues.IndexQueue (queue (1 ∷ 0 ∷ 1 ∷ 1 ∷ 0 ∷ 0 ∷ []) []) → ⊥
 write_goes_on queue = cc (queue.book.write)
 
@@ -57,12 +59,13 @@ missed queue = cc (queue.answers (Published 0 (Index 7) ∷ []) [] (Acted 1 pop 
 abbrev length_of_none : List (Event ℕ)
 length_of_none = Begun 0 (starts.Queues Len) ∷ Finished 0 (starts.Queues Len) (Number 1) ∷ []
 
+-- An index queue refuses a length of 1 where no value has waited at any moment of the call.
 no_length : IsQueue queues.IndexQueue (queue (0 ∷ 0 ∷ 1 ∷ 1 ∷ 0 ∷ 0 ∷ []) length_of_none) → ⊥
 no_length queue =
     at_no_moment 0 _ (Begun 0 (starts.Queues Len) ∷ []) ((λ e. cc), (λ e. cc))
     (queue.lengths (Begun 0 (starts.Queues Len) ∷ []) [] (Finished 0 (starts.Queues Len) (Number 1)) refl)
 
--- what comes of pushes, and then a peek
+-- The events of a push that is taken.
 abbrev pushed : ℕ → List (Event ℕ)
 pushed index = Published 0 (Index index) ∷ Acted 0 (push index) (Truth true) ∷ []
 
@@ -81,6 +84,7 @@ peeked_newest queue = cc (queue.lengths (pushed 7 ++ pushed 8) [] (peeks (Popped
 abbrev pub refused : List (Event ℕ)
 refused = Finished 0 (starts.Queues AcquireProducer) (Truth false) ∷ []
 
+-- An index queue refuses an acquire of the producer's role that answers false while nobody holds the role.
 pub refused_role : IsQueue queues.IndexQueue (queue (0 ∷ 0 ∷ 1 ∷ 1 ∷ 0 ∷ 0 ∷ []) refused) → ⊥
 refused_role queue = cc (queue.roles [] [] (Finished 0 (starts.Queues AcquireProducer) (Truth false)) refl)
 
@@ -91,6 +95,7 @@ granted = Finished 0 (starts.Queues AcquireProducer) (Truth true) ∷ []
 abbrev unseen : Event ℕ
 unseen = Finished 1 (starts.Queues HasProducer) (Truth false)
 
+-- An index queue refuses a look that says that nobody has the producer's role, while party 0 has it.
 unseen_producer : IsQueue queues.IndexQueue (machine kinds.IndexQueue (0 ∷ 0 ∷ 0 ∷ 1 ∷ 0 ∷ 0 ∷ [])
     (registries.Queues (record { producer = Some 0; consumer = None })) (granted ++ unseen ∷ []))
     → ⊥
@@ -103,6 +108,7 @@ consumed = Finished 0 (starts.Queues AcquireConsumer) (Truth true) ∷ []
 abbrev overlooked : Event ℕ
 overlooked = Finished 1 (starts.Queues HasConsumer) (Truth false)
 
+-- An index queue refuses a look that says that nobody has the consumer's role, while party 0 has it.
 unseen_consumer : IsQueue queues.IndexQueue (machine kinds.IndexQueue (0 ∷ 0 ∷ 1 ∷ 0 ∷ 0 ∷ 0 ∷ [])
     (registries.Queues (record { producer = None; consumer = Some 0 })) (consumed ++ overlooked ∷ []))
     → ⊥

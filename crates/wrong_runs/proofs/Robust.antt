@@ -17,7 +17,7 @@ use Rattle.wrong_runs.proofs.Machines.{machine}
 abbrev empty : ℕ
 empty = 2 ^ 64 - 1
 
--- words: the counter, and a cell for each index
+-- A robust set with these words (the counter, and a cell for each of two indices) and events.
 abbrev pub set : List ℕ → List (Event ℕ) → Trace ℕ
 set words events = machine kinds.Robust words (registries.Owners []) events
 
@@ -29,14 +29,15 @@ filled_twice robust_set = cc ((robust_set.does (Filled 0 0 7 ∷ []) [] (Filled 
 told_of_the_living : IsRobustSet (set (0 ∷ 7 ∷ empty ∷ []) (Filled 0 0 7 ∷ Told 1 0 7 ∷ [])) → ⊥
 told_of_the_living robust_set = cc (robust_set.asks (Filled 0 0 7 ∷ []) [] (Told 1 0 7) refl)
 
--- an index is granted to two owners
+-- The run in which an index is granted to two owners is well-formed.
 pub well_formed : IsWellFormed two_grants
 well_formed = Each-append FreesRight [] two_grants (Each-nil FreesRight) (tt, (tt, (tt, tt)))
 
+-- An index that is granted to two owners is refused.
 pub granted_twice : IsRobustSet wrong.granted_twice → ⊥
 granted_twice robust_set = cc (robust_set.holds well_formed (Filled 0 0 7 ∷ Granted 0 0 7 ∷ []) [] (Granted 1 0 9) refl)
 
--- it says that it is locked, and is not
+-- A look answers that the set is locked, and nobody has locked it.
 says_so : IsRobustSet (set (0 ∷ empty ∷ empty ∷ []) (Finished 0 (starts.Robust IsLocked) (Truth true) ∷ [])) → ⊥
 says_so robust_set = cc (robust_set.answers [] [] (Finished 0 (starts.Robust IsLocked) (Truth true)) refl)
 
@@ -44,7 +45,7 @@ says_so robust_set = cc (robust_set.answers [] [] (Finished 0 (starts.Robust IsL
 holds_unfilled : IsRobustSet (set (0 ∷ 7 ∷ empty ∷ []) []) → ⊥
 holds_unfilled robust_set = absurd (omega (arith, robust_set.cells 0 (omega arith)))
 
--- the counter says that it is locked, and nobody has locked it
+-- The counter says that the set is locked, and nobody has locked it.
 counter_says_so : IsRobustSet (set ((2 ^ 64 - 1) ∷ empty ∷ empty ∷ []) []) → ⊥
 counter_says_so robust_set = cc (robust_set.lock)
 

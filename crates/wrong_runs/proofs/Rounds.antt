@@ -17,17 +17,18 @@ started =
     run_on (begins 0 (Queues AcquireProducer) 1 ++ (Begin 0 (Queues (PushIndex 7)) ∷ Begin 1 (Queues Len) ∷ []))
     (opening one_word IndexQueue 1 2)
 
--- both go on
+-- A round in which both parties take a turn.
 abbrev both : List (Turn ℕ)
 both = Next 0 ∷ Next 1 ∷ []
 
 abbrev pub four : List (List (Turn ℕ))
 four = both ∷ both ∷ both ∷ both ∷ []
 
--- only party 0 does, and only party 1
+-- A round in which only party 0 takes a turn.
 abbrev mine : List (Turn ℕ)
 mine = Next 0 ∷ []
 
+-- A round in which only party 1 takes a turn.
 abbrev other : List (Turn ℕ)
 other = Next 1 ∷ []
 
@@ -36,24 +37,28 @@ all_turns = refl
 
 -- ---- a step in each round
 
--- a party that steps in each of the rounds, and one that has no call
+-- Party 0 takes a step in each of the four rounds.
 steps_in_four : StepsInEach 0 started four
 steps_in_four = (inr (omega arith), (inr (omega arith), (inr (omega arith), (inr (omega arith), tt))))
 
+-- A party without a call meets what is asked of each round.
 idle_in_each : StepsInEach 2 started four
 idle_in_each = (inl refl, (inl refl, (inl refl, (inl refl, tt))))
 
--- after its call it has no step to take, while the other party has one
+-- Party 0 takes a step in each round until its call ends, and in the last round only the
+-- other party takes one.
 steps_until_it_ends : StepsInEach 0 started (mine ∷ mine ∷ mine ∷ mine ∷ other ∷ [])
 steps_until_it_ends = (inr (omega arith), (inr (omega arith), (inr (omega arith), (inr (omega arith), (inl refl, tt)))))
 
--- a party that has a call, and takes no step in the first round, or in one of the later
+-- A party with a call under way that takes no step in the first round is refused.
 none_at_first : StepsInEach 0 started (other ∷ both ∷ []) → ⊥
 none_at_first steps_in_each = ⊎_elim (λ rests. cc (rests)) (λ steps. absurd (omega (steps, arith))) steps_in_each.0
 
+-- A party with a call under way that takes no step in the second round is refused.
 one_left_out : StepsInEach 0 started (both ∷ other ∷ both ∷ both ∷ []) → ⊥
 one_left_out steps_in_each = ⊎_elim (λ rests. cc (rests)) (λ steps. absurd (omega (steps, arith))) steps_in_each.1.0
 
+-- A party with a call under way that takes no step in the last round is refused.
 last_left_out : StepsInEach 0 started (both ∷ both ∷ both ∷ other ∷ []) → ⊥
 last_left_out steps_in_each = ⊎_elim (λ rests. cc (rests)) (λ steps. absurd (omega (steps, arith))) steps_in_each.1.1.1.0
 
@@ -63,10 +68,11 @@ last_left_out steps_in_each = ⊎_elim (λ rests. cc (rests)) (λ steps. absurd 
 rests_in_fifth : RestsInOne 0 started (four ++ [] ∷ [])
 rests_in_fifth = inr (inr (inr (inr (inl refl))))
 
+-- A party without a call has none as the first round begins.
 rests_at_once : RestsInOne 2 started ([] ∷ [])
 rests_at_once = inl refl
 
--- In none of the four it has: it ends in the last.
+-- The call of party 0 is under way as each of the four rounds begins: it ends in the last.
 rests_in_none : RestsInOne 0 started four → ⊥
 rests_in_none h =
     ⊎_elim (λ e. cc)
@@ -76,5 +82,6 @@ rests_in_none h =
 other_rests : RestsInOne 0 started ((Next 1 ∷ Next 1 ∷ Next 1 ∷ Next 1 ∷ []) ∷ [] ∷ []) → ⊥
 other_rests h = ⊎_elim (λ e. cc) (λ h. ⊎_elim (λ e. cc) (λ h. h) h) h
 
+-- Without rounds there is none that begins without a call.
 never_without_rounds : RestsInOne 0 started [] → ⊥
 never_without_rounds rests_in_one = rests_in_one

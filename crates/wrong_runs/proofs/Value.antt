@@ -11,7 +11,8 @@ use Rattle.model.specs.Families.Atomic.Promises.{IsValue}
 use Rattle.model.specs.World.{Trace}
 use Rattle.wrong_runs.proofs.Machines.{machine}
 
--- words: the version, the role, which is free, and two cells of one word
+-- A single value with these words (the version, the role and two cells of one word) and events, in which
+-- nobody holds the role.
 abbrev pub value : List ℕ → List (Event ℕ) → Trace ℕ
 value words events = machine kinds.Atomic words (registries.Atomic None) events
 
@@ -19,6 +20,7 @@ value words events = machine kinds.Atomic words (registries.Atomic None) events
 invents : IsValue (value (1 ∷ 1 ∷ 0 ∷ 0 ∷ []) (Acted 0 (Atomic Load) (Loaded 5) ∷ [])) → ⊥
 invents value = cc (value.moments)
 
+-- The answer of such a load is also not the value that stands.
 invents_there : IsValue (value (1 ∷ 1 ∷ 0 ∷ 0 ∷ []) (Acted 0 (Atomic Load) (Loaded 5) ∷ [])) → ⊥
 invents_there value = cc (value.answers [] [] (Acted 0 (Atomic Load) (Loaded 5)) refl)
 
@@ -37,6 +39,7 @@ taken = Finished 0 (Atomic AcquireProducer) (Truth true)
 abbrev unseen : Event ℕ
 unseen = Finished 1 (Atomic HasProducer) (Truth false)
 
+-- A look that answers that nobody holds the role is refused, since party 0 holds it.
 unseen_producer : IsValue (machine kinds.Atomic (1 ∷ 0 ∷ 0 ∷ 0 ∷ []) (registries.Atomic (Some 0)) (taken ∷ unseen ∷ [])) → ⊥
 unseen_producer value = cc (value.roles (taken ∷ []) [] unseen refl)
 
@@ -47,6 +50,7 @@ last_stored = Acted 0 (Atomic (Store 7)) (Truth true)
 abbrev uncounted : Event ℕ
 uncounted = Finished 1 (Atomic Version) (Number 1)
 
+-- A look at the version that does not count the last store is refused.
 uncounted_store : IsValue (value (2 ∷ 1 ∷ 0 ∷ 7 ∷ []) (last_stored ∷ uncounted ∷ [])) → ⊥
 uncounted_store value = cc (value.answers (last_stored ∷ []) [] uncounted refl)
 

@@ -31,11 +31,13 @@ remove index owner = Container (Remove index owner Default)
 abbrev replace : ℕ → ℕ → ℕ → Start ℕ
 replace index value owner = Container (Replace index value owner)
 
+-- A container of one index, with values of two words, after these turns.
 abbrev ran_on : List (Turn ℕ) → Trace ℕ
 ran_on turns = ran two_words kinds.Container 1 2 turns
 
 -- ---- an add, a replace and a remove of its handle, one after another: a well-formed run
 
+-- A value is added, replaced and removed.
 abbrev handled : List (Turn ℕ)
 handled = begins 0 (add 5 1) 9 ++ (begins 0 (replace 0 6 1) 7 ++ begins 0 (remove 0 1) 6)
 
@@ -80,6 +82,7 @@ stands : (p : ℕ)
 stands zero = λ index owner value wrote is steps held. absurd (cc)
 stands (suc n) = nobody_else n _ _
 
+-- After the add a replace has hidden the value and placed its own.
 abbrev replaces : List (Event ℕ)
 replaces = added ++ Begun 0 (replace 0 6 1) ∷ Hidden 0 0 ∷ Placed 0 0 6 ∷ []
 
@@ -122,12 +125,15 @@ is_well_formed =
 
 -- ---- a remove that is begun before the add has finished
 
+-- Party 1 removes the value of an add that has not ended.
 abbrev hasty : List (Turn ℕ)
 hasty = begins 0 (add 5 1) 3 ++ begins 1 (remove 0 1) 2
 
+-- An add has filled index 0 for owner 1, and has not finished.
 abbrev filled : List (Event ℕ)
 filled = Begun 0 (add 5 1) ∷ Filled 0 0 1 ∷ []
 
+-- The remove frees the index although the add has not ended.
 pub hasty_events : (ran_on hasty).events ≡ filled ++ Begun 1 (remove 0 1) ∷ FreedOf 1 0 1 ∷ []
 hasty_events = refl
 
@@ -135,39 +141,43 @@ hasty_events = refl
 too_early : (before since : List (Event ℕ)) (start : Start ℕ)
     → filled ++ Begun 1 (remove 0 1) ∷ [] ≡ before ++ Begun 1 start ∷ since
     → settled_of 0 before ≡ Some 1 → ⊥
-too_early [] since start is holds = absurd (cc)
-too_early (a ∷ []) since start is holds = absurd (cc)
-too_early (a ∷ b ∷ []) since start is holds =
+too_early [] since start split holds = absurd (cc)
+too_early (a ∷ []) since start split holds = absurd (cc)
+too_early (a ∷ b ∷ []) since start split holds =
     let same : a ∷ b ∷ [] ≡ filled = cc in
     let never : settled_of 0 filled ≡ Some 1 =
     subst (λ events. settled_of 0 events ≡ Some 1) same holds in
     absurd (cc)
-too_early (a ∷ b ∷ c ∷ []) since start is holds = absurd (cc)
-too_early (a ∷ b ∷ c ∷ d ∷ rest) since start is holds = absurd (cc)
+too_early (a ∷ b ∷ c ∷ []) since start split holds = absurd (cc)
+too_early (a ∷ b ∷ c ∷ d ∷ rest) since start split holds = absurd (cc)
 
 no_give_back : SinceBegin 1 (λ before since. settled_of 0 before ≡ Some 1)
     (filled ++ Begun 1 (remove 0 1) ∷ []) → ⊥
-no_give_back h = too_early h.before h.since h.start h.is h.holds
+no_give_back since_begin = too_early since_begin.before since_begin.since since_begin.start since_begin.is since_begin.holds
 
+-- The run in which the remove was begun before the add had finished is not well-formed.
 pub hasty_is_not_well_formed : IsWellFormedRun (ran_on hasty) → ⊥
 hasty_is_not_well_formed well_formed_run =
     no_give_back (well_formed_run.frees (filled ++ Begun 1 (remove 0 1) ∷ []) [] (FreedOf 1 0 1) refl)
 
 -- ---- a replace that is begun beside a replace of the same handle
 
+-- Party 0 has begun to replace the value at index 0 when party 1 begins to replace it too.
 abbrev beside : List (Turn ℕ)
 beside = begins 0 (add 5 1) 9 ++ (begins 0 (replace 0 6 1) 1 ++ begins 1 (replace 0 7 1) 0)
 
+-- After the add two parties have begun to replace its value.
 abbrev both : List (Event ℕ)
 both = added ++ Begun 0 (replace 0 6 1) ∷ Begun 1 (replace 0 7 1) ∷ []
 
+-- The events of `beside` are those of `both`.
 pub beside_events : (ran_on beside).events ≡ both
 beside_events = refl
 
 -- since the first has begun, another has
 too_many : (before since : List (Event ℕ)) (start : Start ℕ)
     → both ≡ before ++ Begun 0 start ∷ since → BeginsNone 0 since → NoneTakes 0 1 since → ⊥
-too_many [] since start is within none =
+too_many [] since start split within none =
     let same : since
     ≡ Filled 0 0 1
     ∷ Granted 0 0 1
@@ -177,22 +187,24 @@ too_many [] since start is within none =
     ∷ Begun 1 (replace 0 7 1)
     ∷ [] = cc in
     let begins_none = subst (BeginsNone 0) same within in begins_none.0 refl
-too_many (a ∷ []) since start is within none = absurd (cc)
-too_many (a ∷ b ∷ []) since start is within none = absurd (cc)
-too_many (a ∷ b ∷ c ∷ []) since start is within none = absurd (cc)
-too_many (a ∷ b ∷ c ∷ d ∷ []) since start is within none = absurd (cc)
-too_many (a ∷ b ∷ c ∷ d ∷ e ∷ []) since start is within none =
+too_many (a ∷ []) since start split within none = absurd (cc)
+too_many (a ∷ b ∷ []) since start split within none = absurd (cc)
+too_many (a ∷ b ∷ c ∷ []) since start split within none = absurd (cc)
+too_many (a ∷ b ∷ c ∷ d ∷ []) since start split within none = absurd (cc)
+too_many (a ∷ b ∷ c ∷ d ∷ e ∷ []) since start split within none =
     let same : since ≡ Begun 1 (replace 0 7 1) ∷ [] = cc in
     let takes_none = subst (NoneTakes 0 1) same none in takes_none.0 (refl, refl)
-too_many (a ∷ b ∷ c ∷ d ∷ e ∷ f ∷ []) since start is within none = absurd (cc)
-too_many (a ∷ b ∷ c ∷ d ∷ e ∷ f ∷ g ∷ []) since start is within none = absurd (cc)
-too_many (a ∷ b ∷ c ∷ d ∷ e ∷ f ∷ g ∷ h ∷ rest) since start is within none = absurd (cc)
+too_many (a ∷ b ∷ c ∷ d ∷ e ∷ f ∷ []) since start split within none = absurd (cc)
+too_many (a ∷ b ∷ c ∷ d ∷ e ∷ f ∷ g ∷ []) since start split within none = absurd (cc)
+too_many (a ∷ b ∷ c ∷ d ∷ e ∷ f ∷ g ∷ h ∷ rest) since start split within none = absurd (cc)
 
+-- The replace of party 0 may not replace, since party 1 has begun a replace of the same index since then.
 no_replace : MayReplace 0 0 1 both → ⊥
-no_replace h = too_many h.before h.since h.start h.is h.within h.holds.1
+no_replace may = too_many may.before may.since may.start may.is may.within may.holds.1
 
 was_filled : HeldSometime 0 (IsFilledWith 1 0) both
 was_filled = record { part = both; rest = []; is = refl; within = tt; held = refl }
 
+-- The run in which two replaces of one handle overlap is not well-formed.
 pub beside_is_not_well_formed : IsWellFormedRun (ran_on beside) → ⊥
 beside_is_not_well_formed well_formed_run = no_replace (well_formed_run.replaces zero 0 1 6 [] refl (omega arith) was_filled)

@@ -1,6 +1,6 @@
-//! Wrong runs, of which each field of a promise, and of the records of `headline`, refuses one, so that none of the fields can
-//! go out of its record unnoticed. The files of `proofs` whose names begin with `Orders` have runs and turns that wrong bodies
-//! of calls would make.
+//! Wrong runs, each of which is refused by one field of a promise or of a record of `headline`, so that no field can go out
+//! of its record unnoticed. The files of `proofs` whose names begin with `Orders` have runs and turns that wrong bodies of
+//! calls would make.
 #![tactic(auto)]
 
 ghost use Rattle.model.specs.Families.Indices.Robust.Promises.{IsRobustSet};

@@ -1,7 +1,7 @@
 -- The law `headline` (src/lib.rt; clauses `reached`, `runs`, `turn`, `lock_free`, `lock_free_by_default`, `lock_free_container` and
 -- `lock_free_channel`): `Holds` is true of a machine of every kind, at every admitted capacity, after every list of turns, of which
 -- those that are refused change nothing.
-use Rattle.std.proofs.Common.{◌≡◌, ◌⊎◌, ⊎_elim, ℕ, Bool, false, None, refl, subst}
+use Rattle.std.proofs.Common.{◌≡◌, ◌⊎◌, ⊎_elim, ℕ, Bool, false, None, refl}
 use Rattle.model.specs.declared.turn.Kind.TheVariants as kinds
 use Rattle.model.specs.declared.turn.Turn.{Turn}
 use Rattle.model.specs.declared.turn.Turn.TheVariants.{Decide}
@@ -28,11 +28,12 @@ use Rattle.headline.proofs.headline.Goals as goal
 pub returns-clause-reached : goal.returns-clause-reached
 returns-clause-reached g c t r = holds t r
 
+-- The clause `runs`: what every list of turns leads to from the opening keeps all that `Holds` says.
 pub returns-clause-runs : goal.returns-clause-runs
 returns-clause-runs g c code kind capacity queue parties turns coded admitted queued =
     let last = run turns (opened code kind capacity queue parties) in
     let r = reaches code kind capacity queue parties turns coded admitted queued in
-    subst (λ n. Holds n last) r.is (holds last r.reached)
+    rw r.is at (holds last r.reached)
 
 -- a decision is the last word, of the robust set and of a container
 last_word : {T : Type 0} (t : Trace T) (turn : Turn T) → IsReached t → refusal_of t.world turn ≡ None

@@ -1,7 +1,7 @@
 -- The law `owners_keep_ending` (src/lib.rt; clauses `robust`, `robust_keep`, `robust_known`, `container`, `container_keep`,
 -- `container_known`, `robust_by_default`, `robust_keep_by_default`, `robust_known_by_default`, `container_by_default`,
 -- `container_keep_by_default` and `container_known_by_default`): of robust index sets and containers, whose runs between threads are
--- open (nobody sees an owner die), what `passes_keep_ending` says of the others; where any call may begin the bounds say nothing of
+-- open (nobody sees an owner die), what `passes_keep_ending` says of other kinds; where any call may begin the bounds say nothing of
 -- practice; they are small where the pass has seen no call begin that may lock (`by_default`).
 use Rattle.headline_threads.proofs.Ending as laws
 use Rattle.headline_threads.proofs.owners_keep_ending.Goals as goal

@@ -19,8 +19,9 @@ use Rattle.headline_whole.proofs.main_theorem.Goals as goal
 
 module _ {T : Type 0} (t : Trace T) (r : IsReached t) where
   runs_as : (kind : Kind) → t.world.kind ≡ kind → Runs kind r.queue t
-  runs_as kind is = subst (λ k. Runs k r.queue t) is (holds t r).runs
+  runs_as kind of_kind = subst (λ k. Runs k r.queue t) of_kind (holds t r).runs
 
+-- The clause `runs`: every list of turns leads to a machine that turns reach.
 pub returns-clause-runs : goal.returns-clause-runs
 returns-clause-runs g c code kind capacity queue parties turns coded admitted queued =
     (reaches code kind capacity queue parties turns coded admitted queued).reached

@@ -4,6 +4,7 @@ use Rattle.headline.specs.Holders.{NoTwoHold}
 use Rattle.headline_whole.specs.Kinds.{hand_of, IsWellFormedFor}
 use Rattle.headline_whole.proofs.no_two_hold.Goals as goal
 
+-- No index of the machine has two holders, by the main theorem at what the machine has reached.
 pub returns : goal.returns
 returns g c =
     let events = c.args.machine.now.events in

@@ -1,5 +1,5 @@
--- A history with its silent acts, as it goes on by one event; before the end of a call they are put in where the call has
--- acted silently.
+-- How silent acts are put into a history: as a call ends, it has acted at each place, by its events or
+-- silently at a moment of the call (`Fact`), and the silent acts are put in at those moments.
 use Rattle.history.proofs.Names.{◌≡◌, ◌≢◌, ⊎_elim, ℕ, zero, suc, ◌<◌, ◌≤◌, ◌==◌, ◌&&◌, true, false, cond, Some}
 use Rattle.history.proofs.Names.{None, List, [], ◌∷◌, ◌++◌, refl, sym, ap, subst, ◌∙◌, arith, cases_eq}
 use Rattle.history.proofs.Names.{Answer, Event, Finished, Start, Kind, BeginsNone}
@@ -21,103 +21,125 @@ module _ {T : Type 0} (kind : Kind) (capacity : ℕ) (Sure : ℕ → Type 0) whe
     pub right : (p b : ℕ) → IsGood p b marks
     pub ways : (p b : ℕ) → way_at p b 0 None marks ≡ way_in p b 0 None h
 
+  -- the empty list of events needs no mark
   pub nothing_marked : Marked []
   nothing_marked = record { marks = []; is = refl; right = λ p b. tt; ways = λ p b. refl }
 
+  -- the number after the marks is that after the events
   numbers : (ms : List (Mark T)) (h : List (Event T)) → told ms ≡ h → (b : ℕ) → number_at b 0 ms ≡ number_in b 0 h
-  numbers ms h is b = number_told b 0 ms ∙ ap (number_in b 0) is
+  numbers ms h told_is b = number_told b 0 ms ∙ ap (number_in b 0) told_is
 
+  -- with one event more the marks tell the history with it
   told_one : (ms : List (Mark T)) (h : List (Event T)) (e : Event T) → told ms ≡ h → told (ms ++ Happens e ∷ []) ≡ h ++ e ∷ []
-  told_one ms h e is = told_more ms (Happens e ∷ []) ∙ ap (λ es. es ++ e ∷ []) is
+  told_one ms h e told_is = told_more ms (Happens e ∷ []) ∙ ap (λ es. es ++ e ∷ []) told_is
 
+  -- an event that is right leaves marks right that were right before it
   right_one : (ms : List (Mark T)) (h : List (Event T)) (e : Event T) → told ms ≡ h → (p b : ℕ) (way : Way T)
       → IsGood p b ms → way_at p b 0 None ms ≡ way → IsRightEvent kind capacity (Sure b) p b (number_in b 0 h) way e
       → IsGood p b (ms ++ Happens e ∷ [])
   right_one = grind (arith, right_more, way_at, numbers, number_in)
 
+  -- an event leaves the way after the marks as it is after the events
   way_one : (ms : List (Mark T)) (h : List (Event T)) (e : Event T) → told ms ≡ h → (p b : ℕ)
       → way_at p b 0 None ms ≡ way_in p b 0 None h
       → way_at p b 0 None (ms ++ Happens e ∷ []) ≡ way_in p b 0 None (h ++ e ∷ [])
   way_one = grind (arith, way_at_more, way_at, numbers, number_in, way_more)
 
-  -- an event before which nothing has to be put in
+  -- an event that is right for each party and place as it is can follow, with no silent act before it
   pub goes_on : (h : List (Event T)) (e : Event T) → Marked h
       → ((p b : ℕ) → IsRightEvent kind capacity (Sure b) p b (number_in b 0 h) (way_in p b 0 None h) e)
       → Marked (h ++ e ∷ [])
-  goes_on h e m now =
+  goes_on h e marked now =
       record {
-        marks = m.marks ++ Happens e ∷ [];
-        is = told_one m.marks h e m.is;
-        right = λ p b. right_one m.marks h e m.is p b (way_in p b 0 None h) (m.right p b) (m.ways p b) (now p b);
-        ways = λ p b. way_one m.marks h e m.is p b (m.ways p b);
+        marks = marked.marks ++ Happens e ∷ [];
+        is = told_one marked.marks h e marked.is;
+        right = λ p b. right_one marked.marks h e marked.is p b (way_in p b 0 None h) (marked.right p b) (marked.ways p b) (now p b);
+        ways = λ p b. way_one marked.marks h e marked.is p b (marked.ways p b);
       }
 
   -- ---- the end of a call
 
   module _ (h : List (Event T)) (p : ℕ) (start : Start T) (answer : Answer T) where
-    abbrev IsDone : ℕ → Way T → Type 0
-    IsDone b way = Ends capacity (Sure b) b start answer way
+    -- the call may end with its answer, where it stands at place b at `way`
+    abbrev MayEndThere : ℕ → Way T → Type 0
+    MayEndThere b way = Ends capacity (Sure b) b start answer way
 
+    -- the end of the call
     abbrev end : Event T
     end = Finished p start answer
 
-    -- what the call has found at the place: by its events, or silently, at a moment of it
+    -- how the call has acted on the place: by its events, or silently at a moment of the call
     pub data Fact (b : ℕ) : Type 0 where
-      Stays : IsDone b (way_in p b 0 None h) → Fact b
+      -- the call acted by its events, so that it may end here as it stands
+      Stays : MayEndThere b (way_in p b 0 None h) → Fact b
       -- or the call has acted silently on the place: at a moment at which it was under way there
       -- stood the number that it leaves
       Silent : (part rest : List (Event T)) → h ≡ part ++ rest → BeginsNone p rest
           → way_in p b 0 None h ≡ Some (start, None) → MayAct b start
           → number_in b 0 part ≡ left_by kind start (number_in b 0 part)
-          → IsDone b (Some (start, Some (number_in b 0 part))) → Fact b
+          → MayEndThere b (Some (start, Some (number_in b 0 part))) → Fact b
 
-    -- all that it has done silently at places below this one is put in
+    -- at the places below k, the silent acts of the call are put in
     record Filled (k : ℕ) : Type 0 where
+      -- the marks tell the history and are right for each party and place
       marks : List (Mark T)
       is : told marks ≡ h
       right : (q b : ℕ) → IsGood q b marks
+      -- the way of each other party is that of the history without silent acts
       others : (q b : ℕ) → q ≢ p → way_at q b 0 None marks ≡ way_in q b 0 None h
-      done : (b : ℕ) → b < k → IsDone b (way_at p b 0 None marks)
+      -- the call has acted at the places below k; at the others its way is that of the history
+      done : (b : ℕ) → b < k → MayEndThere b (way_at p b 0 None marks)
       later : (b : ℕ) → k ≤ b → way_at p b 0 None marks ≡ way_in p b 0 None h
 
-    stay : (k : ℕ) → Filled k → IsDone k (way_in p k 0 None h) → Filled (suc k)
+    -- where the call acted by its events, nothing has to be put in
+    stay : (k : ℕ) → Filled k → MayEndThere k (way_in p k 0 None h) → Filled (suc k)
     stay = grind arith
 
     module _ (k : ℕ) (f : Filled k) (part rest : List (Event T)) (is : h ≡ part ++ rest) (none : BeginsNone p rest)
         (under : way_in p k 0 None h ≡ Some (start, None)) (may : MayAct k start)
         (left : number_in k 0 part ≡ left_by kind start (number_in k 0 part))
-        (ends : IsDone k (Some (start, Some (number_in k 0 part)))) where
+        (ends : MayEndThere k (Some (start, Some (number_in k 0 part)))) where
+      -- the marks, cut at the moment of the silent act
       c : Cut f.marks part rest
       c = cut f.marks part rest (f.is ∙ is)
 
+      -- the marks before that moment
       abbrev first : List (Mark T)
       first = c.first
 
+      -- the marks after that moment
       abbrev second : List (Mark T)
       second = c.second
 
+      -- the marks with the silent act put in at that moment
       abbrev new : List (Mark T)
       new = first ++ Leaves p k ∷ second
 
+      -- at that moment the place has its number in the history
       there : number_at k 0 first ≡ number_in k 0 part
       there = numbers first part c.first_told k
 
+      -- the marks before and after that moment are right
       was : (q b : ℕ) → IsGood q b (first ++ second)
       was q b = subst (IsGood q b) c.is (f.right q b)
 
+      -- without the silent act, the call has not acted on the place
       late : way_at p k 0 None (first ++ second) ≡ Some (start, None)
       late = grind (arith, way_at)
 
+      -- the party begins no call after that moment
       calm : BeginsNone p (told second)
       calm = subst (BeginsNone p) (sym c.second_told) none
 
+      -- the silent act leaves the number as it is
       left_there : number_at k 0 first ≡ left_by kind start (number_at k 0 first)
       left_there = subst (λ n. n ≡ left_by kind start n) (sym there) left
 
+      -- with the silent act the marks are right for this party and place
       right_here : IsGood p k new
       right_here = put_here kind capacity Sure p k start first second (was p k) late calm may left_there
 
-      -- with the silent act put in, all is still right, for each party and place
+      -- with the silent act put in, the marks are still right for each party and place
       right_new : (q b : ℕ) → IsGood q b new
       right_new q b =
           by_bool (p == q && k == b)
@@ -125,12 +147,15 @@ module _ {T : Type 0} (kind : Kind) (capacity : ℕ) (Sure : ℕ → Type 0) whe
           subst (λ z. IsGood z b new) (is_number p q both.0) (subst (λ z. IsGood p z new) (is_number k b both.1) right_here))
           (λ t. put_else kind capacity Sure p k q b t 0 None first second (was q b))
 
+      -- at another place or for another party the silent act changes no way
       elsewhere : (q b : ℕ) → (p == q && k == b) ≡ false → way_at q b 0 None new ≡ way_at q b 0 None f.marks
-      elsewhere q b t = way_else kind capacity Sure p k q b t 0 None first second ∙ ap (way_at q b 0 None) (sym c.is)
+      elsewhere q b test_is = way_else kind capacity Sure p k q b test_is 0 None first second ∙ ap (way_at q b 0 None) (sym c.is)
 
+      -- an act of party p is none of another party
       other_party : (q b : ℕ) → q ≢ p → (p == q && k == b) ≡ false
       other_party = grind arith
 
+      -- an act on place k is none on another place
       other_place : (b : ℕ) → b ≢ k → (p == p && k == b) ≡ false
       other_place = grind arith
 
@@ -147,52 +172,56 @@ module _ {T : Type 0} (kind : Kind) (capacity : ℕ) (Sure : ℕ → Type 0) whe
           }
         where
           -- with the silent act put in, the call is done at each place up to this one
-          done : (b : ℕ) → b < suc k → IsDone b (way_at p b 0 None new)
+          done : (b : ℕ) → b < suc k → MayEndThere b (way_at p b 0 None new)
           done b lt =
               ⊎_elim
               (λ (same : b ≡ k).
-              subst (λ z. IsDone z (way_at p z 0 None new)) (sym same)
-              (subst (IsDone k) (sym (way_here kind capacity Sure p k start first second (was p k) late calm may left_there
+              subst (λ z. MayEndThere z (way_at p z 0 None new)) (sym same)
+              (subst (MayEndThere k) (sym (way_here kind capacity Sure p k start first second (was p k) late calm may left_there
               ∙ ap (λ (n : ℕ). Some (start, Some n)) there))
               ends))
-              (λ (ne : b ≢ k). subst (IsDone b) (sym (elsewhere p b (other_place b ne))) (f.done b (omega arith)))
+              (λ (ne : b ≢ k). subst (MayEndThere b) (sym (elsewhere p b (other_place b ne))) (f.done b (omega arith)))
               (cases_eq b k)
 
+    -- the silent act at place k can be put in too
     one_more : (k : ℕ) → Filled k → Fact k → Filled (suc k)
     one_more = grind (arith, stay, put_in)
 
-    -- what the call has done silently at the first k places is put in
+    -- the silent acts of the call at the first k places are put in
     fill : (k : ℕ) → Marked h → ((b : ℕ) → b < k → Fact b) → Filled k
-    fill zero m facts =
+    fill zero marked facts =
         record {
-          marks = m.marks;
-          is = m.is;
-          right = m.right;
-          others = λ q b ne. m.ways q b;
+          marks = marked.marks;
+          is = marked.is;
+          right = marked.right;
+          others = λ q b ne. marked.ways q b;
           done = λ b lt. absurd (omega arith);
-          later = λ b le. m.ways p b;
+          later = λ b le. marked.ways p b;
         }
-    fill (suc k) m facts = one_more k (fill k m (λ b lt. facts b (omega arith))) (facts k (omega arith))
+    fill (suc k) marked facts = one_more k (fill k marked (λ b lt. facts b (omega arith))) (facts k (omega arith))
 
-    -- the call ends, of which this is known at each place
+    -- a call may end whose act at each place below the capacity is known
     pub finishes : Marked h → ((b : ℕ) → b < capacity → Fact b)
-        → ((b : ℕ) → capacity ≤ b → IsDone b (way_in p b 0 None h)) → Marked (h ++ Finished p start answer ∷ [])
-    finishes m facts far =
+        → ((b : ℕ) → capacity ≤ b → MayEndThere b (way_in p b 0 None h)) → Marked (h ++ Finished p start answer ∷ [])
+    finishes marked facts far =
         record {
           marks = f.marks ++ Happens end ∷ [];
           is = told_one f.marks h end f.is;
           right =
               λ q b. right_one f.marks h end f.is q b (way_at q b 0 None f.marks) (f.right q b) refl
-              (λ same. subst (λ z. IsDone b (way_at z b 0 None f.marks)) same (done b));
+              (λ same. subst (λ z. MayEndThere b (way_at z b 0 None f.marks)) same (done b));
           ways = ways;
         }
       where
+        -- all silent acts of the call, put in
         f : Filled capacity
-        f = fill capacity m facts
+        f = fill capacity marked facts
 
-        done : (b : ℕ) → IsDone b (way_at p b 0 None f.marks)
+        -- the call may end at each place
+        done : (b : ℕ) → MayEndThere b (way_at p b 0 None f.marks)
         done = grind arith
 
+        -- after the end each way is that of the history with the end
         ways : (q b : ℕ) → way_at q b 0 None (f.marks ++ Happens end ∷ []) ≡ way_in q b 0 None (h ++ end ∷ [])
         ways q b =
             by_bool (p == q)

@@ -24,46 +24,49 @@ taken_ends_none T A p q place number (s ∷ states) = taken_ends_none T A p q pl
 module _ {T : Type 0} where
   -- ---- no ends
 
-  -- without an event that is no end
+  -- an event that is no end of a call of the party can be left out
   without : (p : ℕ) (e : Event T) (es : List (Event T)) → (EndsNone p (e ∷ es) → EndsNone p es) → EndsNone p (own_of p e ++ es) → EndsNone p es
   without = grind arith
 
+  -- if no event of the party ends a call, no event ends a call of the party
   ends_none : (p : ℕ) (es : List (Event T)) → EndsNone p (events_by p es) → EndsNone p es
-  ends_none p [] h = tt
-  ends_none p (Finished q s a ∷ es) h = go (q == p) refl (λ more. ends_none p es more)
+  ends_none p [] ends_none_here = tt
+  ends_none p (Finished q s a ∷ es) ends_none_here = go (q == p) refl (λ more. ends_none p es more)
     where
       mine : (t : Bool) → (q == p) ≡ t → EndsNone p (cond t (Finished q s a ∷ []) [] ++ events_by p es)
-      mine t is = grind (arith, cond)
+      mine t test_is = grind (arith, cond)
 
+      -- whether the end is of this party or of another one, none of the events ends a call of the party
       go : (t : Bool) → (q == p) ≡ t → (EndsNone p (events_by p es) → EndsNone p es) → EndsNone p (Finished q s a ∷ es)
-      go true t rest = absurd ((mine true t).0 (is_number q p t))
-      go false t rest = (no_number q p t, rest (mine false t))
-  ends_none p (e ∷ es) h = ends_none p es (without p e (events_by p es) (λ x. x) h)
+      go true test_is rest = absurd ((mine true test_is).0 (is_number q p test_is))
+      go false test_is rest = (no_number q p test_is, rest (mine false test_is))
+  ends_none p (e ∷ es) ends_none_here = ends_none p es (without p e (events_by p es) (λ x. x) ends_none_here)
 
   -- ---- where a call stands
 
+  -- equal places make equal calls, with the responses behind them
   same_place : (p : ℕ) (start : Start T) (ys : List (Event T)) (m n : ℕ) → m ≡ n
       → call_at m p start (response_in p ys (m + 1)) ≡ call_at n p start (response_in p ys (n + 1))
-  same_place p start ys m n e = ap (λ z. call_at z p start (response_in p ys (z + 1))) e
+  same_place p start ys m n m_is = ap (λ z. call_at z p start (response_in p ys (z + 1))) m_is
 
   -- a call that begins there stands among the calls of the history, at its place and with its response
   call_there : (p : ℕ) (start : Start T) (xs ys : List (Event T)) (k n : ℕ) → n ≡ k + length xs
       → Contains (calls_from (xs ++ Begun p start ∷ ys) k) (call_at n p start (response_in p ys (n + 1)))
-  call_there p start [] ys k n e = grind (arith, here, calls_from, same_place)
-  call_there p start (Begun q s ∷ xs) ys k n e =
+  call_there p start [] ys k n n_is = grind (arith, here, calls_from, same_place)
+  call_there p start (Begun q s ∷ xs) ys k n n_is =
       there (call_at k q s (response_in q (xs ++ Begun p start ∷ ys) (k + 1)))
       (call_at n p start (response_in p ys (n + 1))) (calls_from (xs ++ Begun p start ∷ ys) (k + 1))
       (call_there p start xs ys (k + 1) n (omega arith))
-  call_there p start (x ∷ xs) ys k n e = call_there p start xs ys (k + 1) n (omega arith)
+  call_there p start (x ∷ xs) ys k n n_is = call_there p start xs ys (k + 1) n (omega arith)
 
   -- the response to a call is the first end of a call of its party behind it
   response_there : (p : ℕ) (start : Start T) (answer : Answer T) (during rest : List (Event T)) (k n : ℕ)
       → EndsNone p during → n ≡ k + length during
       → response_in p (during ++ Finished p start answer ∷ rest) k ≡ Some (response_at n answer)
-  response_there p start answer [] rest k n none e = grind (arith, responded)
-  response_there p start answer (Finished q s a ∷ es) rest k n none e =
+  response_there p start answer [] rest k n none n_is = grind (arith, responded)
+  response_there p start answer (Finished q s a ∷ es) rest k n none n_is =
       passed p q s a (es ++ Finished p start answer ∷ rest) k none.0 ∙ response_there p start answer es rest (k + 1) n none.1 (omega arith)
-  response_there p start answer (x ∷ es) rest k n none e = response_there p start answer es rest (k + 1) n none (omega arith)
+  response_there p start answer (x ∷ es) rest k n none n_is = response_there p start answer es rest (k + 1) n none (omega arith)
 
   module _ (p : ℕ) (start : Start T) (answer : Answer T) (wrote : List (Event T)) (old new : View T)
       (called : Called p start answer wrote old new) (none : EndsNone p wrote) (history : List (Event T))

@@ -1,4 +1,5 @@
--- Where a party's call stands, from its span; and what is so of every beginning of a history.
+-- Where a party's call stands at a place (its way), read from the party's span: what the call
+-- has written (`WayFits`).
 use Rattle.std.proofs.Common.{arith}
 use Rattle.history.proofs.Names.{◌≡◌, ℕ, Option, Some, None, List, [], ◌∷◌, ◌++◌, sym}
 use Rattle.history.proofs.Names.{subst, ◌∙◌, append_assoc, append-nil, fold-append, Answer, Event, Begun}
@@ -11,26 +12,28 @@ use Rattle.history.proofs.Acts.Marks.{way_in, number_in, way_more}
 module _ {T : Type 0} where
   -- ---- beginnings
 
-  -- P is so of a beginning of the events, and goes says that it is with one event more
+  -- P holds of some first events, and `goes` says that it holds with one event more
   module _ (events : List (Event T)) (P : List (Event T) → Type 0)
       (goes : (h after : List (Event T)) (e : Event T) → events ≡ h ++ e ∷ after → P h → P (h ++ e ∷ [])) where
+    -- P holds with several events more
     from_there : (h es rest : List (Event T)) → events ≡ h ++ (es ++ rest) → P h → P (h ++ es)
-    from_there h [] rest is p = subst P (sym (append-nil h)) p
-    from_there h (e ∷ es) rest is p =
+    from_there h [] rest events_are p = subst P (sym (append-nil h)) p
+    from_there h (e ∷ es) rest events_are p =
         subst P (append_assoc h (e ∷ []) es)
-        (from_there (h ++ e ∷ []) es rest (is ∙ sym (append_assoc h (e ∷ []) (es ++ rest))) (goes h (es ++ rest) e is p))
+        (from_there (h ++ e ∷ []) es rest (events_are ∙ sym (append_assoc h (e ∷ []) (es ++ rest))) (goes h (es ++ rest) e events_are p))
 
-    -- what is so of nothing, and goes on, is so of each beginning
+    -- what holds of no events, and of one event more wherever it holds, holds of every part of the events
+    -- from the first on
     pub along : P [] → (h rest : List (Event T)) → events ≡ h ++ rest → P h
-    along first h rest is = from_there [] h rest is first
+    along first h rest events_are = from_there [] h rest events_are first
 
-  -- where no call of the party begins in a list, none begins in its end
+  -- where no call of the party begins in a list, none begins in a later part of it
   pub begins_none_later : (p : ℕ) (xs ys : List (Event T)) → BeginsNone p (xs ++ ys) → BeginsNone p ys
   begins_none_later p [] ys begins_none = begins_none
   begins_none_later p (Begun q start ∷ xs) ys begins_none = begins_none_later p xs ys begins_none.1
   begins_none_later p (x ∷ xs) ys begins_none = begins_none_later p xs ys begins_none
 
-  -- a span that is open for a call
+  -- the span of a party whose call began so, where P holds of what it has written
   pub record OpenFor (start : Start T) (P : List (Event T) → Type 0) (span : Span T) : Type 0 where
     pub wrote : List (Event T)
     pub is : span ≡ Open start wrote
@@ -42,13 +45,13 @@ module _ {T : Type 0} where
   -- ---- ways
 
   module _ (Fit : Start T → ℕ → List (Event T) → Option ℕ → Type 0) where
-    -- the way is that of a call which has begun so, and has found at the place what fits what it has written
+    -- the call began so, and what it has found at place b fits what it has written
     pub record Fits (start : Start T) (b : ℕ) (wrote : List (Event T)) (way : Way T) : Type 0 where
       pub found : Option ℕ
       pub is : way ≡ Some (start, found)
       pub fit : Fit start b wrote found
 
-    -- none, or the call's, which has found at the place what fits what it has written
+    -- the way fits the span: no call is under way, or what it has found at place b fits what it has written
     abbrev pub WayFits : ℕ → Span T → Way T → Type 0
     WayFits b Never way = way ≡ None
     WayFits b (Open start wrote) way = Fits start b wrote way
@@ -57,14 +60,17 @@ module _ {T : Type 0} where
     pub shut_way : (b : ℕ) (span : Span T) (way : Way T) → IsShut span → WayFits b span way → way ≡ None
     shut_way = grind arith
 
+    -- the way of an open call is that call's, and what it has found fits what it has written
     pub fits_open : (b : ℕ) (span : Span T) (way : Way T) (start : Start T) (wrote : List (Event T))
         → span ≡ Open start wrote → WayFits b span way → Fits start b wrote way
-    fits_open b span way start wrote is fits = subst (λ s. WayFits b s way) is fits
+    fits_open b span way start wrote span_is fits = subst (λ s. WayFits b s way) span_is fits
 
+    -- the begin of a call, of this party or another, leaves the way fitting the span
     pub begun_fits : (p q b n : ℕ) (span : Span T) (way : Way T) (s : Start T) → Fit s b [] None
         → WayFits b span way → WayFits b (span_after p span (Begun q s)) (way_after p b n way (Begun q s))
     begun_fits = grind arith
 
+    -- the end of a call, of this party or another, leaves the way fitting the span
     pub finished_fits : (p q b n : ℕ) (span : Span T) (way : Way T) (s : Start T) (a : Answer T)
         → WayFits b span way → WayFits b (span_after p span (Finished q s a)) (way_after p b n way (Finished q s a))
     finished_fits = grind arith
@@ -78,10 +84,11 @@ module _ {T : Type 0} where
         → WayFits b (span_after p span e) way
     quiet_fits = grind arith
 
-    -- all ways of a history
+    -- each party's way at each place fits the party's span
     abbrev pub Ways : List (Event T) → Type 0
     Ways h = (p b : ℕ) → WayFits b (span_of p h) (way_in p b 0 None h)
 
+    -- a way that fits the span after one event more is the way in the history with that event
     pub ways_more : (h : List (Event T)) (e : Event T) (p b : ℕ)
         → WayFits b (span_after p (span_of p h) e) (way_after p b (number_in b 0 h) (way_in p b 0 None h) e)
         → WayFits b (span_of p (h ++ e ∷ [])) (way_in p b 0 None (h ++ e ∷ []))

@@ -102,10 +102,11 @@ passed_by_told =
 none_is_told : (set_of 2 passed_by).events ≡ passed_by_told
 none_is_told = refl
 
--- how many places stand after so many events: one at least, from the begin of the call to its end
+-- how many places stand after this number of events: at least one, from the begin of the call to its end
 abbrev stood : ℕ → ℕ
 stood k = standing 0 (take k passed_by_told) + standing 1 (take k passed_by_told)
 
+-- in each of these moments one place stands, at least
 never_empty : map stood (4 ∷ 5 ∷ 6 ∷ 7 ∷ 8 ∷ 9 ∷ 10 ∷ 11 ∷ 12 ∷ 13 ∷ 14 ∷ 15 ∷ 16 ∷ [])
     ≡ 1 ∷ 1 ∷ 2 ∷ 2 ∷ 2 ∷ 1 ∷ 1 ∷ 1 ∷ 2 ∷ 2 ∷ 2 ∷ 1 ∷ 1 ∷ []
 never_empty = refl
@@ -158,10 +159,12 @@ all_is_told = refl
 abbrev flag_set : Object ℕ (ℕ → Bool)
 flag_set = record { opening = λ b. false; after = after; answer = answer }
   where
+    -- what a call leaves of the flags
     after : (ℕ → Bool) → Start ℕ → (ℕ → Bool)
     after flags (Bits (Set place)) = λ b. (b == place) || flags b
     after flags start = λ b. false
 
+    -- what a call answers by the flags
     answer : (ℕ → Bool) → Start ℕ → Answer ℕ
     answer flags (Bits (Set place)) = Truth (not (flags place))
     answer flags start = Done

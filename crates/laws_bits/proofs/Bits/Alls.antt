@@ -1,4 +1,5 @@
--- The steps of a reset of all bits: it swaps the next element with 0.
+-- The steps of a reset of all bits of a bit set: it swaps one element after another with 0, and so clears the
+-- bits that stand there.
 use Rattle.laws_bits.proofs.Names.{◌≡◌, ◌≢◌, ℕ, ◌+◌, ◌-◌, ◌<◌, ◌≤◌, nat_lt, Bool, true, false, cond, ⊎_elim, Option}
 use Rattle.laws_bits.proofs.Names.{Some, None, List, [], ◌∷◌, ◌++◌, fold, length, get_or, set, refl, sym, ap, subst}
 use Rattle.laws_bits.proofs.Names.{◌∙◌, append-nil, length-set, get_or-set_other, cases_eq, cases_lt, nat_tests}
@@ -21,20 +22,25 @@ use Rattle.laws_bits.proofs.Bits.Steps.{no_change, pays_by}
 use Rattle.laws_bits.proofs.Family.{SetScene, Shows, party_then, StepShows, ShowsStep}
 use Rattle.laws_bits.proofs.Spans.{wrote_in}
 
--- the call at this word, where it ends there and this was found last
+-- the reset at the element `word`, which ends at `end`
 abbrev pub all_at : OneWord → ℕ → ℕ → BitsFlight
 all_at room word end =
     calls.ResetAll (record { call = record { word = word; end = end }; given = tt; room = room })
 
+-- `one_if t` is 1 where `t` is true, and 0 else
 one_is : (t : Bool) → one_if t ≡ cond t 1 0
 one_is = grind arith
 
-module _ {T : Type 0} (code : Coding T) (c : ℕ) (scene : SetScene T) (holds : Holds c scene.state.words scene.events) (wrote : List (Event T))
+-- the reset in the turn of the scene has written `wrote`, and is at the element `word`: each bit
+-- of an earlier element that stood when it began has been cleared since, and it has cleared no
+-- bit from this element on
+module _ {T : Type 0} (code : Coding T) {c : ℕ} (scene : SetScene T) (holds : Holds c scene.state.words scene.events) (wrote : List (Event T))
     (is : span_of scene.party scene.events ≡ Open (Bits ResetAll) wrote) (word : ℕ) (some : 1 ≤ word)
     (none : (b : ℕ) → word ≤ element_of b → clears b wrote ≡ 0) (cleared : SinceBegin scene.party (ClearedBelow word) scene.events)
     (still : scene.backs ≡ 0) (few : scene.steps ≤ word - 1) where
   open scene use {state as s, events, party as p, changes, since, steps}
 
+  -- the element that is found, its places that are set, and the events by which they are cleared
   abbrev found : ℕ
   found = get_or s.words word 0
 
@@ -44,47 +50,55 @@ module _ {T : Type 0} (code : Coding T) (c : ℕ) (scene : SetScene T) (holds : 
   abbrev fx : List (Event T)
   fx = all_cleared p places
 
+  -- the operation of the step, and the words after it
   abbrev swaps : Option Ask
   swaps = Some (record { word = word; op = Swap 0 })
 
   abbrev then : List ℕ
   then = set s.words word 0
 
-  abbrev Does : Option Ask → After BitsFlight (Answer T) → List (Event T) → Type 0
-  Does ask after es = StepShows bit_set code c scene wrote ResetAll ask false after es
+  -- what a step has to show, by what becomes of the reset and which events it writes
+  abbrev ShowsWith : Option Ask → After BitsFlight (Answer T) → List (Event T) → Type 0
+  ShowsWith ask after es = StepShows bit_set code c scene wrote ResetAll ask false after es
 
   -- ---- the bits
 
+  -- each bit of the element that stands is cleared once by the events
   clears_here : (b : ℕ) → element_of b ≡ word → clears b fx ≡ one_if (stands s.words b)
-  clears_here b at =
+  clears_here b in_element =
       clears_named T p b places
-      ∙ (place_named word found b at
-      ∙ (sym (one_is (has_flag found b)) ∙ ap (λ w. one_if (has_flag (get_or s.words w 0) b)) (sym at)))
+      ∙ (place_named word found b in_element
+      ∙ (sym (one_is (has_flag found b)) ∙ ap (λ w. one_if (has_flag (get_or s.words w 0) b)) (sym in_element)))
 
+  -- a bit of another element is not cleared by the events
   clears_there : (b : ℕ) → element_of b ≢ word → clears b fx ≡ 0
   clears_there b other = clears_named T p b places ∙ place_not_named word found some b other
 
   module _ (near : word < length s.words) where
+    -- after the swap no bit of the element stands
     clear_here : (b : ℕ) → element_of b ≡ word → stands then b ≡ false
-    clear_here b at = swapped_clear s.words word b (sym at) near
+    clear_here b in_element = swapped_clear s.words word b (sym in_element) near
 
-    -- by the swap each bit of the element is cleared that stood, and no other
+    -- by the swap each bit of the element that stands is cleared, and no other bit changes
     moved_by : (b : ℕ) → 0 + one_if (stands s.words b) ≡ clears b fx + one_if (stands then b)
     moved_by b = ⊎_elim here there (cases_eq (element_of b) word)
       where
+        -- a bit of the element is clear after the swap, and was cleared by the events if it stood
         here : element_of b ≡ word → 0 + one_if (stands s.words b) ≡ clears b fx + one_if (stands then b)
-        here at =
-            let zero : one_if (stands then b) ≡ 0 = ap one_if (clear_here b at) in
-            let all = clears_here b at in
+        here in_element =
+            let zero : one_if (stands then b) ≡ 0 = ap one_if (clear_here b in_element) in
+            let all = clears_here b in_element in
             omega arith
 
+        -- a bit of another element is as it was, and the events do not clear it
         there : element_of b ≢ word → 0 + one_if (stands s.words b) ≡ clears b fx + one_if (stands then b)
         there other =
             let same : one_if (stands then b) ≡ one_if (stands s.words b) = ap one_if (stands_elsewhere s.words word 0 b (λ e. other (sym e))) in
             let none = clears_there b other in
             omega arith
 
-    -- each bit is set and cleared so often, with the end of the call or without
+    -- with the end of the call or without it, what the events set and clear of each bit is
+    -- what the swap changes
     moved : (ends : List (Event T)) → ((b : ℕ) → sets b ends ≡ 0) → ((b : ℕ) → clears b ends ≡ 0) → (b : ℕ)
         → sets b (fx ++ ends) + one_if (stands s.words b) ≡ clears b (fx ++ ends) + one_if (stands then b)
     moved ends no_sets no_clears b =
@@ -97,49 +111,55 @@ module _ {T : Type 0} (code : Coding T) (c : ℕ) (scene : SetScene T) (holds : 
 
     -- ---- what has been cleared since the call began
 
-    -- a bit of the element was set as often as it was cleared, once the swap has told
+    -- each bit of the element was set as often as it was cleared, once the swap is written
     even : (b : ℕ) → element_of b ≡ word → sets b (events ++ fx) ≡ clears b (events ++ fx)
-    even b at =
+    even b in_element =
         let was = holds.conserved b in
-        let all = clears_here b at in
+        let all = clears_here b in_element in
         let s_more = sets_more b events fx in
         let c_more = clears_more b events fx in
         let s_none = sets_none T p b places in
         omega arith
 
+    -- after the swap each bit of an element up to this one that stood when the reset began
+    -- has been cleared since
     cleared_next : ClearedBelow (word + 1) cleared.before (cleared.since ++ fx)
     cleared_next b below stood = ⊎_elim
         (λ less. cleared_still word cleared.before cleared.since fx cleared.holds b less stood)
         (λ more. cleared_by b p cleared.start events cleared.before cleared.since fx cleared.is (even b (omega arith)) stood)
         (cases_lt (element_of b) word)
 
+    -- the reset may go on to the next element: what stood before it was cleared since
     cleared_more : SinceBegin p (ClearedBelow (word + 1)) (events ++ fx)
     cleared_more = since_more p (ClearedBelow word) (ClearedBelow (word + 1)) events fx (begin_none T p places) cleared cleared_next
 
-  -- at the end of the words all places are behind the reset
-  all_behind : (events' : List (Event T)) (end : ℕ) → 1 + elements c ≤ end → SinceBegin p (ClearedBelow end) events' → SinceBegin p (HasCleared c) events'
-  all_behind events' end last h =
+  -- at the end of the words each place that was set when the reset began has been cleared since
+  all_behind : {events' : List (Event T)} (end : ℕ) → 1 + elements c ≤ end → SinceBegin p (ClearedBelow end) events' → SinceBegin p (HasCleared c) events'
+  all_behind end last since_begin =
       record {
-        before = h.before;
-        start = h.start;
-        since = h.since;
-        is = h.is;
-        within = h.within;
-        holds = λ b below stood. h.holds b (omega arith) stood;
+        before = since_begin.before;
+        start = since_begin.start;
+        since = since_begin.since;
+        is = since_begin.is;
+        within = since_begin.within;
+        holds = λ b below stood. since_begin.holds b (omega arith) stood;
       }
 
   -- ---- the span
 
+  -- the events of the swap may stand in the span of the reset
   stand : AllFollow (Stands bits_promise c) (Open (Bits ResetAll) wrote) fx
   stand = all_stand T p c (first_place word) wrote places (places_rise word found) (λ b above. none b (omega arith))
 
+  -- the events of the swap make the span longer, and do not end it
   written : fold own_after (Open (Bits ResetAll) wrote) fx ≡ Open (Bits ResetAll) (wrote ++ fx)
   written = all_written T p wrote places
 
+  -- the span of the party after the swap
   span_then : span_of p (events ++ fx) ≡ Open (Bits ResetAll) (wrote ++ fx)
   span_then = span_of-own p events fx (all_own T p places) ∙ (ap (λ s. fold own_after s fx) is ∙ written)
 
-  -- no bit of a later element is cleared by the call so far
+  -- the reset has cleared no bit of an element behind this one
   none_then : (b : ℕ) → word + 1 ≤ element_of b → clears b (wrote ++ fx) ≡ 0
   none_then b past =
       let before = none b (omega arith) in
@@ -149,7 +169,9 @@ module _ {T : Type 0} (code : Coding T) (c : ℕ) (scene : SetScene T) (holds : 
 
   -- ---- a swap
 
+  -- the reset ends behind the last element
   module _ (room : OneWord) (end : ℕ) (last : end ≡ 1 + elements c) where
+    -- the reset at the next element, and the reset that has ended
     abbrev next : After BitsFlight (Answer T)
     next = GoOn (all_at (record { 0 = found }) (word + 1) end)
 
@@ -159,12 +181,12 @@ module _ {T : Type 0} (code : Coding T) (c : ℕ) (scene : SetScene T) (holds : 
     abbrev finish : List (Event T)
     finish = Finished p (Bits ResetAll) answers.Done ∷ []
 
-    -- the reset position is no element
+    -- the swap of an element leaves the reset position
     start_stays : get_or then 0 0 ≡ get_or s.words 0 0
     start_stays = get_or-set_other s.words word 0 0 0 (λ e. absurd (omega arith))
 
-    -- a swap of a word that is not the last leads to the next word
-    swaps_on : word < length s.words → word + 1 < end → Does swaps next fx
+    -- the swap of an element that is not the last leads to the next element
+    swaps_on : word < length s.words → word + 1 < end → ShowsWith swaps next fx
     swaps_on near more =
         subst (λ es. Shows bit_set code c scene then (Open (Bits ResetAll) wrote) (party_then bit_set code c scene ResetAll swaps false next) es
         (changes + change_of s.words swaps))
@@ -191,9 +213,9 @@ module _ {T : Type 0} (code : Coding T) (c : ℕ) (scene : SetScene T) (holds : 
           knows = (omega arith, cleared_more near);
         })
 
-    -- the swap of the last word ends the call
-    swaps_last : word < length s.words → word + 1 ≡ end → Does swaps done fx
-    swaps_last near at =
+    -- the swap of the last element ends the reset
+    swaps_last : word < length s.words → word + 1 ≡ end → ShowsWith swaps done fx
+    swaps_last near at_end =
         record {
           preserves = record {
             sized = length-set s.words word 0;
@@ -203,7 +225,7 @@ module _ {T : Type 0} (code : Coding T) (c : ℕ) (scene : SetScene T) (holds : 
             pays = pays_by s.words swaps changes;
             right =
                 right_more (BitsAnswerRight c) events fx finish (all_right T p c events places)
-                (all_behind (events ++ fx) (word + 1) (omega arith) (cleared_more near), tt);
+                (all_behind (word + 1) (omega arith) (cleared_more near), tt);
           };
           own = own_more p fx finish (all_own T p places) (refl, tt);
           stands =
@@ -219,35 +241,35 @@ module _ {T : Type 0} (code : Coding T) (c : ℕ) (scene : SetScene T) (holds : 
           knows = omega arith;
         }
 
-    -- without a further word
-    asks_nothing : word ≡ end → Does None done []
-    asks_nothing at =
+    -- where there is no element the reset ends at once
+    asks_nothing : word ≡ end → ShowsWith None done []
+    asks_nothing at_end =
         record {
           preserves =
-              no_change code c scene None finish (λ b. refl) (λ b. refl) (λ b. refl) refl (all_behind events word (omega arith) cleared, tt);
+              no_change code c scene None (λ b. refl) (λ b. refl) (λ b. refl) refl (all_behind word (omega arith) cleared, tt);
           own = (refl, tt);
           stands = ((refl, tt), tt);
           here = record { answer = answers.Done; wrote = wrote; span = refl; steps = omega arith };
           knows = omega arith;
         }
 
-    -- any step of a reset of all bits shows what it has to
+    -- any step of a reset of all bits keeps the invariant
     pub reset_all_step : word ≤ end → ShowsStep bit_set code c scene wrote ResetAll (all_at room word end)
     reset_all_step below = go (nat_lt word end) refl (nat_lt (word + 1) end) refl
       where
         -- the cases are whether the word is before the end and whether a further word follows
         go : (t : Bool) → nat_lt word end ≡ t → (u : Bool) → nat_lt (word + 1) end ≡ u
             → ShowsStep bit_set code c scene wrote ResetAll (all_at room word end)
-        go true t true u =
+        go true end_test true next_test =
             let more : word + 1 < end = grind (arith, nat_tests) in
             let sized = holds.sized in
-            rw t (rw u (swaps_on (omega arith) more))
-        go true t false u =
+            rw end_test (rw next_test (swaps_on (omega arith) more))
+        go true end_test false next_test =
             let one : word < end = grind (arith, nat_tests) in
             let at : end ≤ word + 1 = grind (arith, nat_tests) in
             let sized = holds.sized in
-            rw t (rw u (swaps_last (omega arith) (omega arith)))
-        go false t u e =
+            rw end_test (rw next_test (swaps_last (omega arith) (omega arith)))
+        go false end_test u next_test =
             let past : end ≤ word = grind (arith, nat_tests) in
             let not_more : nat_lt (word + 1) end ≡ false = grind (arith, nat_tests) in
-            rw t (rw not_more (subst (λ bs. Does None done (all_cleared p bs)) (sym (no_places word)) (asks_nothing (omega arith))))
+            rw end_test (rw not_more (subst (λ bs. ShowsWith None done (all_cleared p bs)) (sym (no_places word)) (asks_nothing (omega arith))))

@@ -1,4 +1,5 @@
--- The events of the places of one element that were cleared, as one list.
+-- The events by which a reset of all bits clears the places of one element, as one list: each is of the
+-- party, right, and may stand where it does.
 use Rattle.laws_bits.proofs.Names.{◌≡◌, ℕ, zero, suc, ◌+◌, ◌≤◌, ◌==◌, Bool, true, false, cond, List, [], ◌∷◌, ◌++◌}
 use Rattle.laws_bits.proofs.Names.{fold, map, refl, sym, ap, subst, ◌∙◌, append_assoc, append-nil, count_by, filter}
 use Rattle.laws_bits.proofs.Names.{range_with_len, nat_tests, sum_by-cons, first_place, places_in, has_flag}
@@ -12,6 +13,7 @@ use Rattle.laws_bits.proofs.Bits.Core.{clears_more}
 -- ---- lists that stand one after another
 
 module _ {T : Type 0} where
+  -- events of a party, and more events of that party, are events of that party
   pub own_more : (p : ℕ) (es more : List (Event T)) → AreOwn p es → AreOwn p more → AreOwn p (es ++ more)
   own_more p [] more first_own second_own = second_own
   own_more p (e ∷ es) more first_own second_own = (first_own.0, own_more p es more first_own.1 second_own)
@@ -26,6 +28,7 @@ module _ {T : Type 0} where
         (subst (λ xs. AreRight P xs more) (sym (append_assoc before (e ∷ []) es)) second_right),
   )
 
+  -- events that may follow a span, and more that may follow it then, may follow it together
   pub follow_more : (R : Event T → Span T → Type 0) (span : Span T) (es more : List (Event T)) → AllFollow R span es
       → AllFollow R (fold own_after span es) more → AllFollow R span (es ++ more)
   follow_more R span [] more first_all_follow second_all_follow = second_all_follow
@@ -34,46 +37,53 @@ module _ {T : Type 0} where
 
 -- ---- places that rise
 
--- each is above those before it, and none is below this one
+-- each place is above those before it, and none is below the first number
 abbrev pub Rise : ℕ → List ℕ → Type 0
 Rise low [] = Unit {0}
 Rise low (b ∷ bs) = (low ≤ b) × Rise (b + 1) bs
 
+-- places that rise from a number rise from each lower number
 rise_from : (low high : ℕ) (bs : List ℕ) → low ≤ high → Rise high bs → Rise low bs
 rise_from low high [] le rise = tt
 rise_from low high (b ∷ bs) le rise = (omega (arith, rise.0), rise.1)
 
--- the numbers of a range that pass a test rise from the range's first
+-- the numbers of a range that pass a test rise from the first number of the range
 rise_some : (test : ℕ → Bool) (first n : ℕ) → Rise first (filter test (range_with_len first n))
 rise_some test first zero = tt
 rise_some test first (suc n) = go (test first) (rise_some test (first + 1) n)
   where
+    -- the cases are whether the first number passes the test
     go : (t : Bool) → Rise (first + 1) (filter test (range_with_len (first + 1) n))
         → Rise first (cond t (first ∷ filter test (range_with_len (first + 1) n)) (filter test (range_with_len (first + 1) n)))
     go true rise = (omega arith, rise)
     go false rise = rise_from first (first + 1) (filter test (range_with_len (first + 1) n)) (omega arith) rise
 
+-- the places of an element that are set rise from its first place
 pub places_rise : (w found : ℕ) → Rise (first_place w) (places_in w found)
 places_rise w found = rise_some (λ b. has_flag found b) (first_place w) 64
 
 -- ---- the events
 
+-- the events by which party `p` clears these places, in order
 abbrev pub all_cleared : {T : Type 0} → ℕ → List ℕ → List (Event T)
 all_cleared p bs = map (λ b. Cleared p b) bs
 
--- the events are of party `p`
+-- the events by which party `p` clears places
 module _ (T : Type 0) (p : ℕ) where
   abbrev cleared_all : List ℕ → List (Event T)
   cleared_all bs = all_cleared p bs
 
+  -- the events are of party `p`
   pub all_own : (bs : List ℕ) → AreOwn p (cleared_all bs)
   all_own [] = tt
   all_own (b ∷ bs) = (refl, all_own bs)
 
+  -- the events begin no call
   pub begin_none : (bs : List ℕ) → BeginsNone p (cleared_all bs)
   begin_none [] = tt
   begin_none (b ∷ bs) = begin_none bs
 
+  -- the events end no call, so they say nothing that may be wrong
   pub all_right : (c : ℕ) (before : List (Event T)) (bs : List ℕ) → AreRight (BitsAnswerRight c) before (cleared_all bs)
   all_right c before [] = tt
   all_right c before (b ∷ bs) = (tt, all_right c (before ++ Cleared p b ∷ []) bs)
@@ -86,12 +96,12 @@ module _ (T : Type 0) (p : ℕ) where
       let rest = sets_none b bs in
       omega arith
 
-  -- none moves the reset position
+  -- no such event moves the reset position
   pub position_same : (n : ℕ) (bs : List ℕ) → fold position_after n (cleared_all bs) ≡ n
   position_same n [] = refl
   position_same n (b ∷ bs) = position_same n bs
 
-  -- each is cleared as often as it is named
+  -- each place is cleared as often as it is in the list
   pub clears_named : (b : ℕ) (bs : List ℕ) → clears b (cleared_all bs) ≡ count_by (λ q. q == b) bs
   clears_named b [] = refl
   clears_named b (x ∷ bs) =
@@ -100,7 +110,7 @@ module _ (T : Type 0) (p : ℕ) where
       let rest = clears_named b bs in
       omega arith
 
-  -- a reset of all that has cleared none of these or above may clear them in this order
+  -- a reset of all bits that has cleared no place from `low` on may clear these places in this order
   pub all_stand : (c low : ℕ) (wrote : List (Event T)) (bs : List ℕ) → Rise low bs
       → ((b : ℕ) → low ≤ b → clears b wrote ≡ 0)
       → AllFollow (Stands bits_promise c) (Open (Bits ResetAll) wrote) (cleared_all bs)
@@ -117,6 +127,7 @@ module _ (T : Type 0) (p : ℕ) where
             omega arith),
       )
 
+  -- the events make the span of a reset of all bits longer, and do not end it
   pub all_written : (wrote : List (Event T)) (bs : List ℕ)
       → fold own_after (Open (Bits ResetAll) wrote) (cleared_all bs) ≡ Open (Bits ResetAll) (wrote ++ cleared_all bs)
   all_written wrote [] = ap (λ es. Open (Bits ResetAll) es) (sym (append-nil wrote))
@@ -125,9 +136,11 @@ module _ (T : Type 0) (p : ℕ) where
 
 -- ---- an element without a bit
 
+-- a test that no number passes leaves nothing of a list
 none_passes : (test : ℕ → Bool) → ((b : ℕ) → test b ≡ false) → (bs : List ℕ) → filter test bs ≡ []
 none_passes test none [] = refl
 none_passes test none (b ∷ bs) = ap (λ t. cond t (b ∷ filter test bs) (filter test bs)) (none b) ∙ none_passes test none bs
 
+-- an element of value 0 has no place that is set
 pub no_places : (w : ℕ) → places_in w 0 ≡ []
 no_places w = none_passes (λ b. has_flag 0 b) (λ b. none_stands b) (range_with_len (first_place w) 64)

@@ -1,55 +1,62 @@
--- What the events say of each count, and what came since a party's latest call began.
+-- What the events say of each count: how often its place was counted, and how much was taken out; and what
+-- was taken out since a party's latest call began.
 use Rattle.laws_bits.proofs.Names.{◌≡◌, ◌⊎◌, inl, inr, ℕ, ◌+◌, ◌-◌, ◌*◌, ◌^◌, ◌==◌, ◌<◌, ◌≤◌, Bool, true, false, cond}
 use Rattle.laws_bits.proofs.Names.{List, [], ◌∷◌, ◌++◌, refl, sym, ap, ◌∙◌, append_assoc, nat_tests, sum_by-append}
 use Rattle.laws_bits.proofs.Names.{Event, Begun, Start, is_count_of, take_of, counts, takes, count_at}
 use Rattle.std.proofs.Common.{arith}
 
--- where something was left of what was counted before, something is taken out since, or 2^64 was counted
+-- where more was counted than taken before the call, and as much was taken as counted up to now but for a
+-- multiple of 2^64, something was taken since or 2^64 was counted
 either_way : (c t c' t' wraps : ℕ) → 1 ≤ c - t → c + c' ≡ t + t' + 2 ^ 64 * wraps → (1 ≤ t') ⊎ (2 ^ 64 ≤ c + c')
 either_way = grind arith
 
 module _ {T : Type 0} where
+  -- a place is counted by two lists of events as often as by both together
   pub counts_more : (place : ℕ) (xs ys : List (Event T)) → counts place (xs ++ ys) ≡ counts place xs + counts place ys
   counts_more place xs ys = sum_by-append (λ e. cond (is_count_of place e) 1 0) xs ys
 
+  -- as much is taken out of a place by two lists of events as by both together
   pub takes_more : (place : ℕ) (xs ys : List (Event T)) → takes place (xs ++ ys) ≡ takes place xs + takes place ys
   takes_more place xs ys = sum_by-append (take_of place) xs ys
 
   -- ---- what has been taken out since
 
-  -- of each place below this one that counted above 0 as the call began, something has been taken out, unless it was counted 2^64 times
+  -- of each place below `end` that counted above 0 when the call began, something has been taken out since,
+  -- unless the place was counted 2^64 times
   abbrev pub TakenBelow : ℕ → List (Event T) → List (Event T) → Type 0
   TakenBelow end before since = (b : ℕ) → b < end → 1 ≤ count_at b before → (1 ≤ takes b since) ⊎ (2 ^ 64 ≤ counts b before + counts b since)
 
-  -- what has been taken out has been so after more events
+  -- what has been taken out since the call began has been so after more events
   pub taken_still : (end : ℕ) (before since es : List (Event T)) → TakenBelow end before since → TakenBelow end before (since ++ es)
   taken_still end before since es taken b below some = go (taken b below some)
     where
+      -- the cases are whether something was taken, or 2^64 was counted
       go : (1 ≤ takes b since) ⊎ (2 ^ 64 ≤ counts b before + counts b since) → (1 ≤ takes b (since ++ es)) ⊎ (2 ^ 64 ≤ counts b before + counts b (since ++ es))
       go (inl had) = let more = takes_more b since es in inl (omega arith)
       go (inr had) = let more = counts_more b since es in inr (omega arith)
 
-  -- a place of which as much was taken out as it counted is one of these
+  -- a place of which as much was taken out as was counted, but for a multiple of 2^64, joins those of which
+  -- something was taken
   pub taken_next : (end p : ℕ) (start : Start T) (events before since es : List (Event T)) (wraps : ℕ)
       → events ≡ before ++ Begun p start ∷ since → counts end (events ++ es) ≡ takes end (events ++ es) + 2 ^ 64 * wraps
       → TakenBelow end before since
       → TakenBelow (end + 1) before (since ++ es)
-  taken_next end p start events before since es wraps is none taken b below some = go (b == end) refl
+  taken_next end p start events before since es wraps split_so none taken b below some = go (b == end) refl
     where
-      -- the cases are whether the word is the one at the end
+      -- the cases are whether the place is `end`
       go : (t : Bool) → (b == end) ≡ t → (1 ≤ takes b (since ++ es)) ⊎ (2 ^ 64 ≤ counts b before + counts b (since ++ es))
-      go false t =
+      go false place_test =
           let less : b < end = grind (arith, nat_tests) in
           taken_still end before since es taken b less some
-      go true t =
+      go true place_test =
           let same : b ≡ end = grind (arith, nat_tests) in
           let all : counts b (events ++ es) ≡ takes b (events ++ es) + 2 ^ 64 * wraps = rw same none in
-          let whole : events ++ es ≡ before ++ Begun p start ∷ (since ++ es) = ap (λ xs. xs ++ es) is ∙ append_assoc before (Begun p start ∷ since) es in
+          let whole : events ++ es ≡ before ++ Begun p start ∷ (since ++ es) = ap (λ xs. xs ++ es) split_so ∙ append_assoc before (Begun p start ∷ since) es in
           let both : counts b (before ++ Begun p start ∷ (since ++ es))
           ≡ takes b (before ++ Begun p start ∷ (since ++ es)) + 2 ^ 64 * wraps =
           rw (sym whole) all in
           let c = counts_more b before (Begun p start ∷ (since ++ es)) in
-          let t = takes_more b before (Begun p start ∷ (since ++ es)) in
+          let place_test = takes_more b before (Begun p start ∷ (since ++ es)) in
           let same_takes = takes_more b (Begun p start ∷ []) (since ++ es) in
           let same_counts = counts_more b (Begun p start ∷ []) (since ++ es) in
           either_way (counts b before) (takes b before) (counts b (since ++ es)) (takes b (since ++ es)) wraps some (omega arith)

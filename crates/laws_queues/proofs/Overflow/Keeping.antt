@@ -1,4 +1,4 @@
--- What a call of another party goes on to know in an overflowing queue.
+-- What a push or a pop of an overflowing queue knows at its stage stays known after a step of another party.
 use Rattle.laws_queues.proofs.Names.{◌≡◌, ℕ, ◌+◌, ◌≤◌, List, [], ◌∷◌, ◌++◌, length, ap, OneWord, words_of_index}
 use Rattle.std.proofs.Common.{arith}
 use Rattle.steps.specs.declared.queues.overflow.PushStage as overflow_pushes
@@ -10,12 +10,12 @@ use Rattle.laws_queues.proofs.Overflow.Knows.{KnowsOverflowPush, KnowsOverflowPo
 
 -- ---- a pop, where a push takes a step
 
--- a store into a cell
+-- a push's store into a cell keeps what a pop knows
 pub fill_keeps_pop : (c : ℕ) (k : Core ℕ) (at word : ℕ) (room : OneWord) (stage : PopStage)
     → KnowsOverflowPop c k room stage → KnowsOverflowPop c (filled 1 words_of_index (c + 1) k at word) room stage
 fill_keeps_pop = grind arith
 
--- the next write position
+-- a push's store of the next write position keeps what a pop knows
 pub publish_keeps_pop : (c : ℕ) (k : Core ℕ) (v : ℕ) (room : OneWord) (stage : PopStage)
     → KnowsOverflowPop c k room stage → KnowsOverflowPop c (core.published 1 words_of_index (c + 1) k v) room stage
 publish_keeps_pop c k v room overflow_pops.FindsNone knows_overflow_pop = knows_overflow_pop
@@ -31,7 +31,8 @@ publish_keeps_pop c k v room (overflow_pops.MovesRead read) knows_overflow_pop =
       λ same. let first = knows_overflow_pop.3 same in (first.0 ++ v ∷ [], ap (λ xs. xs ++ v ∷ []) first.1),
     )
 
--- the next read position, where at least the newest value stays
+-- a push's move of the read position keeps what a pop knows: the newest value still waits, since one more
+-- than the capacity waited before
 pub take_keeps_pop :
     (c : ℕ) (k : Core ℕ) (rest : List ℕ) → k.write ≡ k.read + c + 1 → (room : OneWord) (stage : PopStage) → KnowsOverflowPop c k room stage
     → KnowsOverflowPop c (taken 1 words_of_index (c + 1) k rest) room stage
@@ -39,7 +40,8 @@ take_keeps_pop = grind arith
 
 -- ---- a push, where a pop moves the read position and no push was pending
 
--- a push under way knows what it knew, and has written the same, once another party's pop has taken the oldest value
+-- a push under way knows what it knew, and has written the same, once another party's pop has
+-- taken the oldest value
 pub take_keeps_push :
     {T : Type 0} → (c : ℕ) (k : Core ℕ) (q : ℕ) (rest : List ℕ) → Good 1 words_of_index (c + 1) k
     → length k.waiting ≤ c → (w : ℕ) (stage : overflow_pushes.PushStage) → KnowsOverflowPush c k w stage

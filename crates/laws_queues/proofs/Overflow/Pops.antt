@@ -1,4 +1,5 @@
--- The steps of an overflowing queue's pop. The one that moves the read position can make a push of another party act.
+-- Each step of an overflowing queue's pop keeps the invariant. The move of the read position can make a
+-- pending push of another party act, so it may write an event of that party (`Takes`).
 use Rattle.laws_queues.proofs.Names.{◌≡◌, ◌≢◌, ℕ, ◌+◌, ◌*◌, ◌%◌, ◌^◌, ◌<◌, ◌≤◌, ◌==◌, Bool, true, false, ⊎_elim}
 use Rattle.laws_queues.proofs.Names.{Option, Some, None, [], ◌∷◌, length, get_or, map, take, refl, sym, ap, subst}
 use Rattle.laws_queues.proofs.Names.{◌∙◌, append-nil, cases_lt, nat_tests, nil_from_length, set-get_or, take-nil, Ask}
@@ -23,7 +24,10 @@ use Rattle.laws_queues.proofs.Queues.Pending.{nothing_waits}
 use Rattle.laws_queues.proofs.Queues.Stages.{party_then, DoesStep, Moves, MovesOf, still_hangs, quiet, alone}
 use Rattle.laws_queues.proofs.Overflow.Takes.{takes_it}
 
-module _ {T : Type 0} (en : Coding T) (scene : Scene T kinds.Overflow)
+-- The party `p` holds the consumer's role and has a pop under way. `c` is the capacity, `k` the queue
+-- before the step (positions, values that wait, cells), `ro` the holders of the roles, `latest` the
+-- parties' latest calls.
+module _ {T : Type 0} {en : Coding T} {scene : Scene T kinds.Overflow}
     (inv : Inv en kinds.Overflow scene) (small : scene.core.write < 2 ^ 64) (room : OneWord)
     (holds : scene.roles.consumer ≡ Some scene.party) where
   open scene use {capacity as c, roles as ro, core as k, party as p, steps, backs, since, changes, latest, events}
@@ -32,30 +36,37 @@ module _ {T : Type 0} (en : Coding T) (scene : Scene T kinds.Overflow)
   abbrev waits : Option (ℕ × ℕ)
   waits = beside ro (layout ro k) latest p
 
+  -- the pop at a stage
   abbrev at : PopStage → QueueFlight T
   at stage = Overflow (overflow_pop_at c room stage)
 
-  -- once it has read this value
+  -- the pop once it has loaded this value into its room
   abbrev with_value : ℕ → PopStage → QueueFlight T
   with_value value stage = Overflow (overflow_pop_at c (record { 0 = value }) stage)
 
-  abbrev Does : Option Ask → Bool → After (QueueFlight T) (Answer T) → Effect T → Type 0
-  Does ask back after effect = DoesStep en kinds.Overflow scene [] Pop ask back after effect
+  -- a step with this operation, after which the pop is `after`, keeps the invariant and writes events of
+  -- `p` alone (`Shows`, Queues/Invariant)
+  abbrev StepKeeps : Option Ask → Bool → After (QueueFlight T) (Answer T) → Effect T → Type 0
+  StepKeeps ask back after effect = DoesStep en kinds.Overflow scene [] Pop ask back after effect
 
-  abbrev MovesBy : Option Ask → Bool → After (QueueFlight T) (Answer T) → Effect T → Type 0
-  MovesBy ask back after effect = Moves en kinds.Overflow scene Pop ask back after effect
+  -- a step with this operation keeps the invariant, where it may also write the act of another party's push
+  abbrev ActingStepKeeps : Option Ask → Bool → After (QueueFlight T) (Answer T) → Effect T → Type 0
+  ActingStepKeeps ask back after effect = Moves en kinds.Overflow scene Pop ask back after effect
 
-  abbrev Moved : PopStage → Type 0
-  Moved stage = MovesOf en kinds.Overflow scene Pop (at stage)
+  -- the pop's step at this stage keeps the invariant
+  abbrev StageKeeps : PopStage → Type 0
+  StageKeeps stage = MovesOf en kinds.Overflow scene Pop (at stage)
 
+  -- the party `p` after a step of the pop
   abbrev after_it : Option Ask → Bool → After (QueueFlight T) (Answer T) → Party T
   after_it ask back after = party_then en kinds.Overflow scene Pop ask back after
 
+  -- `p` has no pending push: no push of `p` is about to move the read position
   module _ (calm : (position : ℕ) → pending_at position (flight_of (doing_of (party_of p latest))) ≡ None) where
     -- a step that changes no word ends the pop with no value, where nothing waits
     finds_none : (ask : Option Ask) → words_after (layout ro k) ask ≡ layout ro k → k.waiting ≡ []
-        → steps + step_count ask ≤ 4 + 2 * backs → backs + since ≤ changes → Does ask false (Done PoppedNone) Acts
-    finds_none ask same empty s paid =
+        → steps + step_count ask ≤ 4 + 2 * backs → backs + since ≤ changes → StepKeeps ask false (Done PoppedNone) Acts
+    finds_none ask same empty few_steps paid =
         let none : map {B = Item T} Index k.waiting ≡ [] = ap (map Index) empty in
         let list : map {B = Item T} Index (take c k.waiting) ≡ [] = ap (λ xs. map Index (take c xs)) empty ∙ ap (map Index) (take-nil {A = ℕ} c) in
         let reached = inv.queue.reached in
@@ -63,6 +74,7 @@ module _ {T : Type 0} (en : Coding T) (scene : Scene T kinds.Overflow)
           k,
           same,
           record {
+            -- the events that the step writes: each may follow in its span, and each tells the truth
             own = (refl, (refl, tt));
             stands = ((refl, refl), ((refl, record { moments = refl; published = refl; handed_out = refl }), tt));
             grants = (tt, (tt, tt));
@@ -70,13 +82,15 @@ module _ {T : Type 0} (en : Coding T) (scene : Scene T kinds.Overflow)
             consumers = refl;
             right = (waiting_is events (map Index k.waiting) inv.queue.book ∙ none, (tt, tt));
             lengths = (tt, (tt, tt));
+            -- the queue afterwards, and the list that its calls answer as
             good = inv.queue.good;
             hangs = still_hangs en kinds.Overflow scene inv small k (after_it ask false (Done PoppedNone)) refl refl refl (calm k.read);
             out = omega arith;
             book = append-nil (map Index k.waiting);
             goes = rw list refl;
             answers = rw list refl;
-            here = record { answer = PoppedNone; wrote = Acted p (Queues Pop) PoppedNone ∷ []; span = refl; steps = rw zero s };
+            -- the party's call afterwards, and the calls of other parties
+            here = record { answer = PoppedNone; wrote = Acted p (Queues Pop) PoppedNone ∷ []; span = refl; steps = rw zero few_steps };
             knows = omega arith;
             up = record { write = omega arith; read = omega arith; paid = omega arith };
             others = λ q ne st f h. (h, refl);
@@ -85,10 +99,11 @@ module _ {T : Type 0} (en : Coding T) (scene : Scene T kinds.Overflow)
           },
         )
 
-    -- the load of the read position does what a step should, in a queue with a capacity
+    -- in a queue with a capacity, the load of the read position changes no word, and the pop goes on to
+    -- load the write position
     loads_read : 0 < c → steps ≤ 2 * backs + 0 → backs + since ≤ changes
-        → Does (Some load_of_read) false (GoOn (at (overflow_pops.LoadsWrite k.read))) Quiet
-    loads_read some s paid =
+        → StepKeeps (Some load_of_read) false (GoOn (at (overflow_pops.LoadsWrite k.read))) Quiet
+    loads_read some few_steps paid =
         quiet en kinds.Overflow scene inv small (calm k.read) false Pop (Some load_of_read)
         (at (overflow_pops.LoadsWrite k.read)) k refl refl refl refl inv.queue.good refl
         (record { span = refl; steps = omega arith; at = (holds, refl, (some, omega arith, λ less. absurd (omega arith))) })
@@ -97,29 +112,32 @@ module _ {T : Type 0} (en : Coding T) (scene : Scene T kinds.Overflow)
 
     -- the load of the write position goes on to the load of the cell, where something waits
     goes_on : (read : ℕ) → 0 < c → read ≤ k.read → k.read < k.write → steps ≤ 2 * backs + 1 → backs + since + k.read ≤ changes + read
-        → Does (Some load_of_write) false (GoOn (at (overflow_pops.LoadsCell read))) Quiet
-    goes_on read some low waits s paid =
+        → StepKeeps (Some load_of_write) false (GoOn (at (overflow_pops.LoadsCell read))) Quiet
+    goes_on read some low waits few_steps paid =
         quiet en kinds.Overflow scene inv small (calm k.read) false Pop (Some load_of_write)
         (at (overflow_pops.LoadsCell read)) k refl refl refl refl inv.queue.good refl
         (record { span = refl; steps = omega arith; at = (holds, refl, (some, low, waits)) })
         (low, omega arith)
         (λ q ne st f h. (h, refl))
 
-    -- the load of the write position does what a step should, whether something waits or not
+    -- the load of the write position ends the pop with None where nothing waits, and else leads on to the
+    -- load of the cell
     loads_write : (read : ℕ) → 0 < c → read ≤ k.read → (read < k.read → k.read < k.write) → steps ≤ 2 * backs + 1 → backs + since + k.read ≤ changes + read
-        → Does (Some load_of_write) false (after en (at (overflow_pops.LoadsWrite read)) k.write) Acts
-    loads_write read some low ahead s paid = go (k.write == read) refl
+        → StepKeeps (Some load_of_write) false (after en (at (overflow_pops.LoadsWrite read)) k.write) Acts
+    loads_write read some low ahead few_steps paid = go (k.write == read) refl
       where
-        -- the cases are whether the queue has nothing to read
-        go : (b : Bool) → (k.write == read) ≡ b → Does (Some load_of_write) false (after en (at (overflow_pops.LoadsWrite read)) k.write) Acts
+        -- the cases are whether the write position is the read position that was loaded, so
+        -- that nothing waits
+        go : (b : Bool) → (k.write == read) ≡ b → StepKeeps (Some load_of_write) false (after en (at (overflow_pops.LoadsWrite read)) k.write) Acts
+        -- nothing waits: the pop ends with None
         go true t =
             let queue_good = inv.queue.good in
             let write = queue_good.write in
             let same : k.write ≡ read = grind (arith, nat_tests) in
             let goes : after en (at (overflow_pops.LoadsWrite read)) k.write ≡ Done PoppedNone = rw t refl in
             let none : length k.waiting ≡ 0 = omega arith in
-            subst (λ a. Does (Some load_of_write) false a Acts) (sym goes)
-            (finds_none (Some load_of_write) refl (nil_from_length k.waiting none) (omega arith) (omega arith))
+            rw goes (finds_none (Some load_of_write) refl (nil_from_length k.waiting none) (omega arith) (omega arith))
+        -- something waits: the pop goes on to load the cell
         go false t =
             let queue_good = inv.queue.good in
             let write = queue_good.write in
@@ -128,13 +146,13 @@ module _ {T : Type 0} (en : Coding T) (scene : Scene T kinds.Overflow)
             let moved : read < k.read → k.read < k.write = ahead in
             let still : k.read ≤ read → k.read < k.write = λ h. omega arith in
             let waits : k.read < k.write = ⊎_elim moved still (cases_lt read k.read) in
-            subst (λ a. Does (Some load_of_write) false a Acts) (sym goes) (goes_on read some low waits s paid)
+            rw goes (goes_on read some low waits few_steps paid)
 
-    -- the load of the cell does so: the pop has the value in its room, and goes on to move the read position
+    -- the load of the cell puts its value into the pop's room, and the pop goes on to move the read position
     loads_cell : (read : ℕ) → 0 < c → read ≤ k.read → k.read < k.write → steps ≤ 2 * backs + 2 → backs + since + k.read ≤ changes + read
-        → Does (Some (record { word = cell_word c read; op = Load })) false
+        → StepKeeps (Some (record { word = cell_word c read; op = Load })) false
         (GoOn (with_value (get_or k.cells (read % (c + 1)) 0) (overflow_pops.MovesRead read))) Quiet
-    loads_cell read some low waits s paid =
+    loads_cell read some low waits few_steps paid =
         let queue_good = inv.queue.good in
         let write = queue_good.write in
         let old = oldest c k queue_good (omega arith) in
@@ -156,13 +174,15 @@ module _ {T : Type 0} (en : Coding T) (scene : Scene T kinds.Overflow)
         (low, omega arith)
         (λ q ne st f h. (h, refl))
 
+    -- the exchange that moves the read position from `read` to the next
     abbrev asks_move : ℕ → Option Ask
     asks_move read = Some (record { word = read_word; op = Exchange read (after_position read) })
 
-    -- a push has moved the read position, and the cell is loaded again
+    -- where a push has moved the read position since, the exchange fails, and the pop turns back to load
+    -- the cell of the position that it found
     moves_back : (read : ℕ) → 0 < c → read < k.read → k.read < k.write → steps ≤ 2 * backs + 3 → backs + since + k.read ≤ changes + read
-        → Does (asks_move read) true (GoOn (at (overflow_pops.LoadsCell k.read))) Quiet
-    moves_back read some moved waits s paid =
+        → StepKeeps (asks_move read) true (GoOn (at (overflow_pops.LoadsCell k.read))) Quiet
+    moves_back read some moved waits few_steps paid =
         let is_other : (k.read == read) ≡ false = (let apart : k.read ≢ read = λ e. absurd (omega arith) in grind (arith, nat_tests)) in
         quiet en kinds.Overflow scene inv small (calm k.read) true Pop (asks_move read)
         (at (overflow_pops.LoadsCell k.read)) k refl refl refl refl inv.queue.good (rw is_other refl)
@@ -170,15 +190,16 @@ module _ {T : Type 0} (en : Coding T) (scene : Scene T kinds.Overflow)
         (omega arith, omega arith)
         (λ q ne st f h. (h, refl))
 
-    -- the move of the read position does so: the pop takes the value, or a push has moved the
-    -- position and it turns back
+    -- the exchange of the read position succeeds and the pop takes the oldest value, or it fails, as a push
+    -- has moved the position, and the pop turns back
     moves_read : (read : ℕ) → KnowsOverflowPop c k room (overflow_pops.MovesRead read)
         → steps ≤ 2 * backs + 3 → backs + since + k.read ≤ changes + read → span_of p events ≡ Open (Queues Pop) []
-        → Moved (overflow_pops.MovesRead read)
-    moves_read read knows s paid seen = go (k.read == read) refl
+        → StageKeeps (overflow_pops.MovesRead read)
+    moves_read read knows few_steps paid seen = go (k.read == read) refl
       where
-        -- so it is by whether the read position is the one that the pop has loaded
-        go : (here : Bool) → (k.read == read) ≡ here → Moved (overflow_pops.MovesRead read)
+        -- the cases are whether the read position is still the one that the pop loaded
+        go : (here : Bool) → (k.read == read) ≡ here → StageKeeps (overflow_pops.MovesRead read)
+        -- the position is the same: the exchange succeeds, and the pop ends with the value in its room
         go true e =
             let same : read ≡ k.read = grind (arith, nat_tests) in
             let is_same : (k.read == k.read) ≡ true = grind (arith, nat_tests) in
@@ -196,64 +217,54 @@ module _ {T : Type 0} (en : Coding T) (scene : Scene T kinds.Overflow)
             let told : effect_of en (layout ro k) waits (at (overflow_pops.MovesRead k.read)) k.read
             ≡ takes_effect (Index room.0) waits =
             rw (is_same, place) refl in
-            subst (λ r. Moved (overflow_pops.MovesRead r)) (sym same)
-            (subst (λ n. MovesBy (asks_move k.read) n (after en (at (overflow_pops.MovesRead k.read)) k.read)
-            (effect_of en (layout ro k) waits (at (overflow_pops.MovesRead k.read)) k.read))
-            (sym back)
-            (subst (λ a. MovesBy (asks_move k.read) false a
-            (effect_of en (layout ro k) waits (at (overflow_pops.MovesRead k.read)) k.read))
-            (sym goes)
-            (subst (λ f. MovesBy (asks_move k.read) false (Done (PoppedIndex room.0)) f) (sym told)
-            (takes_it en scene inv small room holds calm room.0 last.0 knows.0 last.1 s (omega arith) seen))))
+            rw (same, back, goes, told) (takes_it inv small room holds calm room.0 last.0 knows.0 last.1 few_steps (omega arith) seen)
+        -- a push has moved the position: the exchange fails, and the pop turns back to the cell
         go false e =
             let apart : k.read ≢ read = grind (arith, nat_tests) in
             let low = knows.1 in
             let goes : after en (at (overflow_pops.MovesRead read)) k.read ≡ GoOn (at (overflow_pops.LoadsCell k.read)) = rw e refl in
             let back : goes_back (at (overflow_pops.MovesRead read)) k.read ≡ true = rw e refl in
             let told : effect_of en (layout ro k) waits (at (overflow_pops.MovesRead read)) k.read ≡ Quiet = rw e refl in
-            subst (λ n. MovesBy (asks_move read) n (after en (at (overflow_pops.MovesRead read)) k.read)
-            (effect_of en (layout ro k) waits (at (overflow_pops.MovesRead read)) k.read))
-            (sym back)
-            (subst (λ a. MovesBy (asks_move read) true a (effect_of en (layout ro k) waits (at (overflow_pops.MovesRead read)) k.read)) (sym goes)
-            (subst (λ f. MovesBy (asks_move read) true (GoOn (at (overflow_pops.LoadsCell k.read))) f) (sym told)
-            (alone en kinds.Overflow scene inv [] Pop (asks_move read) true
+            rw (back, goes, told) (alone en kinds.Overflow scene inv [] (asks_move read) true
             (GoOn (at (overflow_pops.LoadsCell k.read))) Quiet seen
-            (moves_back read knows.0 (omega arith) knows.2 s paid))))
+            (moves_back read knows.0 (omega arith) knows.2 few_steps paid))
 
   -- ---- every step
 
+  -- a step that writes events of `p` alone keeps the invariant
   by_itself : (ask : Option Ask) (after : After (QueueFlight T) (Answer T)) (effect : Effect T)
-      → span_of p events ≡ Open (Queues Pop) [] → Does ask false after effect → MovesBy ask false after effect
-  by_itself ask after effect seen step = alone en kinds.Overflow scene inv [] Pop ask false after effect seen step
+      → span_of p events ≡ Open (Queues Pop) [] → StepKeeps ask false after effect → ActingStepKeeps ask false after effect
+  by_itself ask after effect seen step = alone en kinds.Overflow scene inv [] ask false after effect seen step
 
+  -- the call of `p` is a pop, so `p` has no pending push
   calm_at : (stage : PopStage)
       → flight_of (doing_of (party_of p latest)) ≡ Some (flights.Queues (at stage)) → (position : ℕ)
       → pending_at position (flight_of (doing_of (party_of p latest))) ≡ None
   calm_at stage found position = ap (pending_at position) found
 
-  -- each step of a pop comes to what a step should
+  -- each step of a pop keeps the invariant
   pub overflow_pop_step :
       (stage : PopStage) → KnowsOverflowPop c k room stage
       → steps ≤ 2 * backs + overflow_pop_number stage → KnowsBacks k since changes backs stage
-      → flight_of (doing_of (party_of p latest)) ≡ Some (flights.Queues (at stage)) → span_of p events ≡ Open (Queues Pop) [] → Moved stage
-  overflow_pop_step overflow_pops.FindsNone knows s knows_backs found seen =
-      let none = nothing_waits en kinds.Overflow c k (pending k.read ro.producer latest) knows inv.queue.good inv.queue.hangs in
+      → flight_of (doing_of (party_of p latest)) ≡ Some (flights.Queues (at stage)) → span_of p events ≡ Open (Queues Pop) [] → StageKeeps stage
+  overflow_pop_step overflow_pops.FindsNone knows few_steps knows_backs found seen =
+      let none = nothing_waits en kinds.Overflow c (pending k.read ro.producer latest) knows inv.queue.good inv.queue.hangs in
       by_itself None (Done PoppedNone) Acts seen
       (finds_none (calm_at overflow_pops.FindsNone found) None refl (nil_from_length k.waiting none) (omega arith) knows_backs)
-  overflow_pop_step overflow_pops.LoadsRead knows s knows_backs found seen =
+  overflow_pop_step overflow_pops.LoadsRead knows few_steps knows_backs found seen =
       by_itself (Some load_of_read) (GoOn (at (overflow_pops.LoadsWrite k.read))) Quiet seen
-      (loads_read (calm_at overflow_pops.LoadsRead found) knows s knows_backs)
-  overflow_pop_step (overflow_pops.LoadsWrite read) knows s knows_backs found seen =
+      (loads_read (calm_at overflow_pops.LoadsRead found) knows few_steps knows_backs)
+  overflow_pop_step (overflow_pops.LoadsWrite read) knows few_steps knows_backs found seen =
       by_itself (Some load_of_write) (after en (at (overflow_pops.LoadsWrite read)) k.write) Acts seen
-      (loads_write (calm_at (overflow_pops.LoadsWrite read) found) read knows.0 knows.1 knows.2 s knows_backs.1)
-  overflow_pop_step (overflow_pops.LoadsCell read) knows s knows_backs found seen =
+      (loads_write (calm_at (overflow_pops.LoadsWrite read) found) read knows.0 knows.1 knows.2 few_steps knows_backs.1)
+  overflow_pop_step (overflow_pops.LoadsCell read) knows few_steps knows_backs found seen =
       let old : get_or (layout ro k) (cell_word c read) 0 ≡ get_or k.cells (read % (c + 1)) 0 =
       word_at k.write k.read (free ro.producer) (free ro.consumer) k.cells (cell_word c read) (read % (c + 1)) refl in
-      subst (λ n. MovesBy (Some (record { word = cell_word c read; op = Load })) false
+      subst (λ n. ActingStepKeeps (Some (record { word = cell_word c read; op = Load })) false
       (GoOn (with_value n (overflow_pops.MovesRead read))) Quiet)
       (sym old)
       (by_itself (Some (record { word = cell_word c read; op = Load }))
       (GoOn (with_value (get_or k.cells (read % (c + 1)) 0) (overflow_pops.MovesRead read))) Quiet seen
-      (loads_cell (calm_at (overflow_pops.LoadsCell read) found) read knows.0 knows.1 knows.2 s knows_backs.1))
-  overflow_pop_step (overflow_pops.MovesRead read) knows s knows_backs found seen =
-      moves_read (calm_at (overflow_pops.MovesRead read) found) read knows s knows_backs.1 seen
+      (loads_cell (calm_at (overflow_pops.LoadsCell read) found) read knows.0 knows.1 knows.2 few_steps knows_backs.1))
+  overflow_pop_step (overflow_pops.MovesRead read) knows few_steps knows_backs found seen =
+      moves_read (calm_at (overflow_pops.MovesRead read) found) read knows few_steps knows_backs.1 seen

@@ -1,4 +1,5 @@
--- The store of the next write position by a push of the overflowing queue.
+-- The store of the next write position by a push of the overflowing queue, which publishes the
+-- value, keeps the invariant.
 use Rattle.laws_queues.proofs.Names.{◌≡◌, ℕ, ◌+◌, ◌-◌, ◌^◌, ◌<◌, ◌≤◌, ◌==◌, Bool, true, false, Option, Some}
 use Rattle.laws_queues.proofs.Names.{None, List, [], ◌∷◌, ◌++◌, length, map, refl, sym, ap, subst, ◌∙◌, length-append}
 use Rattle.laws_queues.proofs.Names.{nat_tests, map-append, Ask, Store, After, GoOn, Done, OneWord, distance}
@@ -22,48 +23,61 @@ use Rattle.laws_queues.proofs.Queues.Pending.{pending_after, none_hangs}
 use Rattle.laws_queues.proofs.Queues.Stages.{party_then, DoesStep}
 use Rattle.laws_queues.proofs.Overflow.Keeping.{publish_keeps_pop}
 
-module _ {T : Type 0} (en : Coding T) (scene : Scene T kinds.Overflow)
+-- The party `p` holds the producer's role and pushes `v`. `c` is the capacity, `k` the queue before the
+-- step (positions, values that wait, cells), `latest` the parties' latest calls.
+module _ {T : Type 0} {en : Coding T} {scene : Scene T kinds.Overflow}
     (inv : Inv en kinds.Overflow scene) (small : scene.core.write < 2 ^ 64) (v : ℕ) (room : OneWord)
-    (holds : scene.roles.producer ≡ Some scene.party) (b : scene.backs ≡ 0) where
+    (holds : scene.roles.producer ≡ Some scene.party) (no_backs : scene.backs ≡ 0) where
   open scene use {capacity as c, roles as ro, core as k, party as p, steps, since, latest, events}
 
+  -- the push of `v` at a stage
   abbrev at : PushStage → QueueFlight T
   at stage = Overflow (overflow_push_at c v room stage)
 
-  abbrev Does : List (Event T) → Option Ask → After (QueueFlight T) (Answer T) → Effect T → Type 0
-  Does wrote ask after effect = DoesStep en kinds.Overflow scene wrote (PushIndex v) ask false after effect
+  -- a step with this operation, after which the push is `after`, keeps the invariant and writes events of
+  -- `p` alone (`Shows`, Queues/Invariant)
+  abbrev StepKeeps : List (Event T) → Option Ask → After (QueueFlight T) (Answer T) → Effect T → Type 0
+  StepKeeps wrote ask after effect = DoesStep en kinds.Overflow scene wrote (PushIndex v) ask false after effect
 
-  -- the party after a step of this operation
+  -- the party `p` after a step of the push
   abbrev after_it : Option Ask → After (QueueFlight T) (Answer T) → Party T
   after_it ask after = party_then en kinds.Overflow scene (PushIndex v) ask false after
 
   -- ---- the store of the next write position
 
+  -- the push has loaded the read position `read`, and its value stands in the cell of the write position
   module _ (read : ℕ) (some : 0 < c) (low : read ≤ k.read) (far : k.write ≤ read + c)
-      (whole : Holds 1 words_of_index (c + 1) k.cells k.write v 1) (fresh : k.write < 2 ^ 64 - 1) (s : steps ≤ 3) where
+      (whole : Holds 1 words_of_index (c + 1) k.cells k.write v 1) (fresh : k.write < 2 ^ 64 - 1) (few_steps : steps ≤ 3) where
+    -- the store of the next write position, which publishes the value
     abbrev next_write : Option Ask
     next_write = Some (record { word = write_word; op = Store (after_position k.write) })
 
+    -- the queue once the value is published
     abbrev after_publish : Core ℕ
     after_publish = core.published 1 words_of_index (c + 1) k v
 
+    -- the queue with the value published is right
     good_publish : Good 1 words_of_index (c + 1) after_publish
     good_publish = let g = inv.queue.good in let write = g.write in publishes 1 words_of_index (c + 1) k v (omega arith) g whole
 
+    -- the write position after the step is one more, without a wrap
     next_is : after_position k.write ≡ k.write + 1
     next_is = let reached = inv.queue.reached in omega arith
 
+    -- the words after the store are those of the queue with the value published
     words_publish : words_after (layout ro k) next_write ≡ layout ro after_publish
     words_publish = ap (λ n. n ∷ k.read ∷ free ro.producer ∷ free ro.consumer ∷ k.cells) next_is
 
+    -- the store changes one word
     one : change_of (layout ro k) next_write ≡ 1
     one = grind arith
 
+    -- the items that wait, with the item of `v` after them, are those of the longer queue
     joined : map {B = Item T} Index k.waiting ++ Index v ∷ [] ≡ map Index (k.waiting ++ v ∷ [])
     joined = sym (map-append Index k.waiting (v ∷ []))
 
-    -- there is room now, as when the read position was loaded or since
-    publishes_done : length k.waiting < c → Does [] next_write (Done PoppedNone) (Publishes (Index v))
+    -- where fewer values wait than the capacity, the store publishes the value and ends the push with None
+    publishes_done : length k.waiting < c → StepKeeps [] next_write (Done PoppedNone) (Publishes (Index v))
     publishes_done below =
         let list = push_room {T = T} c k.waiting v below in
         let longer = length-append k.waiting (v ∷ []) in
@@ -72,6 +86,7 @@ module _ {T : Type 0} (en : Coding T) (scene : Scene T kinds.Overflow)
           after_publish,
           words_publish,
           record {
+            -- the events that the step writes: each may follow in its span, and each tells the truth
             own = (refl, (refl, (refl, tt)));
             stands = ((refl, refl), ((refl, refl), ((refl, record { moments = refl; published = sym (one_passes c (Index v) some); handed_out = refl }), tt)));
             grants = (tt, (tt, (tt, tt)));
@@ -79,12 +94,14 @@ module _ {T : Type 0} (en : Coding T) (scene : Scene T kinds.Overflow)
             consumers = refl;
             right = (tt, (tt, (tt, tt)));
             lengths = (tt, (tt, (tt, tt)));
+            -- the queue afterwards, and the list that its calls answer as
             good = good_publish;
             hangs = none_hangs T kinds.Overflow c after_publish _ (pending_after k.read p ro.producer holds _ latest) (omega arith);
             out = omega arith;
             book = joined;
             goes = list.0;
             answers = ap (λ (o : Option (Item T)). answer_of_item o ∷ []) list.1;
+            -- the party's call afterwards, and the calls of other parties
             here =
                 record {
                   answer = PoppedNone;
@@ -104,8 +121,9 @@ module _ {T : Type 0} (en : Coding T) (scene : Scene T kinds.Overflow)
           },
         )
 
-    -- the queue is full, and the value waits as one more than the capacity
-    publishes_over : read ≡ k.read → k.write ≡ read + c → Does [] next_write (GoOn (at (overflow_pushes.MovesRead read))) (Publishes (Index v))
+    -- where the queue is full, the value waits as one more than the capacity, and the push goes on to move
+    -- the read position
+    publishes_over : read ≡ k.read → k.write ≡ read + c → StepKeeps [] next_write (GoOn (at (overflow_pushes.MovesRead read))) (Publishes (Index v))
     publishes_over here full =
         let queue_good = inv.queue.good in
         let write = queue_good.write in
@@ -119,6 +137,7 @@ module _ {T : Type 0} (en : Coding T) (scene : Scene T kinds.Overflow)
           after_publish,
           words_publish,
           record {
+            -- the events that the step writes: each may follow in its span, and each tells the truth
             own = (refl, tt);
             stands = ((refl, refl), tt);
             grants = (tt, tt);
@@ -126,12 +145,14 @@ module _ {T : Type 0} (en : Coding T) (scene : Scene T kinds.Overflow)
             consumers = refl;
             right = (tt, tt);
             lengths = (tt, tt);
+            -- the queue afterwards, and the list that its calls answer as
             good = good_publish;
             hangs = subst (Hangs T kinds.Overflow c after_publish) (sym hung) (some, k.waiting, refl, many);
             out = omega arith;
             book = joined;
             goes = push_waits c k.waiting v many;
             answers = refl;
+            -- the party's call afterwards, and the calls of other parties
             here =
                 record {
                   span = rw is_same refl;
@@ -150,9 +171,10 @@ module _ {T : Type 0} (en : Coding T) (scene : Scene T kinds.Overflow)
           },
         )
 
-    -- the queue was full, and a pop has made room since
+    -- where the queue was full at the load of the read position and a pop has made room since, the push
+    -- publishes its value and acts with None, and goes on to its own move of the read position
     publishes_late : read < k.read → k.write ≡ read + c
-        → Does [] next_write (GoOn (at (overflow_pushes.MovesRead read))) (PublishesAndActs (Index v))
+        → StepKeeps [] next_write (GoOn (at (overflow_pushes.MovesRead read))) (PublishesAndActs (Index v))
     publishes_late moved full =
         let queue_good = inv.queue.good in
         let write = queue_good.write in
@@ -168,6 +190,7 @@ module _ {T : Type 0} (en : Coding T) (scene : Scene T kinds.Overflow)
           after_publish,
           words_publish,
           record {
+            -- the events that the step writes: each may follow in its span, and each tells the truth
             own = (refl, (refl, tt));
             stands = ((refl, refl), ((refl, refl), tt));
             grants = (tt, (tt, tt));
@@ -175,6 +198,7 @@ module _ {T : Type 0} (en : Coding T) (scene : Scene T kinds.Overflow)
             consumers = refl;
             right = (tt, (tt, tt));
             lengths = (tt, (tt, tt));
+            -- the queue afterwards, and the list that its calls answer as
             good = good_publish;
             hangs =
                 none_hangs T kinds.Overflow c after_publish _ calm (omega arith);
@@ -182,6 +206,7 @@ module _ {T : Type 0} (en : Coding T) (scene : Scene T kinds.Overflow)
             book = joined;
             goes = list.0;
             answers = ap (λ (o : Option (Item T)). answer_of_item o ∷ []) list.1;
+            -- the party's call afterwards, and the calls of other parties
             here =
                 record {
                   span = rw is_other refl;
@@ -200,14 +225,16 @@ module _ {T : Type 0} (en : Coding T) (scene : Scene T kinds.Overflow)
           },
         )
 
-    -- the store of the next write position does what a step should, whether there is room or not
-    pub stores_write : Does [] next_write
+    -- the store of the next write position keeps the invariant, whether the queue was full or not
+    pub stores_write : StepKeeps [] next_write
         (after en (at (overflow_pushes.StoresWrite k.write read)) k.write)
         (effect_of en (layout ro k) (pending k.read ro.producer latest) (at (overflow_pushes.StoresWrite k.write read)) k.write)
     stores_write = go (distance k.write read == c) (k.read == read) refl refl
       where
+        -- the cases are whether the queue was full at the load of the read position, and whether that
+        -- position is still the same
         go : (full here : Bool) → (distance k.write read == c) ≡ full → (k.read == read) ≡ here
-            → Does [] next_write (after en (at (overflow_pushes.StoresWrite k.write read)) k.write)
+            → StepKeeps [] next_write (after en (at (overflow_pushes.StoresWrite k.write read)) k.write)
             (effect_of en (layout ro k) (pending k.read ro.producer latest)
             (at (overflow_pushes.StoresWrite k.write read)) k.write)
         go = grind (arith, length, publishes_done, publishes_over, publishes_late, nat_tests)

@@ -1,4 +1,5 @@
--- The steps of an overflowing queue's push.
+-- Each step of an overflowing queue's push keeps the invariant. The store of the next write position, which
+-- publishes the value, is in `Publishes`.
 use Rattle.laws_queues.proofs.Names.{◌≡◌, ◌≢◌, ℕ, suc, ◌+◌, ◌-◌, ◌*◌, ◌%◌, ◌^◌, ◌<◌, ◌≤◌, ◌==◌, Bool, true, false}
 use Rattle.laws_queues.proofs.Names.{inr, Option, Some, None, option_map, List, [], ◌∷◌, ◌++◌, length, get_or, map}
 use Rattle.laws_queues.proofs.Names.{refl, sym, ap, subst, ◌∙◌, append-nil, length-append, nat_tests, set-get_or, Ask}
@@ -26,42 +27,53 @@ use Rattle.laws_queues.proofs.Queues.Stages.{party_then, DoesStep, Moves, MovesO
 use Rattle.laws_queues.proofs.Overflow.Publishes.{stores_write}
 use Rattle.laws_queues.proofs.Overflow.Keeping.{fill_keeps_pop, take_keeps_pop}
 
-module _ {T : Type 0} (en : Coding T) (scene : Scene T kinds.Overflow)
+-- The party `p` holds the producer's role and pushes `v`. `c` is the capacity, `k` the queue before the step
+-- (positions, values that wait, cells), `ro` the holders of the roles, `latest` the parties' latest calls.
+module _ {T : Type 0} {en : Coding T} {scene : Scene T kinds.Overflow}
     (inv : Inv en kinds.Overflow scene) (small : scene.core.write < 2 ^ 64) (v : ℕ) (room : OneWord)
-    (holds : scene.roles.producer ≡ Some scene.party) (b : scene.backs ≡ 0) where
+    (holds : scene.roles.producer ≡ Some scene.party) (no_backs : scene.backs ≡ 0) where
   open scene use {capacity as c, roles as ro, core as k, party as p, steps, since, latest, events}
 
+  -- the push at a stage
   abbrev at : PushStage → QueueFlight T
   at stage = Overflow (overflow_push_at c v room stage)
 
-  abbrev Does : List (Event T) → Option Ask → After (QueueFlight T) (Answer T) → Effect T → Type 0
-  Does wrote ask after effect = DoesStep en kinds.Overflow scene wrote (PushIndex v) ask false after effect
+  -- a step with this operation keeps the invariant and writes events of `p` alone (`Shows`,
+  -- Queues/Invariant); `wrote` is what the push has written before, `after` is the push afterwards
+  abbrev StepKeeps : List (Event T) → Option Ask → After (QueueFlight T) (Answer T) → Effect T → Type 0
+  StepKeeps wrote ask after effect = DoesStep en kinds.Overflow scene wrote (PushIndex v) ask false after effect
 
-  abbrev Moved : PushStage → Type 0
-  Moved stage = MovesOf en kinds.Overflow scene (PushIndex v) (at stage)
+  -- the push's step at this stage keeps the invariant
+  abbrev StageKeeps : PushStage → Type 0
+  StageKeeps stage = MovesOf en kinds.Overflow scene (PushIndex v) (at stage)
 
-  abbrev MovesBy : Option Ask → After (QueueFlight T) (Answer T) → Effect T → Type 0
-  MovesBy ask after effect = Moves en kinds.Overflow scene (PushIndex v) ask false after effect
+  -- a step with this operation keeps the invariant, where it may also write events of another party
+  abbrev ActingStepKeeps : Option Ask → After (QueueFlight T) (Answer T) → Effect T → Type 0
+  ActingStepKeeps ask after effect = Moves en kinds.Overflow scene (PushIndex v) ask false after effect
 
+  -- `p` has no pending push: it is not about to move the read position on
   abbrev IsCalm : Type 0
   IsCalm = pending_at k.read (flight_of (doing_of (party_of p latest))) ≡ None
 
-  -- the party after a step of this operation
+  -- the party `p` after a step of the push
   abbrev after_it : Option Ask → After (QueueFlight T) (Answer T) → Party T
   after_it ask after = party_then en kinds.Overflow scene (PushIndex v) ask false after
 
+  -- where the push of `p` is not pending, none is, since `p` holds the producer's role
   calm_none : (position : ℕ) → pending_at position (flight_of (doing_of (party_of p latest))) ≡ None → pending position ro.producer latest ≡ None
   calm_none = grind (arith, pending, option_map)
 
+  -- while no push is pending, at most the capacity waits
   few : IsCalm → length k.waiting ≤ c
   few = grind (arith, few_wait, pending, calm_none)
 
   -- without capacity the push ends at once and hands its value back
-  hands_back : c ≡ 0 → steps ≤ 0 → IsCalm → Does [] None (Done (PoppedIndex v)) Acts
-  hands_back none s calm = (
+  hands_back : c ≡ 0 → steps ≤ 0 → IsCalm → StepKeeps [] None (Done (PoppedIndex v)) Acts
+  hands_back none few_steps calm = (
     k,
     refl,
     record {
+      -- the events that the step writes: each may follow in its span, and each tells the truth
       own = (refl, (refl, tt));
       stands = (
         (refl, refl),
@@ -78,12 +90,14 @@ module _ {T : Type 0} (en : Coding T) (scene : Scene T kinds.Overflow)
       consumers = refl;
       right = (tt, (tt, tt));
       lengths = (tt, (tt, tt));
+      -- the queue afterwards, and the list that its calls answer as
       good = inv.queue.good;
       hangs = still_hangs en kinds.Overflow scene inv small k (after_it None (Done (PoppedIndex v))) refl refl refl calm;
       out = omega arith;
       book = append-nil (map Index k.waiting);
       goes = rw none refl;
       answers = rw none refl;
+      -- the party's call afterwards, and the calls of other parties
       here =
           record {
             answer = PoppedIndex v;
@@ -99,24 +113,25 @@ module _ {T : Type 0} (en : Coding T) (scene : Scene T kinds.Overflow)
     },
   )
 
-  -- the load of the write position does what a step should, in a queue with a capacity
+  -- in a queue with a capacity, the load of the write position changes no word, and the push goes on, as
+  -- the position is not the last
   loads_write : k.write < 2 ^ 64 - 1 → 0 < c → steps ≤ 0 → IsCalm
-      → Does [] (Some load_of_write) (after en (at overflow_pushes.LoadsWrite) k.write) Quiet
-  loads_write fresh some s calm =
+      → StepKeeps [] (Some load_of_write) (after en (at overflow_pushes.LoadsWrite) k.write) Quiet
+  loads_write fresh some few_steps calm =
       let low = inv.queue.reached in
       let not_last : (k.write == 2 ^ 64 - 1) ≡ false = grind (arith, nat_tests) in
       let goes : after en (at overflow_pushes.LoadsWrite) k.write ≡ GoOn (at (overflow_pushes.LoadsRead k.write)) = rw not_last refl in
-      subst (λ a. Does [] (Some load_of_write) a Quiet) (sym goes)
-      (quiet en kinds.Overflow scene inv small calm false (PushIndex v) (Some load_of_write)
+      rw goes (quiet en kinds.Overflow scene inv small calm false (PushIndex v) (Some load_of_write)
       (at (overflow_pushes.LoadsRead k.write)) k refl refl refl refl inv.queue.good refl
       (record { span = refl; steps = omega arith; at = (holds, refl, refl, (some, refl, fresh)) })
       (omega arith)
       (λ q ne st f h. (h, refl)))
 
-  -- the load of the read position does so
+  -- the load of the read position changes no word, and the push goes on to store its value into the cell of
+  -- the write position
   loads_read : k.write < 2 ^ 64 - 1 → 0 < c → steps ≤ 1 → IsCalm
-      → Does [] (Some load_of_read) (GoOn (at (overflow_pushes.StoresCell k.write k.read))) Quiet
-  loads_read fresh some s calm =
+      → StepKeeps [] (Some load_of_read) (GoOn (at (overflow_pushes.StoresCell k.write k.read))) Quiet
+  loads_read fresh some few_steps calm =
       let below = few calm in
       let queue_good = inv.queue.good in
       let write = queue_good.write in
@@ -126,11 +141,11 @@ module _ {T : Type 0} (en : Coding T) (scene : Scene T kinds.Overflow)
       (omega arith)
       (λ q ne st f h. (h, refl))
 
-  -- the store into the cell of the write position does so, at a read position that is not past the
-  -- queue's, from which the queue is no more than full
+  -- the store into the cell of the write position keeps the invariant, and the push goes on to store the
+  -- next write position; `read` is the read position that it loaded, which can have moved on since
   stores_cell : k.write < 2 ^ 64 - 1 → (read : ℕ) → 0 < c → read ≤ k.read → k.write ≤ read + c → steps ≤ 2 → IsCalm
-      → Does [] (Some (record { word = cell_word c k.write; op = Store v })) (GoOn (at (overflow_pushes.StoresWrite k.write read))) Quiet
-  stores_cell fresh read some low far s calm =
+      → StepKeeps [] (Some (record { word = cell_word c k.write; op = Store v })) (GoOn (at (overflow_pushes.StoresWrite k.write read))) Quiet
+  stores_cell fresh read some low far few_steps calm =
       let queue_good = inv.queue.good in
       let write = queue_good.write in
       let none : Holds 1 words_of_index (c + 1) k.cells k.write v 0 = λ i h. absurd (omega arith) in
@@ -156,12 +171,13 @@ module _ {T : Type 0} (en : Coding T) (scene : Scene T kinds.Overflow)
 
   -- ---- the move of the read position
 
-  -- the push takes the oldest value out
+  -- where the read position is the one that the push loaded, the exchange moves it on, and the push takes
+  -- the oldest value out
   takes_out : 0 < c → k.write ≡ k.read + c + 1 → (others : List ℕ) → k.waiting ≡ others ++ v ∷ [] → steps ≤ 4
-      → Does (Published p (Index v) ∷ [])
+      → StepKeeps (Published p (Index v) ∷ [])
       (Some (record { word = read_word; op = Exchange k.read (after_position k.read) }))
       (GoOn (at (overflow_pushes.LoadsCell k.read))) (TakesOut (get_or k.cells (k.read % (c + 1)) 0))
-  takes_out some far others is s =
+  takes_out some far others waiting_is few_steps =
       let queue_good = inv.queue.good in
       let write = queue_good.write in
       let reached = inv.queue.reached in
@@ -169,9 +185,9 @@ module _ {T : Type 0} (en : Coding T) (scene : Scene T kinds.Overflow)
       let rest = old.0 in
       let first = old.1 in
       let longer = length-append others (v ∷ []) in
-      let full : length others ≡ c = (let long : length k.waiting ≡ length (others ++ v ∷ []) = ap length is in omega arith) in
+      let full : length others ≡ c = (let long : length k.waiting ≡ length (others ++ v ∷ []) = ap length waiting_is in omega arith) in
       let shorter : length k.waiting ≡ suc (length rest) = ap length first in
-      let list = push_over {T = T} c k.waiting others (get_or k.cells (k.read % (c + 1)) 0) v rest is full first in
+      let list = push_over {T = T} c k.waiting others (get_or k.cells (k.read % (c + 1)) 0) v rest waiting_is full first in
       let is_same : (k.read == k.read) ≡ true = grind (arith, nat_tests) in
       let next : after_position k.read ≡ k.read + 1 = omega arith in
       let moved : (after_position k.read == k.read) ≡ false = grind (arith, nat_tests) in
@@ -184,6 +200,7 @@ module _ {T : Type 0} (en : Coding T) (scene : Scene T kinds.Overflow)
         taken 1 words_of_index (c + 1) k rest,
         words,
         record {
+          -- the events that the step writes: each may follow in its span, and each tells the truth
           own = (refl, (refl, tt));
           stands = ((inr (Index v, refl), refl), ((refl, refl), tt));
           grants = (tt, (tt, tt));
@@ -191,6 +208,7 @@ module _ {T : Type 0} (en : Coding T) (scene : Scene T kinds.Overflow)
           consumers = refl;
           right = (tt, (tt, tt));
           lengths = (tt, (tt, tt));
+          -- the queue afterwards, and the list that its calls answer as
           good = takes 1 words_of_index (c + 1) k (get_or k.cells (k.read % (c + 1)) 0) rest first queue_good;
           hangs =
               none_hangs T kinds.Overflow c (taken 1 words_of_index (c + 1) k rest) _
@@ -199,6 +217,7 @@ module _ {T : Type 0} (en : Coding T) (scene : Scene T kinds.Overflow)
           book = append-nil (map Index k.waiting) ∙ ap (map Index) first;
           goes = list.0;
           answers = ap (λ (o : Option (Item T)). answer_of_item o ∷ []) list.1;
+          -- the party's call afterwards, and the calls of other parties
           here = record { span = refl; steps = omega arith; at = (holds, refl, refl, (some, omega arith, far)) };
           knows = omega arith;
           up = record { write = omega arith; read = omega arith; paid = omega arith };
@@ -213,17 +232,19 @@ module _ {T : Type 0} (en : Coding T) (scene : Scene T kinds.Overflow)
         },
       )
 
-  -- a pop has moved it, and the push has acted with None
+  -- where a pop has moved the read position since, the exchange fails, and the push ends with None, with
+  -- which it has acted already
   gives_up : (read : ℕ) → 0 < c → read < k.read → steps ≤ 4 → IsCalm
-      → Does (Published p (Index v) ∷ Acted p (Queues (PushIndex v)) PoppedNone ∷ [])
+      → StepKeeps (Published p (Index v) ∷ Acted p (Queues (PushIndex v)) PoppedNone ∷ [])
       (Some (record { word = read_word; op = Exchange read (after_position read) })) (Done PoppedNone) Quiet
-  gives_up read some moved s calm =
+  gives_up read some moved few_steps calm =
       let reached = inv.queue.reached in
       let is_other : (k.read == read) ≡ false = grind (arith, nat_tests) in
       let ask : Option Ask = Some (record { word = read_word; op = Exchange read (after_position read) }) in (
         k,
         rw is_other refl,
         record {
+          -- the events that the step writes: each may follow in its span, and each tells the truth
           own = (refl, tt);
           stands = ((refl, record { moments = refl; published = sym (one_passes c (Index v) some); handed_out = refl }), tt);
           grants = (tt, tt);
@@ -231,12 +252,14 @@ module _ {T : Type 0} (en : Coding T) (scene : Scene T kinds.Overflow)
           consumers = refl;
           right = (tt, tt);
           lengths = (tt, tt);
+          -- the queue afterwards, and the list that its calls answer as
           good = inv.queue.good;
           hangs = still_hangs en kinds.Overflow scene inv small k (after_it ask (Done PoppedNone)) refl refl refl calm;
           out = omega arith;
           book = append-nil (map Index k.waiting);
           goes = refl;
           answers = refl;
+          -- the party's call afterwards, and the calls of other parties
           here =
               record {
                 answer = PoppedNone;
@@ -252,22 +275,24 @@ module _ {T : Type 0} (en : Coding T) (scene : Scene T kinds.Overflow)
         },
       )
 
-  -- ---- the load of the cell that it took
+  -- ---- the load of the cell from which the push took the value out
 
+  -- the value in the cell of the position `read`
   abbrev oldest_at : ℕ → ℕ
   oldest_at read = get_or k.cells (read % (c + 1)) 0
 
-  -- the load of the cell of the read position that it has moved ends the push with the oldest value
+  -- the load of that cell ends the push with the value that it took out, the oldest
   loads_cell : (read : ℕ) → 0 < c → steps ≤ 5 → IsCalm
-      → Does (Published p (Index v) ∷ HandedOut p (Index (oldest_at read))
+      → StepKeeps (Published p (Index v) ∷ HandedOut p (Index (oldest_at read))
       ∷ Acted p (Queues (PushIndex v)) (PoppedIndex (oldest_at read)) ∷ [])
       (Some (record { word = cell_word c read; op = Load })) (Done (PoppedIndex (oldest_at read))) Quiet
-  loads_cell read some s calm =
+  loads_cell read some few_steps calm =
       let reached = inv.queue.reached in
       let ask : Option Ask = Some (record { word = cell_word c read; op = Load }) in (
         k,
         set-get_or (layout ro k) (cell_word c read) 0,
         record {
+          -- the events that the step writes: each may follow in its span, and each tells the truth
           own = (refl, tt);
           stands = (
             (
@@ -285,12 +310,14 @@ module _ {T : Type 0} (en : Coding T) (scene : Scene T kinds.Overflow)
           consumers = refl;
           right = (tt, tt);
           lengths = (tt, tt);
+          -- the queue afterwards, and the list that its calls answer as
           good = inv.queue.good;
           hangs = still_hangs en kinds.Overflow scene inv small k (after_it ask (Done (PoppedIndex (oldest_at read)))) refl refl refl calm;
           out = omega arith;
           book = append-nil (map Index k.waiting);
           goes = refl;
           answers = refl;
+          -- the party's call afterwards, and the calls of other parties
           here =
               record {
                 answer = PoppedIndex (oldest_at read);
@@ -306,32 +333,35 @@ module _ {T : Type 0} (en : Coding T) (scene : Scene T kinds.Overflow)
         },
       )
 
-  -- ---- every step
+  -- ---- every step of a push
 
-  -- a step that writes events of its party alone
+  -- a step that writes events of `p` alone keeps the invariant
   by_itself : (wrote : List (Event T)) (ask : Option Ask) (after : After (QueueFlight T) (Answer T)) (effect : Effect T)
-      → span_of p events ≡ Open (Queues (PushIndex v)) wrote → Does wrote ask after effect
-      → MovesBy ask after effect
-  by_itself wrote ask after effect seen step = alone en kinds.Overflow scene inv wrote (PushIndex v) ask false after effect seen step
+      → span_of p events ≡ Open (Queues (PushIndex v)) wrote → StepKeeps wrote ask after effect
+      → ActingStepKeeps ask after effect
+  by_itself wrote ask after effect seen step = alone en kinds.Overflow scene inv wrote ask false after effect seen step
 
+  -- where the push at its stage is not about to move the read position, `p` has no pending push
   calm_at : (stage : PushStage)
       → flight_of (doing_of (party_of p latest)) ≡ Some (flights.Queues (at stage))
       → pending_at k.read (Some (flights.Queues (at stage))) ≡ None → IsCalm
   calm_at stage found none = ap (pending_at k.read) found ∙ none
 
+  -- the exchange that moves the read position from `read` to the next
   abbrev asks_move : ℕ → Option Ask
   asks_move read = Some (record { word = read_word; op = Exchange read (after_position read) })
 
-  -- the move of the read position comes to what a step should: the push takes the oldest value
-  -- out, or a pop has moved the position
+  -- the exchange of the read position succeeds and the push takes the oldest value out, or it fails, as a
+  -- pop has moved the position, and the push ends
   moves_read : (read : ℕ) → KnowsOverflowPush c k v (overflow_pushes.MovesRead read) → steps ≤ 4
       → flight_of (doing_of (party_of p latest)) ≡ Some (flights.Queues (at (overflow_pushes.MovesRead read)))
       → span_of p events ≡ Open (Queues (PushIndex v)) (has_written c k p (at (overflow_pushes.MovesRead read)))
-      → Moved (overflow_pushes.MovesRead read)
-  moves_read read knows s found seen = go (k.read == read) refl
+      → StageKeeps (overflow_pushes.MovesRead read)
+  moves_read read knows few_steps found seen = go (k.read == read) refl
     where
-      -- so it is by whether the read position is the one that the push has loaded
-      go : (here : Bool) → (k.read == read) ≡ here → Moved (overflow_pushes.MovesRead read)
+      -- the cases are whether the read position is still the one that the push loaded
+      go : (here : Bool) → (k.read == read) ≡ here → StageKeeps (overflow_pushes.MovesRead read)
+      -- the position is the same: the exchange succeeds, and the push takes the oldest value out
       go true e =
           let same : read ≡ k.read = grind (arith, nat_tests) in
           let is_same : (k.read == k.read) ≡ true = grind (arith, nat_tests) in
@@ -351,17 +381,15 @@ module _ {T : Type 0} (en : Coding T) (scene : Scene T kinds.Overflow)
           ≡ Open (Queues (PushIndex v)) (has_written c k p (at (overflow_pushes.MovesRead k.read))) =
           subst (λ r. span_of p events ≡ Open (Queues (PushIndex v)) (has_written c k p (at (overflow_pushes.MovesRead r))))
           same seen in
-          let step = takes_out knows.0 (omega arith) last.0 last.1 s in
+          let step = takes_out knows.0 (omega arith) last.0 last.1 few_steps in
           let all =
           by_itself (Published p (Index v) ∷ []) (asks_move k.read)
           (GoOn (at (overflow_pushes.LoadsCell k.read)))
           (TakesOut (get_or k.cells (k.read % (c + 1)) 0))
           (as_seen ∙ ap (λ es. Open (Queues (PushIndex v)) es) wrote) step in
-          subst (λ r. Moved (overflow_pushes.MovesRead r)) (sym same)
-          (subst (λ a. MovesBy (asks_move k.read) a
-          (effect_of en (layout ro k) (pending k.read ro.producer latest) (at (overflow_pushes.MovesRead k.read)) k.read))
-          (sym goes)
-          (subst (λ e. MovesBy (asks_move k.read) (GoOn (at (overflow_pushes.LoadsCell k.read))) e) (sym told) all))
+          subst (λ r. StageKeeps (overflow_pushes.MovesRead r)) (sym same)
+          (rw (goes, told) all)
+      -- a pop has moved the position: the exchange fails, and the push ends with None
       go false e =
           let other : k.read ≢ read = grind (arith, nat_tests) in
           let low = knows.1 in
@@ -379,45 +407,45 @@ module _ {T : Type 0} (en : Coding T) (scene : Scene T kinds.Overflow)
           let all =
           by_itself (Published p (Index v) ∷ Acted p (Queues (PushIndex v)) PoppedNone ∷ []) (asks_move read)
           (Done PoppedNone) Quiet (seen ∙ ap (λ es. Open (Queues (PushIndex v)) es) wrote)
-          (gives_up read knows.0 moved s calm) in
-          subst (λ a. MovesBy (asks_move read) a
+          (gives_up read knows.0 moved few_steps calm) in
+          subst (λ a. ActingStepKeeps (asks_move read) a
           (effect_of en (layout ro k) (pending k.read ro.producer latest) (at (overflow_pushes.MovesRead read)) k.read))
           (sym goes)
-          (subst (λ e. MovesBy (asks_move read) (Done PoppedNone) e) (sym told) all)
+          (rw told all)
 
-  -- each step of a push comes to what a step should
+  -- each step of a push keeps the invariant
   pub overflow_push_step :
       (stage : PushStage) → IsFreshOver k.write stage → KnowsOverflowPush c k v stage
       → steps ≤ overflow_push_number stage
       → flight_of (doing_of (party_of p latest)) ≡ Some (flights.Queues (at stage))
-      → span_of p events ≡ Open (Queues (PushIndex v)) (has_written c k p (at stage)) → Moved stage
-  overflow_push_step overflow_pushes.HandsBack fresh knows s found seen =
-      by_itself [] None (Done (PoppedIndex v)) Acts seen (hands_back knows s (calm_at overflow_pushes.HandsBack found refl))
-  overflow_push_step overflow_pushes.LoadsWrite fresh knows s found seen =
+      → span_of p events ≡ Open (Queues (PushIndex v)) (has_written c k p (at stage)) → StageKeeps stage
+  overflow_push_step overflow_pushes.HandsBack fresh knows few_steps found seen =
+      by_itself [] None (Done (PoppedIndex v)) Acts seen (hands_back knows few_steps (calm_at overflow_pushes.HandsBack found refl))
+  overflow_push_step overflow_pushes.LoadsWrite fresh knows few_steps found seen =
       by_itself [] (Some load_of_write) (after en (at overflow_pushes.LoadsWrite) k.write) Quiet seen
-      (loads_write fresh knows s (calm_at overflow_pushes.LoadsWrite found refl))
-  overflow_push_step (overflow_pushes.LoadsRead write) fresh knows s found seen =
-      subst (λ w. Moved (overflow_pushes.LoadsRead w)) (sym knows.1)
+      (loads_write fresh knows few_steps (calm_at overflow_pushes.LoadsWrite found refl))
+  overflow_push_step (overflow_pushes.LoadsRead write) fresh knows few_steps found seen =
+      subst (λ w. StageKeeps (overflow_pushes.LoadsRead w)) (sym knows.1)
       (by_itself [] (Some load_of_read) (GoOn (at (overflow_pushes.StoresCell k.write k.read))) Quiet
-      seen (loads_read knows.2 knows.0 s (calm_at (overflow_pushes.LoadsRead write) found refl)))
-  overflow_push_step (overflow_pushes.StoresCell write read) fresh knows s found seen =
-      subst (λ w. Moved (overflow_pushes.StoresCell w read)) (sym knows.1)
+      seen (loads_read knows.2 knows.0 few_steps (calm_at (overflow_pushes.LoadsRead write) found refl)))
+  overflow_push_step (overflow_pushes.StoresCell write read) fresh knows few_steps found seen =
+      subst (λ w. StageKeeps (overflow_pushes.StoresCell w read)) (sym knows.1)
       (by_itself [] (Some (record { word = cell_word c k.write; op = Store v }))
       (GoOn (at (overflow_pushes.StoresWrite k.write read))) Quiet seen
-      (stores_cell knows.4 read knows.0 knows.2 knows.3 s (calm_at (overflow_pushes.StoresCell write read) found refl)))
-  overflow_push_step (overflow_pushes.StoresWrite write read) fresh knows s found seen =
-      subst (λ w. Moved (overflow_pushes.StoresWrite w read)) (sym knows.1)
+      (stores_cell knows.4 read knows.0 knows.2 knows.3 few_steps (calm_at (overflow_pushes.StoresCell write read) found refl)))
+  overflow_push_step (overflow_pushes.StoresWrite write read) fresh knows few_steps found seen =
+      subst (λ w. StageKeeps (overflow_pushes.StoresWrite w read)) (sym knows.1)
       (by_itself [] (Some (record { word = write_word; op = Store (after_position k.write) }))
       (after en (at (overflow_pushes.StoresWrite k.write read)) k.write)
       (effect_of en (layout ro k) (pending k.read ro.producer latest)
       (at (overflow_pushes.StoresWrite k.write read)) k.write)
-      seen (stores_write en scene inv small v room holds b read knows.0 knows.2 knows.3 knows.4 knows.5 s))
-  overflow_push_step (overflow_pushes.MovesRead read) fresh knows s found seen = moves_read read knows s found seen
-  overflow_push_step (overflow_pushes.LoadsCell read) fresh knows s found seen =
+      seen (stores_write inv small v room holds no_backs read knows.0 knows.2 knows.3 knows.4 knows.5 few_steps))
+  overflow_push_step (overflow_pushes.MovesRead read) fresh knows few_steps found seen = moves_read read knows few_steps found seen
+  overflow_push_step (overflow_pushes.LoadsCell read) fresh knows few_steps found seen =
       let old : get_or (layout ro k) (cell_word c read) 0 ≡ get_or k.cells (read % (c + 1)) 0 =
       word_at k.write k.read (free ro.producer) (free ro.consumer) k.cells (cell_word c read) (read % (c + 1)) refl in
-      subst (λ n. MovesBy (Some (record { word = cell_word c read; op = Load })) (Done (PoppedIndex n)) Quiet) (sym old)
+      subst (λ n. ActingStepKeeps (Some (record { word = cell_word c read; op = Load })) (Done (PoppedIndex n)) Quiet) (sym old)
       (by_itself (Published p (Index v) ∷ HandedOut p (Index (oldest_at read))
       ∷ Acted p (Queues (PushIndex v)) (PoppedIndex (oldest_at read)) ∷ [])
       (Some (record { word = cell_word c read; op = Load })) (Done (PoppedIndex (oldest_at read))) Quiet seen
-      (loads_cell read knows.0 s (calm_at (overflow_pushes.LoadsCell read) found refl)))
+      (loads_cell read knows.0 few_steps (calm_at (overflow_pushes.LoadsCell read) found refl)))

@@ -1,4 +1,5 @@
--- The move of the read position by a pop of the overflowing queue, alone or with a push that waits for it.
+-- The move of the read position by a pop of the overflowing queue keeps the invariant: the pop takes the
+-- oldest value, and a push that was pending at that position acts in the same turn.
 use Rattle.laws_queues.proofs.Names.{Bool, ◌≡◌, ◌≢◌, ℕ, suc, ◌+◌, ◌*◌, ◌^◌, ◌<◌, ◌≤◌, ◌==◌, true, false, ⊎_elim, inl}
 use Rattle.laws_queues.proofs.Names.{Option, Some, None, List, [], ◌∷◌, ◌++◌, length, map, take, drop, fold, refl}
 use Rattle.laws_queues.proofs.Names.{sym, ap, subst, ◌∙◌, append-nil, append_assoc, cases_eq, nat_tests, Ask}
@@ -26,7 +27,10 @@ use Rattle.laws_queues.proofs.Queues.Pending.{pending_put, few_wait, none_hangs}
 use Rattle.laws_queues.proofs.Queues.Stages.{party_then, DoesStep, Moves, alone}
 use Rattle.laws_queues.proofs.Overflow.Keeping.{take_keeps_push}
 
-module _ {T : Type 0} (en : Coding T) (scene : Scene T kinds.Overflow)
+-- The party `p` holds the consumer's role and has a pop under way. `c` is the capacity, `k` the queue
+-- before the step (positions, values that wait, cells), `ro` the holders of the roles, `latest` the
+-- parties' latest calls.
+module _ {T : Type 0} {en : Coding T} {scene : Scene T kinds.Overflow}
     (inv : Inv en kinds.Overflow scene) (small : scene.core.write < 2 ^ 64) (room : OneWord)
     (holds : scene.roles.consumer ≡ Some scene.party) where
   open scene use {capacity as c, roles as ro, core as k, party as p, steps, backs, since, changes, latest, events}
@@ -35,53 +39,68 @@ module _ {T : Type 0} (en : Coding T) (scene : Scene T kinds.Overflow)
   abbrev pub waits : Option (ℕ × ℕ)
   waits = beside ro (layout ro k) latest p
 
+  -- as `p` is the consumer, that push is the one that is pending at the read position
   waits_is : waits ≡ pending k.read ro.producer latest
   waits_is = let is_same : (p == p) ≡ true = grind (arith, nat_tests) in rw (holds, is_same) refl
 
-  abbrev Does : Option Ask → Bool → After (QueueFlight T) (Answer T) → Effect T → Type 0
-  Does ask back after effect = DoesStep en kinds.Overflow scene [] Pop ask back after effect
+  -- a step with this operation, after which the pop is `after`, keeps the invariant and writes events of
+  -- `p` alone (`Shows`, Queues/Invariant)
+  abbrev StepKeeps : Option Ask → Bool → After (QueueFlight T) (Answer T) → Effect T → Type 0
+  StepKeeps ask back after effect = DoesStep en kinds.Overflow scene [] Pop ask back after effect
 
-  abbrev MovesBy : Option Ask → Bool → After (QueueFlight T) (Answer T) → Effect T → Type 0
-  MovesBy ask back after effect = Moves en kinds.Overflow scene Pop ask back after effect
+  -- a step with this operation keeps the invariant, where it may also write the act of another party's push
+  abbrev ActingStepKeeps : Option Ask → Bool → After (QueueFlight T) (Answer T) → Effect T → Type 0
+  ActingStepKeeps ask back after effect = Moves en kinds.Overflow scene Pop ask back after effect
 
+  -- the party `p` after a step of the pop
   abbrev after_it : Option Ask → Bool → After (QueueFlight T) (Answer T) → Party T
   after_it ask back after = party_then en kinds.Overflow scene Pop ask back after
 
+  -- the exchange that moves the read position from `read` to the next
   abbrev pub asks_move : ℕ → Option Ask
   asks_move read = Some (record { word = read_word; op = Exchange read (after_position read) })
 
+  -- `p` has no pending push
   module _ (calm : (position : ℕ) → pending_at position (flight_of (doing_of (party_of p latest))) ≡ None) where
     -- ---- the move of the read position
 
-    module _ (value : ℕ) (rest : List ℕ) (some : 0 < c) (first : k.waiting ≡ value ∷ rest) (s : steps ≤ 2 * backs + 3) (paid : backs + since ≤ changes) where
+    -- the pop has the front value in its room, and its exchange of the read position succeeds
+    module _ (value : ℕ) (rest : List ℕ) (some : 0 < c) (first : k.waiting ≡ value ∷ rest)
+        (few_steps : steps ≤ 2 * backs + 3) (paid : backs + since ≤ changes) where
+      -- the queue once the value is taken
       abbrev after_take : Core ℕ
       after_take = taken 1 words_of_index (c + 1) k rest
 
       abbrev answer : Answer T
       answer = PoppedIndex value
 
+      -- the words after the exchange are those of the queue without its oldest value
       words_take : words_after (layout ro k) (asks_move k.read) ≡ layout ro after_take
       words_take = grind arith
 
+      -- the exchange changes one word
       one : change_of (layout ro k) (asks_move k.read) ≡ 1
       one = grind arith
 
+      -- the queue without its oldest value is right
       good_take : Good 1 words_of_index (c + 1) after_take
       good_take = takes 1 words_of_index (c + 1) k value rest first inv.queue.good
 
+      -- one value less waits
       shorter : length k.waiting ≡ suc (length rest)
       shorter = ap length first
 
+      -- without its oldest value the queue has at most the capacity
       few_rest : length rest ≤ c
       few_rest = let g = inv.queue.good in let few = g.few in let long = shorter in omega arith
 
-      -- no push waits for the next read position
+      -- no push is pending at the next read position, so it is enough that at most the capacity waits
       hangs_take : Hangs T kinds.Overflow c after_take
           (pending (k.read + 1) ro.producer (put p (after_it (asks_move k.read) false (Done answer)) latest))
       hangs_take = grind (arith, false, pending, put, pending_put, past_none, none_hangs, few_rest)
 
-      -- no push is pending
-      takes_alone : pending k.read ro.producer latest ≡ None → Does (asks_move k.read) false (Done answer) (HandsOut (Index value))
+      -- where no push is pending, the exchange takes the value and ends the pop
+      takes_alone : pending k.read ro.producer latest ≡ None → StepKeeps (asks_move k.read) false (Done answer) (HandsOut (Index value))
       takes_alone none =
           let queue_good = inv.queue.good in
           let write = queue_good.write in
@@ -92,6 +111,7 @@ module _ {T : Type 0} (en : Coding T) (scene : Scene T kinds.Overflow)
             after_take,
             words_take,
             record {
+              -- the events that the step writes: each may follow in its span, and each tells the truth
               own = (refl, (refl, (refl, tt)));
               stands = (
                 (inl refl, refl),
@@ -105,12 +125,14 @@ module _ {T : Type 0} (en : Coding T) (scene : Scene T kinds.Overflow)
               consumers = refl;
               right = (tt, (tt, (tt, tt)));
               lengths = (tt, (tt, (tt, tt)));
+              -- the queue afterwards, and the list that its calls answer as
               good = good_take;
               hangs = hangs_take;
               out = omega arith;
               book = append-nil (map Index k.waiting) ∙ ap (map Index) first;
               goes = list.0;
               answers = ap (λ (o : Option (Item T)). answer_of_item o ∷ []) list.1;
+              -- the party's call afterwards, and the calls of other parties
               here =
                   record {
                     answer = answer;
@@ -132,20 +154,25 @@ module _ {T : Type 0} (en : Coding T) (scene : Scene T kinds.Overflow)
 
       -- ---- a push of another party waits for this move
 
+      -- a push of the value `w` by the party `q` is pending at the read position
       module _ (seen : span_of p events ≡ Open (Queues Pop) []) (q w : ℕ) (hung : pending k.read ro.producer latest ≡ Some (q, w)) where
-        -- the events, and the runs that they lead to
+        -- the four events that the turn writes, and the runs after each
         abbrev hands : Event T
         hands = HandedOut p (Index value)
 
+        -- the act of the pop of `p`
         abbrev acts_p : Event T
         acts_p = Acted p (Queues Pop) answer
 
+        -- the act of the push of `q`, which hands nothing back
         abbrev acts_q : Event T
         acts_q = Acted q (Queues (PushIndex w)) PoppedNone
 
+        -- the end of the pop of `p`
         abbrev ends_p : Event T
         ends_p = Finished p (Queues Pop) answer
 
+        -- all that the step writes: the value handed out, the acts of `p` and `q`, and the end of the pop
         abbrev told : List (Event T)
         told = hands ∷ acts_p ∷ acts_q ∷ ends_p ∷ []
 
@@ -158,60 +185,77 @@ module _ {T : Type 0} (en : Coding T) (scene : Scene T kinds.Overflow)
         abbrev run_3 : List (Event T)
         run_3 = run_2 ++ acts_q ∷ []
 
+        -- the events one after the other are all that the step writes
         whole : run_3 ++ ends_p ∷ [] ≡ events ++ told
         whole = grind (arith, append_assoc)
 
+        -- a push under way, as a call of the queue
         abbrev pushing : Pushing → QueueFlight T
         pushing run = Overflow (overflows.Push run)
 
+        -- the queue once its oldest value is taken
         abbrev after_queue : Queue ℕ
         after_queue = record { roles = ro; core = after_take }
 
+        -- the push of `q` stands where the queue `state` allows
         abbrev IsAt : Queue ℕ → Start T → Pushing → Type 0
         IsAt state start run = (family en kinds.Overflow c).At state q start (flights.Queues (pushing run))
 
+        -- a push that stands so is a call that pushes its value
         start_is : (start : Start T) (run : Pushing) → IsAt (queue_in scene) start run → run.given ≡ w → start ≡ Queues (PushIndex w)
         start_is = grind arith
 
+        -- the pop leaves another party's push at the stage at which it stood
         still_at : (start : Start T) (run : Pushing) → run.call.stage ≡ overflow_pushes.MovesRead k.read
             → IsAt (queue_in scene) start run → IsAt after_queue start run
         still_at = grind arith
 
-        module _ (producer : ro.producer ≡ Some q) (x : Party T) (run : Pushing) (begun : ℕ) (is : IsPending k.read latest q w x run begun) where
+        -- `x` is the party `q` as the machine has it, and `run` its push
+        module _ (producer : ro.producer ≡ Some q) (x : Party T) (run : Pushing) (begun : ℕ) (is_pending : IsPending k.read latest q w x run begun) where
+          -- the party `q` is not the one that pops
           other : q ≢ p
           other = grind arith
 
+          -- the push of `q` is under way in the queue
           under : frame.IsUnderWay (family en kinds.Overflow c) (queue_in scene) q x (flights.Queues (pushing run)) (span_of q events)
           under = grind arith
 
+          -- the call of `q` pushes `w`
           start : x.start ≡ Queues (PushIndex w)
-          start = start_is x.start run under.at is.value
+          start = start_is x.start run under.at is_pending.value
 
+          -- before the step the push of `q` has written that it published
           wrote : has_written {T = T} c k q (pushing run) ≡ Published q (Index w) ∷ []
           wrote = grind (arith, nat_tests)
 
+          -- what the pending push of `q` has written once its value is taken: that it published, and its act
           writes : has_written {T = T} c after_take q (pushing run) ≡ Published q (Index w) ∷ acts_q ∷ []
           writes = grind arith
 
-          -- the spans of both parties
+          -- after the pop's hand-out its span has that event alone
           p_1 : span_of p run_1 ≡ Open (Queues Pop) (hands ∷ [])
           p_1 = span_of-own p events (hands ∷ []) (refl, tt) ∙ ap (λ a. fold own_after a (hands ∷ [])) seen
 
+          -- the pop has written that it handed out the value, and its act
           p_2 : span_of p run_2 ≡ Open (Queues Pop) (hands ∷ acts_p ∷ [])
           p_2 = span_of-own p run_1 (acts_p ∷ []) (refl, tt) ∙ ap (λ a. fold own_after a (acts_p ∷ [])) p_1
 
+          -- the act of `q` leaves the span of `p`
           p_3 : span_of p run_3 ≡ Open (Queues Pop) (hands ∷ acts_p ∷ [])
           p_3 = span_of-other q p run_2 (acts_q ∷ []) (λ e. other (sym e)) (refl, tt) ∙ p_2
 
+          -- the span of `p` is ended, with its answer
           p_4 : span_of p (events ++ told) ≡ Ended (Queues Pop) answer (hands ∷ acts_p ∷ [])
           p_4 = grind (arith, whole, span_of-own, fold, p_3)
 
+          -- before the act of `q` is written, the span of `q` has only its `Published`
           q_2 : span_of q run_2 ≡ Open (Queues (PushIndex w)) (Published q (Index w) ∷ [])
           q_2 =
               span_of-other p q run_1 (acts_p ∷ []) other (refl, tt)
               ∙ (span_of-other p q events (hands ∷ []) other (refl, tt)
               ∙ (under.span ∙ (ap (λ st. Open st (has_written c k q (pushing run))) start ∙ ap (λ es. Open (Queues (PushIndex w)) es) wrote)))
 
+          -- with all that this step writes, the span of `q` has its `Published` and its act
           q_4 : span_of q (events ++ told) ≡ Open (Queues (PushIndex w)) (Published q (Index w) ∷ acts_q ∷ [])
           q_4 =
               ap (span_of q) (sym whole)
@@ -226,15 +270,17 @@ module _ {T : Type 0} (en : Coding T) (scene : Scene T kinds.Overflow)
               ∙ (span_of-other q r run_2 (acts_q ∷ []) nq (refl, tt)
               ∙ (span_of-other p r run_1 (acts_p ∷ []) np (refl, tt) ∙ span_of-other p r events (hands ∷ []) np (refl, tt))))
 
+          -- the pending push fits its span afterwards: it has published and acted
           pushing_fits : frame.Fits (family en kinds.Overflow c) after_queue q (party_of q latest) (span_of q (events ++ told))
           pushing_fits = grind (arith, family, q_4, writes, start, still_at)
 
+          -- the call of a third party fits its span afterwards
           other_fits : (r : ℕ) → r ≢ p → r ≢ q
               → frame.Fits (family en kinds.Overflow c) after_queue r (party_of r latest) (span_of r (events ++ told))
           other_fits = grind (arith, family, theirs, any_stays, kept, clash)
 
-          -- the move makes room, and the push that waited for it acts with the pop
-          takes_for : MovesBy (asks_move k.read) false (Done answer) (MakesRoom (Index value) q w)
+          -- the exchange makes room, and the push that was pending acts in the same turn, after the pop
+          takes_for : ActingStepKeeps (asks_move k.read) false (Done answer) (MakesRoom (Index value) q w)
           takes_for =
               let queue_good = inv.queue.good in
               let write = queue_good.write in
@@ -248,9 +294,11 @@ module _ {T : Type 0} (en : Coding T) (scene : Scene T kinds.Overflow)
                 after_take,
                 words_take,
                 record {
+                  -- the events that the step writes: each may follow in its span, and each tells the truth
                   right = (tt, (tt, (tt, (tt, tt))));
                   lengths = (tt, (tt, (tt, (tt, tt))));
                   grants = (tt, (tt, (tt, (tt, tt))));
+                  -- the queue afterwards, and the list that its calls answer as
                   good = good_take;
                   hangs = hangs_take;
                   book = append-nil (map Index k.waiting) ∙ ap (map Index) first;
@@ -269,25 +317,23 @@ module _ {T : Type 0} (en : Coding T) (scene : Scene T kinds.Overflow)
                 },
                 record {
                   stands = (
-                    subst (λ a. Stands (promise kinds.Overflow) c hands a) (sym seen) (inl refl, refl),
+                    rw seen (inl refl, refl),
                     (
-                      subst (λ a. Stands (promise kinds.Overflow) c acts_p a) (sym p_1) (refl, refl),
+                      rw p_1 (refl, refl),
                       (
-                        subst (λ a. Stands (promise kinds.Overflow) c acts_q a) (sym q_2) (refl, refl),
+                        rw q_2 (refl, refl),
                         (
-                          subst (λ a. Stands (promise kinds.Overflow) c ends_p a) (sym p_3)
-                              (refl, record { moments = refl; published = refl; handed_out = sym (one_passes c (Index value) some) }),
+                          rw p_3 (refl, record { moments = refl; published = refl; handed_out = sym (one_passes c (Index value) some) }),
                           tt,
                         ),
                       ),
                     ),
                   );
+                  -- the party's call afterwards, and the calls of other parties
                   here = record { answer = answer; wrote = hands ∷ acts_p ∷ []; span = p_4; steps = omega arith };
                   knows = omega arith;
                   others =
-                      λ r np. ⊎_elim (λ e. subst (λ n. frame.Fits (family en kinds.Overflow c) after_queue n (party_of n latest)
-                      (span_of n (events ++ told)))
-                      (sym e) pushing_fits)
+                      λ r np. ⊎_elim (λ e. rw e pushing_fits)
                       (other_fits r np) (cases_eq r q);
                   others_know =
                       λ r np. frame.still_knows (family en kinds.Overflow c) (queue_in scene) after_queue r
@@ -297,17 +343,19 @@ module _ {T : Type 0} (en : Coding T) (scene : Scene T kinds.Overflow)
                 },
               )
 
-        makes_room : MovesBy (asks_move k.read) false (Done answer) (MakesRoom (Index value) q w)
+        -- `takes_for` with the pending push that the machine has
+        makes_room : ActingStepKeeps (asks_move k.read) false (Done answer) (MakesRoom (Index value) q w)
         makes_room =
             let is = pending_is k.read latest q w ro.producer hung in
             takes_for is.0 is.1 is.2 is.3 is.4
 
-      -- the move of the read position takes the oldest value, whether a push waits for it or not
-      pub takes_it : span_of p events ≡ Open (Queues Pop) [] → MovesBy (asks_move k.read) false (Done answer) (takes_effect (Index value) waits)
+      -- the exchange of the read position takes the oldest value, whether a push is pending or not
+      pub takes_it : span_of p events ≡ Open (Queues Pop) [] → ActingStepKeeps (asks_move k.read) false (Done answer) (takes_effect (Index value) waits)
       takes_it seen =
-          subst (λ o. MovesBy (asks_move k.read) false (Done answer) (takes_effect (Index value) o)) (sym waits_is)
-          (go (pending k.read ro.producer latest) refl)
+          rw waits_is (go (pending k.read ro.producer latest) refl)
         where
-          go : (o : Option (ℕ × ℕ)) → pending k.read ro.producer latest ≡ o → MovesBy (asks_move k.read) false (Done answer) (takes_effect (Index value) o)
-          go None e = alone en kinds.Overflow scene inv [] Pop (asks_move k.read) false (Done answer) (HandsOut (Index value)) seen (takes_alone e)
+          -- the cases are whether a push is pending at the read position
+          go : (o : Option (ℕ × ℕ)) → pending k.read ro.producer latest ≡ o
+              → ActingStepKeeps (asks_move k.read) false (Done answer) (takes_effect (Index value) o)
+          go None e = alone en kinds.Overflow scene inv [] (asks_move k.read) false (Done answer) (HandsOut (Index value)) seen (takes_alone e)
           go (Some push) e = makes_room seen push.0 push.1 e

@@ -1,4 +1,4 @@
--- What the first stage of a queue's call knows; it has written nothing.
+-- What a queue's call knows as it begins: it is at its first stage, and has written nothing.
 use Rattle.laws_queues.proofs.Names.{◌≡◌, ℕ, false, Some, None, List, [], Event, QueueStart, Roles}
 use Rattle.laws_queues.proofs.Names.{QueueFlight, QueueKind, Coding, IsCoding, first, lacks_role, pending_at}
 use Rattle.std.proofs.Common.{arith}
@@ -7,8 +7,10 @@ use Rattle.laws_queues.proofs.Queues.Core.{Core}
 use Rattle.laws_queues.proofs.Queues.Knows.{has_written, KnowsFlight, At}
 use Rattle.laws_queues.proofs.Queues.Values.{Val}
 
--- ---- what the first stage of a call knows; it has written nothing
+-- ---- the first stage of a call
 
+-- the call stands at its stage and knows what the stage says, it is no pending push, and
+-- it has written nothing
 pub record IsFirst {T : Type 0} (en : Coding T) (kd : QueueKind) (c : ℕ) (ro : Roles) (k : Core (Val T kd)) (p : ℕ)
     (events : List (Event T)) (changes : ℕ) (start : QueueStart T) (flight : QueueFlight T) : Type 0 where
   pub at : At en kd c ro k p start flight
@@ -16,10 +18,12 @@ pub record IsFirst {T : Type 0} (en : Coding T) (kd : QueueKind) (c : ℕ) (ro :
   pub calm : pending_at k.read (Some (flights.Queues flight)) ≡ None
   pub wrote : has_written {T = T} c k p flight ≡ []
 
-module _ {T : Type 0} (en : Coding T) (law : IsCoding en) (c : ℕ) (ro : Roles) (p : ℕ) (events : List (Event T)) (changes : ℕ) where
+module _ {T : Type 0} {en : Coding T} (law : IsCoding en) (c : ℕ) (ro : Roles) (p : ℕ) (events : List (Event T)) (changes : ℕ) where
+  -- the call is at its first stage
   abbrev First : (kd : QueueKind) → Core (Val T kd) → QueueStart T → QueueFlight T → Type 0
   First kd k start flight = IsFirst en kd c ro k p events changes start flight
 
+  -- a begin leads to a call at its first stage, where the party has the role that the call needs
   pub first_is : (kd : QueueKind) (k : Core (Val T kd)) (start : QueueStart T) (flight : QueueFlight T)
       → first kd c start ≡ Some flight → lacks_role ro p start ≡ false → First kd k start flight
   first_is = grind arith

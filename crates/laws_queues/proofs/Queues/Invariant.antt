@@ -24,15 +24,16 @@ use Rattle.laws_queues.proofs.Queues.Knows.{layout, number_of, Hangs, listed, ha
 use Rattle.laws_queues.proofs.Queues.Values.{Val, encoded, item}
 pub use Rattle.laws_queues.specs.Kinds.{machine_kind}
 
--- what the words and the roles of a queue hold
+-- the state of a queue: the holders of its roles, and its core (`Queues/Core`)
 pub record Queue (V : Type 0) : Type 0 where
   pub roles : Roles
   pub core : Core V
 
+-- the registry has these holders, and the words are those of the queue
 abbrev pub Represents : {T V : Type 0} → Registry T → List ℕ → Queue V → Type 0
 Represents kept words s = families.Represents kept words (registries.Queues s.roles) (layout s.roles s.core)
 
--- at most so many steps a call of a queue has taken, having turned back so often
+-- how many steps a queue's call has taken at most, where it has turned back `backs` times
 abbrev number : {T : Type 0} → Coding T → Flight T → ℕ → ℕ
 number en (flights.Queues flight) backs = number_of en flight backs
 number en flight backs = 0
@@ -45,11 +46,11 @@ pub record Scene (T : Type 0) (kd : QueueKind) : Type 0 where
   pub roles : Roles
   pub core : Core (Val T kd)
   pub party : ℕ
-  pub steps : ℕ  -- of the call
-  pub backs : ℕ  -- so often it has turned back
-  pub since : ℕ  -- how often words had changed when it began
-  pub changes : ℕ  -- how often they have
-  pub latest : List (ℕ × Party T)
+  pub steps : ℕ  -- the steps that the call has taken
+  pub backs : ℕ  -- how often the call has turned back
+  pub since : ℕ  -- how often words had changed as the call began
+  pub changes : ℕ  -- how often words have changed
+  pub latest : List (ℕ × Party T)  -- the latest call of each party
   pub events : List (Event T)
   pub turns : ℕ
 
@@ -58,29 +59,33 @@ module _ {T : Type 0} where
   pub waiting_is : (events : List (Event T)) (items : List (Item T)) → published events ≡ handed_out events ++ items → waiting events ≡ items
   waiting_is = grind (arith, drop, length, handed_out, drop_at)
 
+  -- the events add to what is published and handed out, and what waits is still the difference
   book_more :
       (events es : List (Event T)) (old new : List (Item T)) → published events ≡ handed_out events ++ old → old ++ published es ≡ handed_out es ++ new
       → published (events ++ es) ≡ handed_out (events ++ es) ++ new
   book_more = grind (arith, flat_map-append, publishes, published, append_assoc, handed_out, hands_out)
 
+  -- the read position still counts what was handed out, with the events added
   out_more : (events es : List (Event T)) (old new : ℕ) → old ≡ length (handed_out events)
       → new ≡ old + length (handed_out es) → new ≡ length (handed_out (events ++ es))
   out_more = grind (arith, handed_out, flat_map-append, hands_out, length-append)
 
-  -- what a party's call under way has written
+  -- the events that the party's call under way has written
   abbrev written : {V : Type 0} → ℕ → Core V → ℕ → Flight T → List (Event T)
   written c k p (flights.Queues flight) = has_written c k p flight
   written c k p flight = []
 
+  -- the queue of a scene: the holders of its roles, and its core
   abbrev pub queue_in : {kd : QueueKind} → Scene T kd → Queue (Val T kd)
   queue_in scene = record { roles = scene.roles; core = scene.core }
 
--- the kind of a machine that has this queue
+-- the machine of a queue is no loan channel
 pub no_loan : (kd : QueueKind) → is_loan (machine_kind kd) ≡ false
 no_loan = grind arith
 
 module _ {T : Type 0} (en : Coding T) where
-  -- what is so of the queue and of the events
+  -- What holds of a queue between any two turns: of its core `k`, the holders `ro` of its roles, the latest
+  -- calls and the events.
   pub record Holds (kd : QueueKind) (c : ℕ) (ro : Roles) (k : Core (Val T kd)) (latest : List (ℕ × Party T))
       (events : List (Event T)) (turns : ℕ) : Type 0 where
     pub fits : c < 2 ^ 32  -- the capacity is of 32 bits
@@ -105,16 +110,20 @@ module _ {T : Type 0} (en : Coding T) where
 
   -- ---- the family of the queues
 
+  -- where a call of a machine stands, if it is one of a queue
   abbrev FlightAt : (kd : QueueKind) → ℕ → Roles → Core (Val T kd) → ℕ → Start T → Flight T → Type 0
   FlightAt kd c ro k p (starts.Queues start) (flights.Queues flight) = At en kd c ro k p start flight
   FlightAt kd c ro k p start flight = ⊥
 
+  -- what a call of a machine knows, if it is one of a queue
   abbrev Knowing : {V : Type 0} → ℕ → Core V → ℕ → List (Event T) → ℕ → ℕ → ℕ → Flight T → Type 0
   Knowing c k p events since changes backs (flights.Queues flight) = KnowsFlight c k p events since changes backs flight
   Knowing c k p events since changes backs flight = ⊥
 
 module _ {T : Type 0} where
-  -- what its turns preserve is shown beside the events of each, which can be another party's too
+  -- The queues as a family: what a state is, what holds of it, and what each call knows. That a turn
+  -- keeps this is shown beside the events of the turn, which can be another party's too, so
+  -- `Preserves` asks nothing.
   abbrev pub outline : QueueKind → Outline T
   outline kd =
       record {
@@ -141,55 +150,64 @@ module _ {T : Type 0} (en : Coding T) where
     pub queue : Holds en kd scene.capacity scene.roles scene.core scene.latest scene.events scene.turns
     pub frame : frame.Inv (family kd scene.capacity) (queue_in scene) scene.latest scene.events scene.changes
 
-  -- what a turn shows of the queue itself, where it becomes k'
+  -- What a turn shows of the queue, where it leaves the holders `ro'` and the core `k'`, its party becomes
+  -- `y`, and it writes the events `es`.
   pub record ShowsQueue (kd : QueueKind) (scene : Scene T kd) (ro' : Roles) (k' : Core (Val T kd)) (y : Party T)
       (es : List (Event T)) (changes' : ℕ) : Type 0 where
+    -- a refusal tells the truth, a length was right at a moment of its call, and roles are given
+    -- and given back rightly
     pub right : AreRight (AnswersRight scene.capacity) scene.events es
     pub lengths : AreRight (TellsLength scene.capacity) scene.events es
     pub grants : AreRight GrantsRight scene.events es
+    -- the values that wait stand in their cells; beyond the capacity one waits only while a push is pending
     pub good : Good (encoded en kd).size (encoded en kd).words_of (cells_of kd scene.capacity) k'
     pub hangs : Hangs T kd scene.capacity k' (pending k'.read ro'.producer (put scene.party y scene.latest))
+    -- what was published now waits, or was handed out, and the read position counts what was handed out
     pub book : map (item kd) scene.core.waiting ++ published es ≡ handed_out es ++ map (item kd) k'.waiting
     pub out : k'.read ≡ scene.core.read + length (handed_out es)
+    -- the events say who holds the roles
     pub producers : fold producer_after scene.roles.producer es ≡ ro'.producer
     pub consumers : fold consumer_after scene.roles.consumer es ≡ ro'.consumer
+    -- the calls that act have the answers of the list that they answer as, and the list holds what then waits
     pub goes : fold (list_of kd scene.capacity).after (listed kd scene.capacity scene.core.waiting) (calls_of (moments es))
         ≡ listed kd scene.capacity k'.waiting
     pub answers : answers_from (list_of kd scene.capacity) (listed kd scene.capacity scene.core.waiting) (calls_of (moments es)) ≡ answers_of (moments es)
+    -- the positions go up by no more than words change, and the write position by at most one in a turn
     pub up : GoesUp scene.core k' scene.changes changes'
     pub reached : k'.write ≤ scene.turns + 1
     pub within : k'.write < 2 ^ 64
 
-  module _ (kd : QueueKind) (scene : Scene T kd) (ro' : Roles) (k' : Core (Val T kd)) (y : Party T) (es : List (Event T)) (changes' : ℕ) where
-    -- what holds of the queue holds after a turn that shows this of it
+  module _ {kd : QueueKind} (scene : Scene T kd) {ro' : Roles} (k' : Core (Val T kd)) {y : Party T} {es : List (Event T)} {changes' : ℕ} where
+    -- what holds of a queue before a turn holds after it, where the turn shows this of the queue
     pub holds_more : Holds en kd scene.capacity scene.roles scene.core scene.latest scene.events scene.turns → ShowsQueue kd scene ro' k' y es changes'
         → Holds en kd scene.capacity ro' k' (put scene.party y scene.latest) (scene.events ++ es) (scene.turns + 1)
-    holds_more h shows_queue =
+    holds_more holds shows_queue =
         let c = scene.capacity in
         let more = flat_map-append acts scene.events es in
         record {
-          fits = h.fits;
+          fits = holds.fits;
           good = shows_queue.good;
           hangs = shows_queue.hangs;
-          book = book_more scene.events es (map (item kd) scene.core.waiting) (map (item kd) k'.waiting) h.book shows_queue.book;
-          out = out_more scene.events es scene.core.read k'.read h.out shows_queue.out;
-          producers = fold-append producer_after None scene.events es ∙ (ap (λ o. fold producer_after o es) h.producers ∙ shows_queue.producers);
-          consumers = fold-append consumer_after None scene.events es ∙ (ap (λ o. fold consumer_after o es) h.consumers ∙ shows_queue.consumers);
+          book = book_more scene.events es (map (item kd) scene.core.waiting) (map (item kd) k'.waiting) holds.book shows_queue.book;
+          out = out_more scene.events es scene.core.read k'.read holds.out shows_queue.out;
+          producers = fold-append producer_after None scene.events es ∙ (ap (λ o. fold producer_after o es) holds.producers ∙ shows_queue.producers);
+          consumers = fold-append consumer_after None scene.events es ∙ (ap (λ o. fold consumer_after o es) holds.consumers ∙ shows_queue.consumers);
           stand =
               ap (standing (list_of kd c)) more
               ∙ standing_more (list_of kd c) (moments scene.events) (moments es) (listed kd c scene.core.waiting)
-              (listed kd c k'.waiting) h.stand shows_queue.goes;
+              (listed kd c k'.waiting) holds.stand shows_queue.goes;
           legal =
               subst (IsLegal (list_of kd c)) (sym more)
-              (legal_more (list_of kd c) (moments scene.events) (moments es) (listed kd c scene.core.waiting) h.legal h.stand shows_queue.answers);
-          answers = Each-append (AnswersRight c) scene.events es h.answers shows_queue.right;
-          lengths = Each-append (TellsLength c) scene.events es h.lengths shows_queue.lengths;
-          grants = Each-append GrantsRight scene.events es h.grants shows_queue.grants;
+              (legal_more (list_of kd c) (moments scene.events) (moments es) (listed kd c scene.core.waiting) holds.legal holds.stand shows_queue.answers);
+          answers = Each-append (AnswersRight c) scene.events es holds.answers shows_queue.right;
+          lengths = Each-append (TellsLength c) scene.events es holds.lengths shows_queue.lengths;
+          grants = Each-append GrantsRight scene.events es holds.grants shows_queue.grants;
           reached = shows_queue.reached;
           within = shows_queue.within;
         }
 
-  -- what a turn shows that writes events of its own party alone, where its span was this
+  -- What a turn shows that writes events of its own party alone, whose span before was `from`. The first
+  -- fields are those of `ShowsQueue`.
   pub record Shows (kd : QueueKind) (scene : Scene T kd) (ro' : Roles) (k' : Core (Val T kd)) (from : Span T)
       (y : Party T) (es : List (Event T)) (changes' : ℕ) : Type 0 where
     pub right : AreRight (AnswersRight scene.capacity) scene.events es
@@ -207,15 +225,19 @@ module _ {T : Type 0} (en : Coding T) where
     pub up : GoesUp scene.core k' scene.changes changes'
     pub reached : k'.write ≤ scene.turns + 1
     pub within : k'.write < 2 ^ 64
+    -- the events are the party's own and each may follow in its span; its call fits the span and knows what
+    -- its stage says
     pub own : AreOwn scene.party es
     pub stands : AllFollow (Stands (promise kd) scene.capacity) from es
     pub here : frame.Fits (family kd scene.capacity) (record { roles = ro'; core = k' }) scene.party (Some y) (fold own_after from es)
     pub knows : frame.KnowsDoing (family kd scene.capacity) (record { roles = ro'; core = k' }) scene.party (scene.events ++ es) changes' y.backs y.doing
+    -- the calls of other parties stand where they stood, and have written the same
     pub others : (q : ℕ) → q ≢ scene.party → (start : QueueStart T) (flight : QueueFlight T) → At en kd scene.capacity scene.roles scene.core q start flight
         → At en kd scene.capacity ro' k' q start flight
         × (has_written {T = T} scene.capacity k' q flight ≡ has_written {T = T} scene.capacity scene.core q flight)
 
-  -- what stays of a queue's call, as of one of any family
+  -- where each queue's call of the party `q` stands where it stood and has written the same, each call of
+  -- any family does
   pub any_stays : (kd : QueueKind) (c : ℕ) (ro ro' : Roles) (k k' : Core (Val T kd)) (q : ℕ)
       → ((start : QueueStart T) (flight : QueueFlight T) → At en kd c ro k q start flight
       → At en kd c ro' k' q start flight × (has_written {T = T} c k' q flight ≡ has_written {T = T} c k q flight))
@@ -223,6 +245,7 @@ module _ {T : Type 0} (en : Coding T) where
       → FlightAt en kd c ro' k' q start flight × (written c k' q flight ≡ written c k q flight)
   any_stays = grind arith
 
+  -- what a call knows of events and counts stays known after events with which its party begins no call
   pub any_knows : {V : Type 0} → (c : ℕ) (k k' : Core V) (q : ℕ) (events es : List (Event T)) (changes changes' : ℕ)
       → GoesUp k k' changes changes' → BeginsNone q es
       → (since backs : ℕ) (flight : Flight T) → Knowing en c k q events since changes backs flight
@@ -230,22 +253,23 @@ module _ {T : Type 0} (en : Coding T) where
   any_knows = grind (arith, flight_keeps)
 
   module _ (kd : QueueKind) (scene : Scene T kd) (ro' : Roles) (k' : Core (Val T kd)) (from : Span T) (y : Party T)
-      (es : List (Event T)) (changes' : ℕ) (s : Shows kd scene ro' k' from y es changes') where
-    -- a turn that shows this, where its party's span was that one, owes what the frame asks
+      (es : List (Event T)) (changes' : ℕ) (shows : Shows kd scene ro' k' from y es changes') where
+    -- a turn that shows this (`Shows`) gives the frame what it asks of a turn
     pub owes : span_of scene.party scene.events ≡ from → Inv kd scene
         → frame.Owes (family kd scene.capacity) (record { roles = ro'; core = k' }) scene.party y scene.latest scene.events es changes'
-    owes is inv =
-        frame.owes (family kd scene.capacity) _ _ _ _ _ _ _ _ _ _ is inv.frame
+    owes span_is inv =
+        frame.owes (family kd scene.capacity) _ _ _ _ _ _ _ _ _ _ span_is inv.frame
         (record {
-          own = s.own;
-          stands = s.stands;
-          here = s.here;
-          knows = s.knows;
-          others = λ q ne. any_stays kd scene.capacity scene.roles ro' scene.core k' q (s.others q ne);
+          own = shows.own;
+          stands = shows.stands;
+          here = shows.here;
+          knows = shows.knows;
+          others = λ q ne. any_stays kd scene.capacity scene.roles ro' scene.core k' q (shows.others q ne);
           others_know =
-              λ q ne. any_knows scene.capacity scene.core k' q scene.events es scene.changes changes' s.up
-              (others_begin_none q scene.party es ne s.own);
+              λ q ne. any_knows scene.capacity scene.core k' q scene.events es scene.changes changes' shows.up
+              (others_begin_none q scene.party es ne shows.own);
         })
 
+    -- a turn that shows this (`Shows`) shows of the queue what `ShowsQueue` asks
     pub queue_part : ShowsQueue kd scene ro' k' y es changes'
     queue_part = grind arith

@@ -1,6 +1,7 @@
--- What a turn writes down: what its step did to the queue, then the acts, then the end. A push that answers false, and a
--- pop that answers None, did so in its own turn, as it loaded the other position; without capacity, an overflowing queue's
--- pop loads none. A push that is taken, and a pop that answers a value, acts as its position goes on.
+-- A turn writes first what its step did to the queue, then the acts, then the end, and each act is
+-- justified. A push that answers false, and a pop that answers None, acts in its own turn, as it loads the
+-- other position; in an overflowing queue without capacity a pop loads none. A push that is taken, and a
+-- pop that answers a value, acts as its position goes on.
 use Rattle.laws_queues.proofs.Names.{◌≡◌, ℕ, ◌-◌, ◌^◌, ◌<◌, ◌≤◌, ◌==◌, Bool, true, false, cond, inr, Option, Some}
 use Rattle.laws_queues.proofs.Names.{None, List, [], ◌∷◌, ◌++◌, get_or, refl, sym, ap, subst, ◌∙◌, nat_tests, Ask}
 use Rattle.laws_queues.proofs.Names.{Exchange, After, GoOn, Done, OneWord, after_position, went_on, Answer, Event}
@@ -46,13 +47,14 @@ use Rattle.laws_queues.proofs.Ring.Kinds.{Ring, of_indices, of_values, kind_of, 
 ring_finds : (r : Ring) (c : ℕ) → finding_none (kind_of r) c ≡ Some load_of_write
 ring_finds = grind arith
 
+-- a pop of an overflowing queue finds nothing by its load of the write position, without capacity by no load
 overflow_finds : (c : ℕ) → (0 < c → finding_none kinds.Overflow c ≡ Some load_of_write) × (c ≡ 0 → finding_none kinds.Overflow c ≡ None)
 overflow_finds = grind arith
 
 module _ {T : Type 0} where
   -- ---- the order
 
-  -- what a step did to the queue
+  -- what a step writes of the queue: a value that was published or handed out
   abbrev did : ℕ → Effect T → List (Event T)
   did p Quiet = []
   did p Acts = []
@@ -62,7 +64,7 @@ module _ {T : Type 0} where
   did p (TakesOut index) = HandedOut p (Index index) ∷ []
   did p (MakesRoom item q pushed) = HandedOut p item ∷ []
 
-  -- who acts there
+  -- the acts that a step writes: of the call itself, and of the push for which a pop makes room
   abbrev acts_of : ℕ → QueueStart T → Effect T → Option (Answer T) → List (Event T)
   acts_of p start Quiet outcome = []
   acts_of p start Acts outcome = acts_if_done p start outcome
@@ -72,13 +74,16 @@ module _ {T : Type 0} where
   acts_of p start (TakesOut index) outcome = Acted p (Queues start) (answers.PoppedIndex index) ∷ []
   acts_of p start (MakesRoom item q pushed) outcome = acts_if_done p start outcome ++ Acted q (Queues (PushIndex pushed)) answers.PoppedNone ∷ []
 
+  -- a step writes what it did to the queue, and then the acts
   effects_are : (p : ℕ) (start : QueueStart T) (effect : Effect T) (outcome : Option (Answer T))
       → effects_of p start effect outcome ≡ did p effect ++ acts_of p start effect outcome
   effects_are = grind arith
 
+  -- the events of a step are effects of its turn
   did_effects : (turn : Turn T) (p : ℕ) (effect : Effect T) → IsParty turn p → AllByRecursion (IsEffectOf turn) (did p effect)
   did_effects = grind arith
 
+  -- what a call writes of its acts are events that tell an act, and nothing else
   all_act : (p : ℕ) (start : QueueStart T) (effect : Effect T) (outcome : Option (Answer T)) → AllByRecursion IsAct (acts_of p start effect outcome)
   all_act = grind arith
 
@@ -94,9 +99,11 @@ module _ {T : Type 0} (own : QueueKind) (t : Trace T) (turn : Turn T) (p : ℕ) 
   abbrev asked : Option Ask
   asked = ask_in t.world turn
 
+  -- each of these events tells the truth at its place in the run
   abbrev Right : List (Event T) → Type 0
   Right es = AreRight (AnswersRight c) t.events es
 
+  -- each of these acts is justified by the turn
   abbrev Justified : List (Event T) → Type 0
   Justified es = AllByRecursion (ActsRight (promise own) t turn) es
 
@@ -104,46 +111,52 @@ module _ {T : Type 0} (own : QueueKind) (t : Trace T) (turn : Turn T) (p : ℕ) 
   abbrev Adds : ℕ → Type 0
   Adds word = AddsOne word t.world.words asked
 
-  -- it goes on, or it is done with None
+  -- the call goes on, or is done with None
   abbrev FindsNone : After (QueueFlight T) (Answer T) → Type 0
   FindsNone (GoOn flight) = Unit {0}
   FindsNone (Done answer) = answer ≡ answers.PoppedNone
 
-  -- a pop that is done with None after such a load has acted in this turn, and rightly
+  -- the act of a pop that is done with None is justified, where this turn made the load by
+  -- which a pop finds nothing
   pop_acts : (after : After (QueueFlight T) (Answer T)) → FindsNone after → asked ≡ finding_none own c
       → Right (told_after p Pop Acts after) → Justified (acts_if_done p Pop (answer_in after))
   pop_acts = grind arith
 
   -- ---- the positions
 
-  -- as the words hold them
+  -- the two positions as the words hold them
   record Positions (write read : ℕ) : Type 0 where
     pub rest : List ℕ
     pub words : t.world.words ≡ write ∷ read ∷ rest
     pub few : write < 2 ^ 64 - 1
     pub low : read ≤ write
 
-  module _ (write read : ℕ) (at : Positions write read) where
+  module _ {write read : ℕ} (at : Positions write read) where
+    -- the exchange of the read position from the one in the words adds 1 to it
     moves_read : asked ≡ Some (record { word = read_word; op = Exchange read (after_position read) }) → Adds read_word
     moves_read = grind arith
 
   module _ (words : List ℕ) (waits : Option (ℕ × ℕ)) where
-    abbrev Tells : QueueStart T → QueueFlight T → ℕ → Type 0
-    Tells start flight old = Right (told_after p start (effect_of en words waits flight old) (after en flight old))
+    -- what the call's step writes tells the truth
+    abbrev WritesTruth : QueueStart T → QueueFlight T → ℕ → Type 0
+    WritesTruth start flight old = Right (told_after p start (effect_of en words waits flight old) (after en flight old))
 
-    -- who acts in a step of a call, where these are the words
+    -- each act that the call's step writes is justified, where these are the words and
+    -- `waits` is the pending push
     abbrev Acting : QueueStart T → QueueFlight T → ℕ → Type 0
     Acting start flight old = Justified (acts_of p start (effect_of en words waits flight old) (answer_in (after en flight old)))
 
-    -- a push of an overflowing queue
+    -- in a step of an overflowing queue's push each act is justified
     module _ (k : Core ℕ) (place : Positions k.write k.read) (v : ℕ) (room : OneWord) where
+      -- each act that a step of an overflowing queue's push writes is justified
       overflow_push_right : (stage : overflow_pushes.PushStage) (old : ℕ) → KnowsOverflowPush c k v stage
           → asked ≡ ask_of (want en (Overflow (overflow_push_at c v room stage)))
           → old ≡ old_of (k.write ∷ k.read ∷ place.rest) asked
           → Acting (PushIndex v) (Overflow (overflow_push_at c v room stage)) old
       overflow_push_right = grind arith
 
-    -- a pop that moves the read position answers a value, and then the push acts that waits for it
+    -- where a pop moves the read position, its act with a value is justified, and so is the
+    -- act of the pending push
     taking : (item : Item T) (push : Option (ℕ × ℕ)) → ((q w : ℕ) → push ≡ Some (q, w) → q ≡ p → ⊥)
         → (room : OneWord) (on : overflow_pop.Pop) (b : Bool) → (b ≡ true → Adds read_word)
         → Justified (acts_of p Pop (cond b (takes_effect item push) Quiet)
@@ -154,17 +167,17 @@ module _ {T : Type 0} (own : QueueKind) (t : Trace T) (turn : Turn T) (p : ℕ) 
     taking item (Some push) other room on true adds = ((mine, adds refl), (inr ((λ his. other push.0 push.1 refl (alone push.0 his)), adds refl), tt))
     taking item push other room on false adds = tt
 
-    -- the push that waits is not this call
+    -- if the pending push is of the party `p`, it is this call
     abbrev Waits : QueueFlight T → Type 0
     Waits flight = (q w : ℕ) → waits ≡ Some (q, w) → q ≡ p → pending_at (get_or words 1 0) (Some (flights.Queues flight)) ≡ Some w
 
-    -- what a step of an overflowing queue's pop says of who acts is right
+    -- in a step of an overflowing queue's pop each act is justified
     overflow_pop_right :
         (k : Core ℕ) (place : Positions k.write k.read) (room : OneWord) (stage : PopStage) (old : ℕ)
         → KnowsOverflowPop c k room stage → asked ≡ ask_of (want en (Overflow (overflow_pop_at c room stage)))
         → old ≡ old_of (k.write ∷ k.read ∷ place.rest) asked
         → Waits (Overflow (overflow_pop_at c room stage)) → (0 < c → finding_none own c ≡ Some load_of_write)
-        → (c ≡ 0 → finding_none own c ≡ None) → Tells Pop (Overflow (overflow_pop_at c room stage)) old
+        → (c ≡ 0 → finding_none own c ≡ None) → WritesTruth Pop (Overflow (overflow_pop_at c room stage)) old
         → Acting Pop (Overflow (overflow_pop_at c room stage)) old
     overflow_pop_right k place room overflow_pops.FindsNone old knows asks handed waiter some none tells =
         pop_acts (after en (Overflow (overflow_pop_at c room overflow_pops.FindsNone)) old) refl (asks ∙ sym (none knows)) tells
@@ -172,13 +185,15 @@ module _ {T : Type 0} (own : QueueKind) (t : Trace T) (turn : Turn T) (p : ℕ) 
     overflow_pop_right k place room (overflow_pops.LoadsWrite read) old knows asks handed waiter some none tells =
         pop_acts (after en flight old) (finds (old == read) refl) (asks ∙ sym (some knows.0)) tells
       where
+        -- the pop at the load of the write position
         flight : QueueFlight T
         flight = Overflow (overflow_pop_at c room (overflow_pops.LoadsWrite read))
 
-        -- the cases are whether the queue is empty
+        -- the cases are whether the write position is the read position that was loaded, so
+        -- that nothing waits
         finds : (b : Bool) → (old == read) ≡ b → FindsNone (after en flight old)
-        finds true e = rw e refl
-        finds false e = rw e tt
+        finds true read_same = rw read_same refl
+        finds false read_moved = rw read_moved tt
     overflow_pop_right k place room (overflow_pops.LoadsCell read) old knows asks handed waiter some none tells = tt
     overflow_pop_right k place room (overflow_pops.MovesRead read) old knows asks handed waiter some none tells =
         taking (Index (get_or words (cell_word c read) 0)) waits
@@ -188,38 +203,37 @@ module _ {T : Type 0} (own : QueueKind) (t : Trace T) (turn : Turn T) (p : ℕ) 
         let found : old ≡ read = grind (arith, nat_tests) in
         let now : old ≡ k.read = handed ∙ ap (old_of (k.write ∷ k.read ∷ place.rest)) asks in
         let same : read ≡ k.read = sym found ∙ now in
-        moves_read k.write k.read place (asks ∙ ap (λ n. Some (record { word = read_word; op = Exchange n (after_position n) })) same))
+        moves_read place (asks ∙ ap (λ n. Some (record { word = read_word; op = Exchange n (after_position n) })) same))
 
+    -- in a step of a call of the index queue each act is justified
     index_right : (ro : Roles) (k : Core ℕ) → Positions k.write k.read
         → (start : QueueStart T) (call : rings.RingCall ℕ OneWord) (old : ℕ)
         → IndexAt kinds.IndexQueue c ro k p start call → finding_none own c ≡ Some load_of_write
-        → asked ≡ ask_of (want en (Indices call)) → Tells start (Indices call) old → Acting start (Indices call) old
+        → asked ≡ ask_of (want en (Indices call)) → WritesTruth start (Indices call) old → Acting start (Indices call) old
     index_right ro k positions start call old index_at finding_none_is asked_is tells = grind arith
 
+    -- in a step of a call of the queue of values each act is justified
     value_right : (ro : Roles) (k : Core T) → Positions k.write k.read
         → (start : QueueStart T) (call : rings.RingCall T (cells.Buffer 128)) (old : ℕ)
         → ValueAt en kinds.Queue c ro k p start call → finding_none own c ≡ Some load_of_write
-        → asked ≡ ask_of (want en (Values call)) → Tells start (Values call) old → Acting start (Values call) old
+        → asked ≡ ask_of (want en (Values call)) → WritesTruth start (Values call) old → Acting start (Values call) old
     value_right = grind arith
 
-    -- what a step of any push or pop of an overflowing queue says of who acts is right
+    -- in a step of any push or pop of an overflowing queue each act is justified
     overflow_right :
         (ro : Roles) (k : Core ℕ) (place : Positions k.write k.read) (start : QueueStart T) (call : OverflowCall) (old : ℕ)
         → OverflowAt c ro k p start call → (0 < c → finding_none own c ≡ Some load_of_write)
         → (c ≡ 0 → finding_none own c ≡ None)
         → asked ≡ ask_of (want en (Overflow call)) → old ≡ old_of (k.write ∷ k.read ∷ place.rest) asked
-        → Waits (Overflow call) → Tells start (Overflow call) old → Acting start (Overflow call) old
+        → Waits (Overflow call) → WritesTruth start (Overflow call) old → Acting start (Overflow call) old
     overflow_right ro k place (PushIndex v) (overflows.Push run) old at some none asks handed waiter tells =
         subst (λ n. asked ≡ ask_of (want en (Overflow (overflow_push_at n run.given run.room run.call.stage)))
         → Acting (PushIndex v) (Overflow (overflow_push_at n run.given run.room run.call.stage)) old)
         (sym at.1)
-        (subst (λ x. asked ≡ ask_of (want en (Overflow (overflow_push_at c x run.room run.call.stage)))
-        → Acting (PushIndex v) (Overflow (overflow_push_at c x run.room run.call.stage)) old)
-        (sym at.2)
-        (λ asks. overflow_push_right k place v run.room run.call.stage old at.3 asks handed))
+        (rw at.2 (λ asks. overflow_push_right k place v run.room run.call.stage old at.3 asks handed))
         asks
     overflow_right ro k place Pop (overflows.Pop run) old at some none asks handed waiter tells =
-        subst (λ x. Tells Pop (Overflow (overflow_pop_at x run.room run.call.stage)) old
+        subst (λ x. WritesTruth Pop (Overflow (overflow_pop_at x run.room run.call.stage)) old
         → asked ≡ ask_of (want en (Overflow (overflow_pop_at x run.room run.call.stage)))
         → Waits (Overflow (overflow_pop_at x run.room run.call.stage))
         → Acting Pop (Overflow (overflow_pop_at x run.room run.call.stage)) old)
@@ -230,12 +244,12 @@ module _ {T : Type 0} (own : QueueKind) (t : Trace T) (turn : Turn T) (p : ℕ) 
         waiter
     overflow_right ro k place start call old at some none asks handed waiter tells = absurd at
 
-    -- what a step of a call of any of the three kinds says of who acts is right
+    -- in a step of a call of any of the three kinds each act is justified
     step_right : (kd : QueueKind) → own ≡ kd
         → (ro : Roles) (k : Core (Val T kd)) (place : Positions k.write k.read) (start : QueueStart T) (flight : QueueFlight T) (old : ℕ)
         → At en kd c ro k p start flight → asked ≡ ask_of (want en flight)
         → old ≡ old_of (k.write ∷ k.read ∷ place.rest) asked → Waits flight
-        → Tells start flight old → Acting start flight old
+        → WritesTruth start flight old → Acting start flight old
     step_right kd same ro k place start (Role call) old at asks handed waiter tells = tt
     step_right kinds.IndexQueue same ro k place start (Indices call) old at asks handed waiter tells =
         index_right ro k place start call old at (ap (λ n. finding_none n c) same ∙ ring_finds of_indices c) asks tells
@@ -255,7 +269,7 @@ module _ {T : Type 0} (own : QueueKind) (t : Trace T) (turn : Turn T) (p : ℕ) 
 
 -- ---- every turn
 
--- the party whose push waits is the one whose call it is
+-- a pending push of the party `p` is the call that `p` has under way
 waiter_is : {T : Type 0} (roles : Roles) (words : List ℕ) (latest : List (ℕ × Party T)) (p : ℕ) (flight : QueueFlight T)
     → flight_of (doing_of (party_of p latest)) ≡ Some (flights.Queues flight) → (q w : ℕ)
     → beside roles words latest p ≡ Some (q, w) → q ≡ p
@@ -263,16 +277,17 @@ waiter_is : {T : Type 0} (roles : Roles) (words : List ℕ) (latest : List (ℕ 
 waiter_is = grind arith
 
 module _ {T : Type 0} (en : Coding T) (law : IsCoding en) (kd : QueueKind) (c : ℕ) (t : Trace T) (s : frame.Sound (family en kd c) t) where
-  -- what a step writes of a call that stands there is in order
+  -- a step of a call that stands in the machine writes in this order, and each act in it is justified
   pub writes : (p : ℕ) (x : Party T) (since : ℕ) → t.world.turns < 2 ^ 64 - 2 → (start : Start T) (flight : Flight T)
       → StandsThere (family en kd c) t s p x since start flight
       → Writes (outline kd) t (Next p)
       (step_from t p t.world.coding (layout s.state.roles s.state.core) (registries.Queues s.state.roles) start flight)
   writes p x since small (Queues start) (flights.Queues flight) here =
-      let scene = scene_of en law kd c t s p x since in
+      let scene = scene_of law kd c s p x since in
       let words = layout s.state.roles s.state.core in
+      -- the step keeps the invariant, so what it writes tells the truth
       let moves =
-      step_moves en law kd scene s.holds.within (inv_of en law kd c t s p x since) start flight here.at here.steps
+      step_moves law kd scene s.holds.within (inv_of law kd c s p x since) start flight here.at here.steps
       here.knows (all_fresh s.state.core.write flight (let low = s.holds.reached in omega arith))
       (here.found, here.span) in
       let z = t.world.coding in
@@ -291,16 +306,12 @@ module _ {T : Type 0} (en : Coding T) (law : IsCoding en) (kd : QueueKind) (c : 
         is = effects_are p start effect outcome;
         are_effects = did_effects (Next p) p effect refl;
         are_acts = all_act p start effect outcome;
+        -- each act is justified, as the call stands at its stage in the words of the machine
         right = step_right kd t (Next p) p refl (λ q his. his) words waits kd refl s.state.roles s.state.core place start flight old
-            (subst (λ y. At y kd t.world.capacity s.state.roles s.state.core p start flight) (sym s.coding)
-            (subst (λ n. At en kd n s.state.roles s.state.core p start flight) (sym s.capacity) here.at))
+            (rw (s.coding, s.capacity) here.at)
             asks
             (ap (old_of words) (sym asks))
             (waiter_is s.state.roles words t.world.latest p flight here.found)
-            (subst (λ n. AreRight (AnswersRight n) t.events (told_after p start effect (after z flight old))) (sym s.capacity)
-            (subst (λ (y : Coding T). AreRight (AnswersRight c) t.events
-            (told_after p start (effect_of y words waits flight (old_of words (ask_of (want y flight))))
-            (after y flight (old_of words (ask_of (want y flight))))))
-            (sym s.coding) moves.2.right));
+            (rw (s.capacity, s.coding) moves.2.right);
       }
   writes p x since small start flight here = absurd here.at

@@ -1,4 +1,4 @@
--- The steps of a call that tells how many values wait.
+-- Each step of `len`, `is_empty` and `is_full`, which tell how many values wait, keeps the invariant.
 use Rattle.laws_queues.proofs.Names.{◌≡◌, ◌≢◌, ℕ, ◌+◌, ◌*◌, ◌^◌, ◌<◌, ◌≤◌, ◌==◌, Bool, true, false, not, cond, Some}
 use Rattle.laws_queues.proofs.Names.{List, [], ◌∷◌, ◌++◌, fold, length, map, refl, ap, ◌∙◌, nat_tests}
 use Rattle.laws_queues.proofs.Names.{length-map, After, GoOn, Done, Len, LenStage, went_on, number_waiting, first_len}
@@ -19,25 +19,28 @@ use Rattle.laws_queues.proofs.Queues.Stages.{IsCalm, Stays, StepOf, still_hangs,
 use Rattle.laws_queues.proofs.Queues.Pending.{nothing_waits}
 use Rattle.laws_queues.proofs.Queues.Values.{encoded, item}
 
+-- the length call at a stage
 abbrev pub call_at : {T : Type 0} → LengthOf → ℕ → LenStage → QueueFlight T
 call_at which c stage = Length which (len_at c stage)
 
--- how many values wait between the positions, as the call computes it
+-- as many values wait as the call computes from the two positions
 number_is : {V : Type 0} → (size : ℕ) (words_of : V → List ℕ) (cells c : ℕ) (k : Core V)
     → Good size words_of cells k → (c ≡ 0 → length k.waiting ≡ 0) → k.write < 2 ^ 64
     → length k.waiting ≡ number_waiting c k.write k.read
 number_is = grind arith
 
-module _ {T : Type 0} (en : Coding T) (kd : QueueKind) (scene : Scene T kd) (inv : Inv en kd scene)
+module _ {T : Type 0} {en : Coding T} {kd : QueueKind} {scene : Scene T kd} (inv : Inv en kd scene)
     (small : scene.core.write < 2 ^ 64) (before : IsCalm en kd scene scene.core.read) where
   open scene use {capacity as c, roles as ro, core as k, party as p, steps, backs, since, changes, latest, events}
 
-  g : Good (encoded en kd).size (encoded en kd).words_of (cells_of kd c) k
-  g = inv.queue.good
+  good_before : Good (encoded en kd).size (encoded en kd).words_of (cells_of kd c) k
+  good_before = inv.queue.good
 
+  -- what was published is what was handed out and what waits
   book : published events ≡ handed_out events ++ map (item kd) k.waiting
   book = inv.queue.book
 
+  -- what `Hangs` says of the pending push, before the step
   hangs : Hangs T kd c k (pending k.read ro.producer latest)
   hangs = inv.queue.hangs
 
@@ -47,14 +50,14 @@ module _ {T : Type 0} (en : Coding T) (kd : QueueKind) (scene : Scene T kd) (inv
       let long : length (map {B = Item T} (item kd) k.waiting) ≡ length k.waiting = length-map k.waiting (item kd) in
       held_now p (λ part. length (waiting part) ≡ number_waiting c k.write k.read) events
       (ap length (waiting_is events (map (item kd) k.waiting) book)
-      ∙ (long ∙ number_is (encoded en kd).size (encoded en kd).words_of (cells_of kd c) c k g
-      (λ none. nothing_waits en kd c k (pending k.read ro.producer latest) none g hangs) (omega arith)))
+      ∙ (long ∙ number_is (encoded en kd).size (encoded en kd).words_of (cells_of kd c) c k good_before
+      (λ none. nothing_waits en kd c (pending k.read ro.producer latest) none good_before hangs) (omega arith)))
 
-  -- what such a call knows at this stage
-  abbrev Knows : LenStage → Type 0
-  Knows stage = KnowsLen c k p events since changes backs stage
+  -- what the length call knows at this stage
+  abbrev LengthKnows : LenStage → Type 0
+  LengthKnows stage = KnowsLen c k p events since changes backs stage
 
-  -- what the three calls have in common
+  -- what the steps of `len`, `is_empty` and `is_full` need of the call
   module _ (which : LengthOf) (start : QueueStart T)
       (at : (stage : LenStage) → At en kd c ro k p start (call_at which c stage))
       (most : (b : ℕ) → 4 * (b + 1) ≤ most_steps en.size kd start b)
@@ -64,10 +67,11 @@ module _ {T : Type 0} (en : Coding T) (kd : QueueKind) (scene : Scene T kd) (inv
       × (fold consumer_after ro.consumer (Finished p (Queues start) (length_answer which c n) ∷ []) ≡ ro.consumer))
       (tells : (write read : ℕ) → Waited c p events write read
       → TellsLength c events (Finished p (Queues start) (length_answer which c (number_waiting c write read)))) where
+    -- a call on the length, as its measure goes on
     abbrev goes_on : After Len ℕ → After (QueueFlight T) (Answer T)
     goes_on after = as_call (λ r. Length which r) (length_answer which c) (went_on {M = Unit {0}} as_it_is tt tt after)
 
-    -- a step at the stage leaves the queue as it is and leads on
+    -- the step at this stage leaves the queue as it is and keeps the invariant
     abbrev StaysAt : LenStage → Type 0
     StaysAt stage =
         Stays en kd scene start (ask_of (want en (call_at which c stage)))
@@ -75,70 +79,75 @@ module _ {T : Type 0} (en : Coding T) (kd : QueueKind) (scene : Scene T kd) (inv
         (after en (call_at which c stage) (old_of (layout ro k) (ask_of (want en (call_at which c stage)))))
         Quiet
 
-    -- the load of the write position does what a step should
-    loads_write : steps ≤ 4 * backs + 0 → Knows lens.LoadsWrite → StaysAt lens.LoadsWrite
-    loads_write s knows =
-        quiet en kd scene inv small before false start (Some load_of_write) (call_at which c (lens.LoadsRead k.write)) k refl refl refl refl g refl
+    -- the load of the write position keeps the invariant, and the call goes on to load the read position
+    loads_write : steps ≤ 4 * backs + 0 → LengthKnows lens.LoadsWrite → StaysAt lens.LoadsWrite
+    loads_write few_steps knows =
+        quiet en kd scene inv small before false start (Some load_of_write) (call_at which c (lens.LoadsRead k.write)) k refl refl refl refl good_before refl
         (record { span = refl; steps = omega arith; at = at (lens.LoadsRead k.write) })
         (omega arith, omega arith, omega arith)
         (λ q ne st f knows. (knows, refl))
 
-    -- the load of the read position does what a step should
+    -- the load of the read position keeps the invariant, and the call goes on to load the
+    -- write position again
     loads_read : (write : ℕ) → steps ≤ 4 * backs + 1
-        → Knows (lens.LoadsRead write)
+        → LengthKnows (lens.LoadsRead write)
         → StaysAt (lens.LoadsRead write)
-    loads_read write s knows =
+    loads_read write few_steps knows =
         let low = knows.0 in
         let paid = knows.2 in
         quiet en kd scene inv small before false start (Some load_of_read)
-        (call_at which c (lens.LoadsWriteAgain write k.read)) k refl refl refl refl g refl
+        (call_at which c (lens.LoadsWriteAgain write k.read)) k refl refl refl refl good_before refl
         (record { span = refl; steps = omega arith; at = at (lens.LoadsWriteAgain write k.read) })
         ((omega arith, omega arith, omega arith), λ same. rw same waits_now)
         (λ q ne st f knows. (knows, refl))
 
-    -- the second load of the write position does so: it goes on where it finds the same, and else turns back
+    -- the second load of the write position leads on where it finds the position unchanged; else the call
+    -- turns back to its first load
     loads_write_again : (write read : ℕ) → steps ≤ 4 * backs + 2
-        → Knows (lens.LoadsWriteAgain write read)
+        → LengthKnows (lens.LoadsWriteAgain write read)
         → StaysAt (lens.LoadsWriteAgain write read)
-    loads_write_again write read s knows = go (k.write == write) refl
+    loads_write_again write read few_steps knows = go (k.write == write) refl
       where
-        -- so it is by whether the write position is the one that was loaded
+        -- the cases are whether the write position is the one that was loaded
         go : (b : Bool) → (k.write == write) ≡ b
             → Stays en kd scene start (Some load_of_write) (not b)
             (goes_on (cond b (GoOn (record { capacity = c; stage = lens.LoadsReadAgain write read })) (GoOn (first_len c))))
             Quiet
+        -- the position is the same: the call goes on to load the read position again
         go true e =
             let low = knows.0.0 in
             let early = knows.0.1 in
             let paid = knows.0.2 in
             let same : write ≡ k.write = grind (arith, nat_tests) in
             quiet en kd scene inv small before false start (Some load_of_write)
-            (call_at which c (lens.LoadsReadAgain write read)) k refl refl refl refl g refl
+            (call_at which c (lens.LoadsReadAgain write read)) k refl refl refl refl good_before refl
             (record { span = refl; steps = omega arith; at = at (lens.LoadsReadAgain write read) })
             ((omega arith, omega arith, omega arith), knows.1 same)
             (λ q ne st f knows. (knows, refl))
+        -- the position has moved: the call turns back to its first load
         go false e =
             let low = knows.0.0 in
             let early = knows.0.1 in
             let paid = knows.0.2 in
             let moved : k.write ≢ write = grind (arith, nat_tests) in
-            quiet en kd scene inv small before true start (Some load_of_write) (call_at which c lens.LoadsWrite) k refl refl refl refl g refl
+            quiet en kd scene inv small before true start (Some load_of_write) (call_at which c lens.LoadsWrite) k refl refl refl refl good_before refl
             (record { span = refl; steps = omega arith; at = at lens.LoadsWrite })
             (omega arith)
             (λ q ne st f knows. (knows, refl))
 
-    -- the second load of the read position does so: it ends with the number that waits where it
-    -- finds the same, and else turns back
+    -- the second load of the read position ends the call with the number that waited, where it finds the
+    -- position unchanged; else the call turns back to its first load
     loads_read_again : (write read : ℕ) → steps ≤ 4 * backs + 3
-        → Knows (lens.LoadsReadAgain write read)
+        → LengthKnows (lens.LoadsReadAgain write read)
         → StaysAt (lens.LoadsReadAgain write read)
-    loads_read_again write read s knows = go (k.read == read) refl
+    loads_read_again write read few_steps knows = go (k.read == read) refl
       where
-        -- so it is by whether the read position is the one that was loaded
+        -- the cases are whether the read position is the one that was loaded
         go : (b : Bool) → (k.read == read) ≡ b
             → Stays en kd scene start (Some load_of_read) (not b)
             (goes_on (cond b (Done (number_waiting c write read)) (GoOn (first_len c))))
             Quiet
+        -- the position is the same: the call ends with the number that waited at a moment of it
         go true e =
             let low = knows.0.0 in
             let early = knows.0.1 in
@@ -157,30 +166,35 @@ module _ {T : Type 0} (en : Coding T) (kd : QueueKind) (scene : Scene T kd) (inv
                   (still_hangs en kd scene inv small k _ refl refl refl before)
                   (λ q ne st f knows. (knows, refl)),
             )
+        -- the position has moved: the call turns back to its first load
         go false e =
             let low = knows.0.0 in
             let early = knows.0.1 in
             let paid = knows.0.2 in
             let moved : k.read ≢ read = grind (arith, nat_tests) in
-            quiet en kd scene inv small before true start (Some load_of_read) (call_at which c lens.LoadsWrite) k refl refl refl refl g refl
+            quiet en kd scene inv small before true start (Some load_of_read) (call_at which c lens.LoadsWrite) k refl refl refl refl good_before refl
             (record { span = refl; steps = omega arith; at = at lens.LoadsWrite })
             (omega arith)
             (λ q ne st f knows. (knows, refl))
 
-    length_step : (stage : LenStage) → steps ≤ 4 * backs + len_number stage → Knows stage → StaysAt stage
-    length_step lens.LoadsWrite s knows = loads_write s knows
-    length_step (lens.LoadsRead write) s knows = loads_read write s knows
-    length_step (lens.LoadsWriteAgain write read) s knows = loads_write_again write read s knows
-    length_step (lens.LoadsReadAgain write read) s knows = loads_read_again write read s knows
+    -- each step of a length call leaves the queue as it is and keeps the invariant
+    length_step : (stage : LenStage) → steps ≤ 4 * backs + len_number stage → LengthKnows stage → StaysAt stage
+    length_step lens.LoadsWrite few_steps knows = loads_write few_steps knows
+    length_step (lens.LoadsRead write) few_steps knows = loads_read write few_steps knows
+    length_step (lens.LoadsWriteAgain write read) few_steps knows = loads_write_again write read few_steps knows
+    length_step (lens.LoadsReadAgain write read) few_steps knows = loads_read_again write read few_steps knows
 
-  pub len_step : (stage : LenStage) → steps ≤ 4 * backs + len_number stage → Knows stage
+  -- each step of `len` keeps the invariant
+  pub len_step : (stage : LenStage) → steps ≤ 4 * backs + len_number stage → LengthKnows stage
       → StepOf en kd scene starts.Len (call_at measures.Len c stage)
   len_step = grind (arith, length_step, published, handed_out, held_so, length, waiting)
 
-  pub is_empty_step : (stage : LenStage) → steps ≤ 4 * backs + len_number stage → Knows stage
+  -- each step of `is_empty` keeps the invariant
+  pub is_empty_step : (stage : LenStage) → steps ≤ 4 * backs + len_number stage → LengthKnows stage
       → StepOf en kd scene starts.IsEmpty (call_at measures.IsEmpty c stage)
   is_empty_step = grind (arith, length_step, published, handed_out, held_so, length, waiting)
 
-  pub is_full_step : (stage : LenStage) → steps ≤ 4 * backs + len_number stage → Knows stage
+  -- each step of `is_full` keeps the invariant
+  pub is_full_step : (stage : LenStage) → steps ≤ 4 * backs + len_number stage → LengthKnows stage
       → StepOf en kd scene starts.IsFull (call_at measures.IsFull c stage)
   is_full_step = grind (arith, length_step, published, handed_out, held_so, length, waiting)

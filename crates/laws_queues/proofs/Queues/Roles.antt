@@ -1,4 +1,4 @@
--- What the steps of the calls on roles show. A role's word is 1 while the role is free.
+-- Each step of a call on a role keeps the invariant. A role's word is 1 while the role is free.
 use Rattle.laws_queues.proofs.Names.{◌≡◌, ℕ, ◌^◌, ◌<◌, ◌≤◌, ◌==◌, true, false, not, is_none, Option, Some, None, option_map, refl, ap}
 use Rattle.laws_queues.proofs.Names.{subst, sym, ◌∙◌, Ask, Load, Store, Exchange, AcquireProducer, ReleaseProducer}
 use Rattle.laws_queues.proofs.Names.{AcquireConsumer, ReleaseConsumer, HasProducer, HasConsumer, QueueKind, Coding, acquire_of, release_of, look_of}
@@ -11,12 +11,15 @@ use Rattle.laws_queues.proofs.Queues.Knows.{free}
 use Rattle.laws_queues.proofs.Queues.Pending.{pending_here, few_wait, none_hangs}
 use Rattle.laws_queues.proofs.Queues.Stages.{IsCalm, StepOf, still_hangs, ends}
 
+-- the exchange that takes a role
 abbrev takes : ℕ → Option Ask
 takes word = Some (record { word = word; op = Exchange 1 0 })
 
+-- the store that gives a role back
 abbrev gives : ℕ → Option Ask
 gives word = Some (record { word = word; op = Store 1 })
 
+-- the load of a role's word
 abbrev looks : ℕ → Option Ask
 looks word = Some (record { word = word; op = Load })
 
@@ -29,14 +32,15 @@ taken_is (Some p) = refl
 abbrev with_roles : {T : Type 0} → {kd : QueueKind} → Scene T kd → Option ℕ → Option ℕ → Scene T kd
 with_roles scene pr co = record scene { roles = record { producer = pr; consumer = co } }
 
-module _ {T : Type 0} (en : Coding T) (kd : QueueKind) (scene : Scene T kd) (small : scene.core.write < 2 ^ 64)
-    (s : scene.steps ≤ 0) (b : scene.backs ≡ 0) where
+module _ {T : Type 0} (en : Coding T) {kd : QueueKind} (scene : Scene T kd) (small : scene.core.write < 2 ^ 64)
+    (few_steps : scene.steps ≤ 0) (no_backs : scene.backs ≡ 0) where
   open scene use {capacity as c, core as k}
 
+  -- the party has no pending push
   abbrev IsQuiet : Option ℕ → Option ℕ → Type 0
   IsQuiet pr co = IsCalm en kd (with_roles scene pr co) k.read
 
-  -- the step that asks for the producer's role shows what a step should, whoever holds the two roles
+  -- the exchange that asks for the producer's role keeps the invariant, whoever holds the two roles
   acquire_producer : (pr co : Option ℕ) → Inv en kd (with_roles scene pr co) → IsQuiet pr co
       → StepOf en kd (with_roles scene pr co) AcquireProducer (acquire_of producer_word)
   acquire_producer None co inv before = (
@@ -69,7 +73,7 @@ module _ {T : Type 0} (en : Coding T) (kd : QueueKind) (scene : Scene T kd) (sma
         (λ q ne st f h. (h, refl)),
   )
 
-  -- the step that asks for the consumer's role shows what a step should
+  -- the exchange that asks for the consumer's role keeps the invariant, whoever holds the two roles
   acquire_consumer : (pr co : Option ℕ) → Inv en kd (with_roles scene pr co) → IsQuiet pr co
       → StepOf en kd (with_roles scene pr co) AcquireConsumer (acquire_of consumer_word)
   acquire_consumer pr None inv before = (
@@ -101,7 +105,7 @@ module _ {T : Type 0} (en : Coding T) (kd : QueueKind) (scene : Scene T kd) (sma
         (λ q ne st f h. (h, refl)),
   )
 
-  -- so does the step that gives the producer's role back, of the party that holds it
+  -- the store that gives the producer's role back keeps the invariant, where the party holds the role
   release_producer : (pr co : Option ℕ) → pr ≡ Some scene.party → Inv en kd (with_roles scene pr co) → IsQuiet pr co
       → StepOf en kd (with_roles scene pr co) ReleaseProducer (release_of producer_word)
   release_producer pr co holds inv before = (
@@ -117,12 +121,12 @@ module _ {T : Type 0} (en : Coding T) (kd : QueueKind) (scene : Scene T kd) (sma
         (omega arith)
         (none_hangs T kd c k None refl
         (few_wait en kd c k (pending k.read pr scene.latest)
-        (subst (λ o. pending k.read o scene.latest ≡ None) (sym holds) (ap (option_map (λ (v : ℕ). (scene.party, v))) before))
+        (rw holds (ap (option_map (λ (v : ℕ). (scene.party, v))) before))
         inv.queue.good inv.queue.hangs))
         (λ q ne. kept _ _ q (λ h. absurd (clash pr scene.party q ne holds h)) (λ h. h) en c kd k k (keeps_same en kd c _ k q)),
   )
 
-  -- the step that gives the consumer's role back shows what a step should
+  -- the store that gives the consumer's role back keeps the invariant, where the party holds the role
   release_consumer : (pr co : Option ℕ) → co ≡ Some scene.party → Inv en kd (with_roles scene pr co) → IsQuiet pr co
       → StepOf en kd (with_roles scene pr co) ReleaseConsumer (release_of consumer_word)
   release_consumer pr co holds inv before = (
@@ -140,22 +144,25 @@ module _ {T : Type 0} (en : Coding T) (kd : QueueKind) (scene : Scene T kd) (sma
         (λ q ne. kept _ _ q (λ h. h) (λ h. absurd (clash co scene.party q ne holds h)) en c kd k k (keeps_same en kd c _ k q)),
   )
 
-  -- the step that asks for the producer's role shows what it should, with the holders as they are
+  -- the exchange that asks for the producer's role keeps the invariant
   pub acquires_producer : Inv en kd scene → IsCalm en kd scene k.read → StepOf en kd scene AcquireProducer (acquire_of producer_word)
   acquires_producer inv before = acquire_producer scene.roles.producer scene.roles.consumer inv before
 
+  -- the exchange that asks for the consumer's role keeps the invariant
   pub acquires_consumer : Inv en kd scene → IsCalm en kd scene k.read → StepOf en kd scene AcquireConsumer (acquire_of consumer_word)
   acquires_consumer inv before = acquire_consumer scene.roles.producer scene.roles.consumer inv before
 
+  -- the store that gives the producer's role back keeps the invariant
   pub releases_producer : scene.roles.producer ≡ Some scene.party → Inv en kd scene → IsCalm en kd scene k.read
       → StepOf en kd scene ReleaseProducer (release_of producer_word)
   releases_producer holds inv before = release_producer scene.roles.producer scene.roles.consumer holds inv before
 
+  -- the store that gives the consumer's role back keeps the invariant
   pub releases_consumer : scene.roles.consumer ≡ Some scene.party → Inv en kd scene → IsCalm en kd scene k.read
       → StepOf en kd scene ReleaseConsumer (release_of consumer_word)
   releases_consumer holds inv before = release_consumer scene.roles.producer scene.roles.consumer holds inv before
 
-  -- a look finds the role as it is
+  -- the load of the producer's word keeps the invariant, and leaves the role as it is
   pub looks_at_producer : Inv en kd scene → IsCalm en kd scene k.read → StepOf en kd scene HasProducer (look_of producer_word)
   looks_at_producer inv before = (
     k,
@@ -172,7 +179,7 @@ module _ {T : Type 0} (en : Coding T) (kd : QueueKind) (scene : Scene T kd) (sma
         (λ q ne st f h. (h, refl)),
   )
 
-  -- the look at the consumer's role shows what a step should
+  -- the load of the consumer's word keeps the invariant, and leaves the role as it is
   pub looks_at_consumer : Inv en kd scene → IsCalm en kd scene k.read → StepOf en kd scene HasConsumer (look_of consumer_word)
   looks_at_consumer inv before = (
     k,

@@ -6,11 +6,13 @@ use Rattle.model.specs.declared.turn.Refusal.{Refusal}
 pub use Rattle.laws_queues.specs.Fresh.{AllMay}
 
 module _ {T : Type 0} (F : Family T) (May : Trace T → Turn T → Type 0) (laws : LawsWhere F May) where
+  -- a turn that is refused, or may be taken, leaves a sound machine sound
   pub attempt_sound : (t : Trace T) (turn : Turn T) (o : Option Refusal) → call_refusal t.world turn ≡ o
       → (call_refusal t.world turn ≡ None → May t turn) → Sound F t → Sound F (unless_refused t (after_turn t turn) o)
-  attempt_sound t turn None e may sound = turn_sound F May laws t turn e (may e) sound
-  attempt_sound t turn (Some refusal) e may sound = sound
+  attempt_sound t turn None refusal_is may sound = turn_sound F May laws t turn refusal_is (may refusal_is) sound
+  attempt_sound t turn (Some refusal) refusal_is may sound = sound
 
+  -- a run of turns, each refused or such as may be taken, leaves a sound machine sound
   pub run_sound : (turns : List (Turn T)) (t : Trace T) → AllMay May turns t → Sound F t → Sound F (run_on turns t)
   run_sound [] t may sound = sound
   run_sound (turn ∷ turns) t may sound = run_sound turns (attempt_on t turn) may.1 (attempt_sound t turn (call_refusal t.world turn) refl may.0 sound)

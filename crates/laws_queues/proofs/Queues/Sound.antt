@@ -1,5 +1,5 @@
--- What the invariant says of the events, in the promises' words; and that every turn keeps it, so every run has what a queue
--- promises.
+-- The invariant gives what a queue promises of its events, and every turn keeps the invariant. So every run
+-- has what a queue promises.
 use lib.Seq.{get_or-drop}
 use Rattle.laws_queues.proofs.Names.{◌≡◌, ℕ, suc, ◌+◌, ◌-◌, ◌%◌, ◌*◌, ◌<◌, ◌≤◌, Some, List, [], ◌∷◌, length, get_or}
 use Rattle.laws_queues.proofs.Names.{map, slice_get, take, drop, refl, sym, ap, subst, ◌∙◌, length-append, length-drop}
@@ -30,6 +30,7 @@ use Rattle.laws_queues.proofs.Queues.Pending.{none_hangs}
 use Rattle.laws_queues.proofs.Queues.Runs.{run_sound}
 use Rattle.laws_queues.proofs.Queues.Steps.{comes, begin_comes, no_question, few_turns}
 
+-- a cell has the words of one value
 cell_size : {T : Type 0} → (en : Coding T) (kd : QueueKind) → words_of_cell en.size kd ≡ (encoded en kd).size
 cell_size en IndexQueue = refl
 cell_size en kinds.Overflow = refl
@@ -38,12 +39,13 @@ cell_size en kinds.Queue = refl
 module _ {T : Type 0} (en : Coding T) where
   -- ---- progress
 
+  -- what the family says of the steps and turn-backs of a call under way (`Bounds`)
   bounds : (kd : QueueKind) (c : ℕ) → frame.Bounds (family {T = T} en kd c)
   bounds = grind arith
 
   -- ---- the values that wait in the words
 
-  -- what stands in a cell that holds a value
+  -- what is read from a cell in which the words of `v` stand is `v`
   item_is : IsCoding en → (kd : QueueKind) (words : List ℕ) (cell : ℕ) (v : Val T kd) → cell + (encoded en kd).size ≤ length words
       → ((i : ℕ) → i < (encoded en kd).size → get_or words (cell + i) 0 ≡ get_or ((encoded en kd).words_of v) i 0) → item_at en kd words cell ≡ item kd v
   item_is law IndexQueue words cell v long held =
@@ -54,12 +56,12 @@ module _ {T : Type 0} (en : Coding T) where
       let size = law.sized v in
       let behind = length-drop cell words in
       let same : take en.size (drop cell words) ≡ en.words_of v =
-      subst (λ n. take n (drop cell words) ≡ en.words_of v) size
-      (same_words (drop cell words) (en.words_of v) (omega arith) (λ i below. get_or-drop cell words i 0 ∙ held i (omega arith)))
+      rw (← size) (same_words (drop cell words) (en.words_of v) (omega arith) (λ i below. get_or-drop cell words i 0 ∙ held i (omega arith)))
       in
       ap Value (ap en.value_of same ∙ law.given_back v)
 
-  -- where the cells from a position on have the values of a list, what is stored there by the words is that list
+  -- where the cells from a position on have the values of a list, what is stored there by
+  -- the words is that list
   stored_is :
       IsCoding en → (kd : QueueKind) (c : ℕ) (words : List ℕ) (position : ℕ) (xs : List (Val T kd))
       → ((i : ℕ) (v : Val T kd) → slice_get xs i ≡ Some v → item_at en kd words (cell_of en kd c (position + i)) ≡ item kd v)
@@ -75,25 +77,27 @@ module _ {T : Type 0} (en : Coding T) where
       rw (first, rest) refl
 
   -- what waits by the words is what waits in the queue
-  stored_waiting : IsCoding en → (kd : QueueKind) (c : ℕ) (ro : Roles) (k : Core (Val T kd))
+  stored_waiting : IsCoding en → (kd : QueueKind) (c : ℕ) (ro : Roles) {k : Core (Val T kd)}
       → Good (encoded en kd).size (encoded en kd).words_of (cells_of kd c) k
       → waiting_in en kd c (layout ro k) ≡ map (item kd) k.waiting
-  stored_waiting law kd c ro k good =
+  stored_waiting law kd c ro {k} good =
       let write = good.write in
       let many : k.write - k.read ≡ length k.waiting = omega arith in
       rw many
       (stored_is law kd c (layout ro k) k.read k.waiting held)
     where
+      -- the number of cells
       n : ℕ
       n = cells_of kd c
 
+      -- the number of words of an element
       size : ℕ
       size = (encoded en kd).size
 
       -- the cell of the read position plus `i` has the value that is the `i`th to wait
       held : (i : ℕ) (v : Val T kd) → slice_get k.waiting i ≡ Some v → item_at en kd (layout ro k) (cell_of en kd c (k.read + i)) ≡ item kd v
-      held i v e =
-          let below = at_below size (encoded en kd).words_of n k.waiting i v e in
+      held i v element_is =
+          let below = at_below size (encoded en kd).words_of n k.waiting i v element_is in
           let few = good.few in
           let some : 0 < n = omega arith in
           let first : cell_of en kd c (k.read + i) ≡ 4 + size * ((k.read + i) % n) =
@@ -104,12 +108,11 @@ module _ {T : Type 0} (en : Coding T) where
           let word : (j : ℕ) → j < size → get_or (layout ro k) (4 + size * ((k.read + i) % n) + j) 0 ≡ get_or ((encoded en kd).words_of v) j 0 =
           λ j js.
           word_at k.write k.read (free ro.producer) (free ro.consumer) k.cells (4 + size * ((k.read + i) % n) + j) (size * ((k.read + i) % n) + j) (omega arith)
-          ∙ good.held i v e j js
+          ∙ good.held i v element_is j js
           in
-          subst (λ m. item_at en kd (layout ro k) m ≡ item kd v) (sym first)
-          (item_is law kd (layout ro k) (4 + size * ((k.read + i) % n)) v (omega arith) word)
+          rw first (item_is law kd (layout ro k) (4 + size * ((k.read + i) % n)) v (omega arith) word)
 
-  -- the list that the calls answer as is of what waits no more than the capacity, from the front
+  -- the list that the calls answer as has, of what waits, no more than the capacity, from the front
   listed_is : (kd : QueueKind) (c : ℕ) (k : Core (Val T kd))
       → Good (encoded en kd).size (encoded en kd).words_of (cells_of kd c) k
       → listed {T = T} kd c k.waiting ≡ take c (map (item kd) k.waiting)
@@ -126,15 +129,17 @@ module _ {T : Type 0} (en : Coding T) where
 
   -- ---- what is promised
 
-  -- between two turns the words and the events agree as those of a queue should
-  queue_kept : IsCoding en → (kd : QueueKind) (c : ℕ) (t : Trace T) → t.world.coding ≡ en → t.world.capacity ≡ c
+  -- between two turns the words and the events of a queue agree, as `IsQueue` (the promise of a
+  -- queue's machine) says
+  queue_kept : IsCoding en → {kd : QueueKind} (c : ℕ) {t : Trace T} → t.world.coding ≡ en → t.world.capacity ≡ c
       → (s : frame.Sound (family en kd c) t) → IsQueue kd t
-  queue_kept law kd c t same_coding same_capacity s =
+  queue_kept law {kd} c {t} same_coding same_capacity s =
       let world = t.world in
       let core_now = s.state.core in
       let good = s.holds.good in
+      -- what waits, and the two positions, by the words of the machine
       let rest : waiting_in en kd c world.words ≡ map (item kd) core_now.waiting =
-      ap (waiting_in en kd c) s.fit.words ∙ stored_waiting law kd c s.state.roles core_now good in
+      ap (waiting_in en kd c) s.fit.words ∙ stored_waiting law kd c s.state.roles good in
       let long : length (map {B = Item T} (item kd) core_now.waiting) ≡ length core_now.waiting = length-map core_now.waiting (item {T = T} kd) in
       let few = good.few in
       let read : get_or world.words 1 0 ≡ core_now.read = ap (λ ws. get_or ws 1 0) s.fit.words in
@@ -159,28 +164,34 @@ module _ {T : Type 0} (en : Coding T) where
         answers = rw same_capacity s.holds.answers;
         lengths = rw same_capacity s.holds.lengths;
         roles = s.holds.grants;
-        holders = subst (λ kept. KeepsHolders kept t.events) (sym s.fit.kept) (sym s.holds.producers, sym s.holds.consumers);
+        holders = rw s.fit.kept (sym s.holds.producers, sym s.holds.consumers);
       }
 
+-- what a turn of this kind of machine may do is what the kind of queue promises
 promise_is : {T : Type 0} (kd : QueueKind) → promise_of {T = T} (machine_kind kd) ≡ promise kd
 promise_is = grind arith
 
 -- ---- a queue as it opens
 
+-- the core of a queue as it opens: both positions are 0 and nothing waits
 abbrev empty_core : {T : Type 0} → Coding T → (kd : QueueKind) → ℕ → Core (Val T kd)
 empty_core en kd c = record { write = 0; read = 0; waiting = []; cells = replicate (words_of_cell en.size kd * cells_of kd c) 0 }
 
+-- a queue as it opens: nobody holds a role, and nothing waits
 abbrev empty_queue : {T : Type 0} → Coding T → (kd : QueueKind) → ℕ → Queue (Val T kd)
 empty_queue en kd c = record { roles = record { producer = None; consumer = None }; core = empty_core en kd c }
 
+-- the machine opens as the empty queue
 opening_fits : {T : Type 0} → (en : Coding T) (kd : QueueKind) (c : ℕ)
     → Represents ((opening_of (machine_kind kd)).kept {T = T} c) ((opening_of (machine_kind kd)).words en.size c) (empty_queue en kd c)
 opening_fits = grind arith
 
+-- an admitted capacity is below 2 ^ 32
 pub admitted_fits : (kd : QueueKind) (c : ℕ) → capacity_error (machine_kind kd) c ≡ None → c < 2 ^ 32
 admitted_fits = grind arith
 
 module _ {T : Type 0} (en : Coding T) (law : IsCoding en) where
+  -- the list object of this kind opens with no element
   empty : (kd : QueueKind) (c : ℕ) → (list_of {T = T} kd c).opening ≡ listed kd c []
   empty IndexQueue c = refl
   empty kinds.Overflow c = sym (ap (map (item kinds.Overflow)) (take-nil {A = ℕ} c))
@@ -220,6 +231,7 @@ module _ {T : Type 0} (en : Coding T) (law : IsCoding en) where
             };
       }
 
+  -- the invariant holds of the opening, where the capacity is below 2 ^ 32
   pub opening_sound : (kd : QueueKind) (c parties : ℕ) → c < 2 ^ 32 → frame.Sound (family en kd c) (opening en (machine_kind kd) c parties)
   opening_sound kd c parties fits = laws.opening_sound (outline kd) en c (opens kd c fits) parties
 
@@ -236,8 +248,8 @@ module _ {T : Type 0} (en : Coding T) (law : IsCoding en) where
   turns : (kd : QueueKind) (c : ℕ) → Turns (outline kd) en c IsFreshTurn
   turns kd c =
       record {
-        begin = λ t s p start flight may e rows. begin_comes en law kd c t s p start flight may e rows;
-        step = λ t s p x since fresh found start flight rows here. comes en law kd c t s p x since fresh start flight here;
+        begin = λ t s p start flight may e rows. begin_comes law kd c s p flight may e rows;
+        step = λ t s p x since fresh found start flight rows here. comes law kd c s p x since fresh here;
         decision = λ t s p x since said may found start flight rows asks here.
             laws.asks_none _ (no_question en kd c s.state p start flight here.at) asks;
         death = frame.no_death (family en kd c) (λ kept words state fit. rw fit.kept refl);
@@ -245,22 +257,24 @@ module _ {T : Type 0} (en : Coding T) (law : IsCoding en) where
 
   -- the family has what is owed beside the turns: its promise, its bounds, and that what a step
   -- writes is in order, among others
-  owed : (kd : QueueKind) (c : ℕ) → Owed (outline kd) en c
-  owed kd c =
+  owed : (kd : QueueKind) {c : ℕ} → Owed (outline kd) en c
+  owed kd {c} =
       record {
         promise = promise_is kd;
         bounds = bounds en kd c;
-        promised = λ t s few. queue_kept en law kd c t s.coding s.capacity s;
+        promised = λ t s few. queue_kept en law c s.coding s.capacity s;
         writes = λ t s p x since. writes en law kd c t s p x since;
         decides = λ t s p x since said start flight asks here. laws.asks_none _ (no_question en kd c s.state p start flight here.at) asks;
         goes = told kd c;
         tells = λ t turn e s. tt;
       }
 
+  -- the laws of the family, for turns that are fresh
   pub fresh_laws : (kd : QueueKind) (c : ℕ) → frame.LawsWhere (family en kd c) IsFreshTurn
   fresh_laws kd c = laws.laws (outline kd) en c IsFreshTurn (turns kd c)
 
 module _ {T : Type 0} (kd : QueueKind) where
+  -- while fewer than 2 ^ 64 - 2 turns were made, a turn is fresh: it finds no position at its last value
   few : (code : Coding T) (c : ℕ) (t : Trace T) (turn : Turn T) → frame.Sound (family code kd c) t → t.world.turns < 2 ^ 64 - 2 → IsFreshTurn t turn
   few code c t (Next p) sound small = few_turns code kd c t sound small p
   few code c t turn sound small = tt
@@ -274,31 +288,33 @@ module _ {T : Type 0} (kd : QueueKind) where
         few = few;
       }
 
+  -- what the queue's promises ask of a turn besides the invariant, at every capacity that is admitted
   owes : OwesAll {T = T} (outline kd)
-  owes code c coded admitted = owed code coded kd c
+  owes code c coded admitted = owed code coded kd
 
   -- what is proved of every run of a queue
   pub queue_keeps : Keeps T (machine_kind kd)
   queue_keeps = laws.keeps (outline kd) IsFreshTurn all_turns owes
 
-  -- a promise of the kind is the queue's
+  -- what a machine of this kind promises is the queue's promise
   pub promised_by : (t : Trace T) → t.world.kind ≡ machine_kind kd → promise_of {T = T} t.world.kind ≡ promise kd
-  promised_by t is = ap (promise_of {T = T}) is ∙ promise_is kd
+  promised_by t kind_is = ap (promise_of {T = T}) kind_is ∙ promise_is kd
 
-  -- the same where turns have no bound, and no push finds the last position
+  -- runs without a bound on the turns, in which no push finds the last position
   module _ (t : Trace T) (is : t.world.kind ≡ machine_kind kd) (coded : IsCoding t.world.coding)
-      (admitted : capacity_error t.world.kind t.world.capacity ≡ None) (r : IsFreshRun t) where
-    -- a queue's machine whose run is fresh is sound
+      (admitted : capacity_error t.world.kind t.world.capacity ≡ None) (fresh_run : IsFreshRun t) where
+    -- the invariant holds after a run in which no push finds the last position
     pub sound_on : frame.Sound (family t.world.coding kd t.world.capacity) t
     sound_on =
         let world = t.world in
         let F = family world.coding kd world.capacity in
-        subst (frame.Sound F) (sym r.is)
-        (run_sound F IsFreshTurn (fresh_laws world.coding coded kd world.capacity) r.turns
-        (opening world.coding world.kind world.capacity world.parties) r.fresh
+        subst (frame.Sound F) (sym fresh_run.is)
+        (run_sound F IsFreshTurn (fresh_laws world.coding coded kd world.capacity) fresh_run.turns
+        (opening world.coding world.kind world.capacity world.parties) fresh_run.fresh
         (laws.opening_there (outline kd) IsFreshTurn all_turns t is coded admitted))
 
+    -- what a queue promises holds of the run
     pub kept_on : IsKept t
     kept_on =
         laws.kept_by (outline kd) IsFreshTurn all_turns owes t is coded admitted sound_on
-        (queue_kept t.world.coding coded kd t.world.capacity t refl refl sound_on)
+        (queue_kept t.world.coding coded t.world.capacity refl refl sound_on)

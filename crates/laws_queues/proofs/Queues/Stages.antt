@@ -1,4 +1,5 @@
--- What a step of a queue's call has to show.
+-- What a step of a queue's call has to show. `DoesStep` is for a step that writes events of its own party
+-- alone, `Moves` for any step; from both it follows that the step keeps the invariant.
 use Rattle.laws_queues.proofs.Names.{◌≡◌, ◌≢◌, ℕ, ◌+◌, ◌-◌, ◌*◌, ◌%◌, ◌^◌, ◌<◌, ◌≤◌, Bool, true, false, ◌||◌, ◌⊎◌}
 use Rattle.laws_queues.proofs.Names.{Option, Some, None, List, [], ◌∷◌, ◌++◌, fold, length, map, refl}
 use Rattle.laws_queues.proofs.Names.{append-nil, Ask, After, GoOn, Done, word_at, Answer, Event, Finished}
@@ -20,13 +21,16 @@ use Rattle.laws_queues.proofs.Queues.Knows.{layout, listed, has_written, Hangs, 
 use Rattle.laws_queues.proofs.Queues.Values.{Val, encoded, item}
 use Rattle.laws_queues.proofs.Queues.Pending.{pending_put, hangs_same}
 
+-- if a disjunction is true, one of its parts is
 pub or_true : (a b : Bool) → (a || b) ≡ true → (a ≡ true) ⊎ (b ≡ true)
 or_true = grind arith
 
+-- a list that is not empty has a first element
 pub first_of_some : {A : Type 0} → (xs : List A) → 0 < length xs → (x : A) × (rest : List A) × (xs ≡ x ∷ rest)
 first_of_some [] length_positive = absurd (omega arith)
 first_of_some (x ∷ xs) length_positive = (x, xs, refl)
 
+-- if a disjunction is false, each part is
 pub or_false : (a b : Bool) → (a || b) ≡ false → (a ≡ false) × (b ≡ false)
 or_false = grind arith
 
@@ -38,6 +42,7 @@ cell_place = grind arith
 abbrev pub cell_asked : ℕ → ℕ → ℕ → ℕ → ℕ
 cell_asked size c position at = word_at (cell_word c size position) at
 
+-- the word that the code computes for a place of a cell is the one of the layout
 pub asked_place : (size c position at : ℕ) → 0 < c → c < 2 ^ 32 → size ≤ 128 → at < size → cell_asked size c position at ≡ 4 + (size * (position % c) + at)
 asked_place = grind (arith, cell_place, cell_within, mul-le-mul_right)
 
@@ -50,9 +55,12 @@ module _ {T : Type 0} where
   abbrev pub told_after : ℕ → QueueStart T → Effect T → After (QueueFlight T) (Answer T) → List (Event T)
   told_after p start effect after = effects_of p start effect (answer_in after) ++ ending_of p (Queues start) (answer_in (any_call after))
 
+-- `scene` is the machine of this kind of queue as the party `p` takes a step: `c` its capacity, `ro` the
+-- holders of the roles, `k` the core
 module _ {T : Type 0} (en : Coding T) (kd : QueueKind) (scene : Scene T kd) where
   open scene use {capacity as c, roles as ro, core as k, party as p}
 
+  -- the words of the queue before the step
   abbrev words : List ℕ
   words = layout scene.roles scene.core
 
@@ -66,16 +74,18 @@ module _ {T : Type 0} (en : Coding T) (kd : QueueKind) (scene : Scene T kd) wher
       party_after (party start) scene.since scene.changes (step_count ask) (change_of words ask)
       (record { after = any_call after; back = back; wrote = []; kept = registries.Queues ro })
 
-  -- how often words have changed then
+  -- how often words have changed after a step with this operation
   abbrev pub changes_then : Option Ask → ℕ
   changes_then ask = scene.changes + change_of words ask
 
-  -- a step after which the call is this, and which leaves the roles with these holders
+  -- A step with the operation `ask`, after which the call is `after` and the roles have the holders `ro'`,
+  -- leaves some core `k'` and has the fields of `Shows`. `wrote` is what the call has written before it.
   abbrev pub Leaves : Roles → List (Event T) → QueueStart T → Option Ask → Bool → After (QueueFlight T) (Answer T) → Effect T → Type 0
   Leaves ro' wrote start ask back after effect =
       (k' : Core (Val T kd)) × (words_after words ask ≡ layout ro' k')
       × Shows en kd scene ro' k' (Open (Queues start) wrote) (party_then start ask back after) (told_after p start effect after) (changes_then ask)
 
+  -- a step of a call as `Leaves` asks, which leaves the roles as the call's answer says
   abbrev pub DoesStep : List (Event T) → QueueStart T → Option Ask → Bool → After (QueueFlight T) (Answer T) → Effect T → Type 0
   DoesStep wrote start ask back after effect = Leaves (roles_after p start (answer_in after) ro) wrote start ask back after effect
 
@@ -83,29 +93,34 @@ module _ {T : Type 0} (en : Coding T) (kd : QueueKind) (scene : Scene T kd) wher
   abbrev pub old_for : QueueFlight T → ℕ
   old_for flight = old_of words (ask_of (want en flight))
 
+  -- what the next step of the call writes of the queue and of acts
   abbrev pub effect_for : QueueFlight T → Effect T
   effect_for flight = effect_of en words (beside ro words scene.latest p) flight (old_for flight)
 
+  -- the next step of this call keeps the invariant (`Shows`)
   abbrev pub StepOf : QueueStart T → QueueFlight T → Type 0
   StepOf start flight =
       DoesStep (has_written c k p flight) start (ask_of (want en flight)) (goes_back flight (old_for flight))
       (after en flight (old_for flight)) (effect_for flight)
 
+  -- a step as `Leaves` asks, which leaves the roles, of a call that has written nothing
   abbrev pub Stays : QueueStart T → Option Ask → Bool → After (QueueFlight T) (Answer T) → Effect T → Type 0
   Stays start ask back after effect = Leaves ro [] start ask back after effect
 
-  -- no push of this party is pending
+  -- the party's call is no push that is about to move the read position on from here
   abbrev pub IsCalm : ℕ → Type 0
   IsCalm position = pending_at position (flight_of (doing_of (party_of p scene.latest))) ≡ None
 
   module _ (inv : Inv en kd scene) (small : scene.core.write < 2 ^ 64) where
-    -- none is pending before or after, and the queue stays
+    -- where the party's call is no pending push, before or after, and what waits stays,
+    -- `Hangs` holds afterwards
     pub still_hangs : (k' : Core (Val T kd)) (y : Party T) → k'.waiting ≡ k.waiting → k'.read ≡ k.read
         → pending_at k.read (flight_of (Some y.doing)) ≡ None → IsCalm k.read
         → Hangs T kd c k' (pending k'.read ro.producer (put p y scene.latest))
     still_hangs = grind (arith, hangs_same, pending, put, pending_put)
 
-    -- the call goes on, and the positions and what waits stay
+    -- a step with which the call goes on, and which moves no position and writes nothing, keeps the
+    -- invariant (`Shows`)
     pub quiet :
         IsCalm k.read → (back : Bool) (start : QueueStart T) (ask : Option Ask) (flight : QueueFlight T) (k' : Core (Val T kd))
         → pending_at k.read (Some (flights.Queues flight)) ≡ None → k'.waiting ≡ k.waiting
@@ -119,7 +134,7 @@ module _ {T : Type 0} (en : Coding T) (kd : QueueKind) (scene : Scene T kd) wher
         → Stays start ask back (GoOn flight) Quiet
     quiet = grind (arith, still_hangs, append-nil, map, item, listed)
 
-    -- the call is done, and nothing is published, handed out or acted
+    -- a step that ends the call, and publishes, hands out and acts nothing, keeps the invariant (`Shows`)
     pub ends :
         (ro' : Roles) (back : Bool) (start : QueueStart T) (answer : Answer T) (ask : Option Ask)
         → Wrote kd c start answer [] → TellsLength c scene.events (Finished p (Queues start) answer)
@@ -134,9 +149,10 @@ module _ {T : Type 0} (en : Coding T) (kd : QueueKind) (scene : Scene T kd) wher
         → Shows en kd scene ro' k (Open (Queues start) []) (party_then start ask back (Done answer)) (Finished p (Queues start) answer ∷ []) (changes_then ask)
     ends = grind (arith, append-nil, map, item)
 
-  -- ---- what a step owes, also where it writes events of two parties
+  -- ---- a step that may also write events of a second party
 
-  -- a step leaves some state of the queue, of which all is so that is owed
+  -- a step with the operation `ask` leaves some core `k'` of which `ShowsQueue` holds, and gives the frame
+  -- what it asks of a turn
   abbrev pub Moves : QueueStart T → Option Ask → Bool → After (QueueFlight T) (Answer T) → Effect T → Type 0
   Moves start ask back after effect =
       (k' : Core (Val T kd)) × (words_after words ask ≡ layout (roles_after p start (answer_in after) ro) k')
@@ -146,24 +162,26 @@ module _ {T : Type 0} (en : Coding T) (kd : QueueKind) (scene : Scene T kd) wher
       (party_then start ask back after) scene.latest scene.events (told_after p start effect after)
       (changes_then ask)
 
+  -- the next step of this call keeps the invariant
   abbrev pub MovesOf : QueueStart T → QueueFlight T → Type 0
   MovesOf start flight = Moves start (ask_of (want en flight)) (goes_back flight (old_for flight)) (after en flight (old_for flight)) (effect_for flight)
 
-  -- a step that writes events of its own party alone shows what is asked of one that may write those of two parties
+  -- a step with the fields of `Shows` keeps the invariant
   pub alone :
-      Inv en kd scene → (wrote : List (Event T)) (start : QueueStart T) (ask : Option Ask) (back : Bool)
+      Inv en kd scene → (wrote : List (Event T)) {start : QueueStart T} (ask : Option Ask) (back : Bool)
       (after : After (QueueFlight T) (Answer T)) (effect : Effect T)
       → span_of p scene.events ≡ Open (Queues start) wrote
       → DoesStep wrote start ask back after effect → Moves start ask back after effect
-  alone inv wrote start ask back after effect seen step = (
+  alone inv wrote ask back after effect seen step = (
     step.0,
     step.1,
     queue_part en kd scene _ _ _ _ _ _ step.2,
     owes en kd scene _ _ _ _ _ _ step.2 seen inv,
   )
 
+  -- the next step of a call keeps the invariant, where it has the fields of `Shows`
   pub of_step : Inv en kd scene → (start : QueueStart T) (flight : QueueFlight T)
       → span_of p scene.events ≡ Open (Queues start) (has_written c k p flight) → StepOf start flight
       → MovesOf start flight
   of_step inv start flight seen step =
-      alone inv _ _ _ _ _ _ seen step
+      alone inv _ _ _ _ _ seen step

@@ -1,4 +1,4 @@
--- What each step of a queue's call comes to, and each begin of one.
+-- Each step of a queue's call, and each begin of one, keeps the invariant.
 use Rattle.laws_queues.proofs.Names.{◌≡◌, ℕ, ◌-◌, ◌^◌, ◌<◌, ◌≤◌, false, Option, Some, None, option_map}
 use Rattle.laws_queues.proofs.Names.{List, [], ◌∷◌, ◌++◌, map, get_or, refl, sym, ap, subst, ◌∙◌}
 use Rattle.laws_queues.proofs.Names.{append-nil, OneWord, Len, Running, Begun, Start}
@@ -49,41 +49,39 @@ use Rattle.laws_queues.proofs.Ring.Pushes.{push_step}
 
 -- ---- one step of a call
 
-module _ {T : Type 0} (en : Coding T) (kd : QueueKind) (scene : Scene T kd) (small : scene.core.write < 2 ^ 64) (inv : Inv en kd scene) where
-  -- the step of a call on a role shows what a step should
+module _ {T : Type 0} {en : Coding T} {kd : QueueKind} {scene : Scene T kd} (small : scene.core.write < 2 ^ 64) (inv : Inv en kd scene) where
+  -- the step of a call on a role keeps the invariant: it keeps the invariant (`Shows`)
   role_step : (start : QueueStart T) (call : RoleCall) → RoleAt scene.roles scene.party start call → scene.steps ≤ 0
       → scene.backs ≡ 0 → IsCalm en kd scene scene.core.read → StepOf en kd scene start (Role call)
-  role_step AcquireProducer (Acquire run) at s backs_are_zero before =
-      subst (λ w. StepOf en kd scene AcquireProducer (acquire_of w)) (sym at) (acquires_producer en kd scene small s backs_are_zero inv before)
-  role_step ReleaseProducer (Release run) at s backs_are_zero before =
-      subst (λ w. StepOf en kd scene ReleaseProducer (release_of w)) (sym at.0) (releases_producer en kd scene small s backs_are_zero at.1 inv before)
-  role_step AcquireConsumer (Acquire run) at s backs_are_zero before =
-      subst (λ w. StepOf en kd scene AcquireConsumer (acquire_of w)) (sym at) (acquires_consumer en kd scene small s backs_are_zero inv before)
-  role_step ReleaseConsumer (Release run) at s backs_are_zero before =
-      subst (λ w. StepOf en kd scene ReleaseConsumer (release_of w)) (sym at.0) (releases_consumer en kd scene small s backs_are_zero at.1 inv before)
-  role_step HasProducer (Look run) at s backs_are_zero before =
-      subst (λ w. StepOf en kd scene HasProducer (look_of w)) (sym at) (looks_at_producer en kd scene small s backs_are_zero inv before)
-  role_step HasConsumer (Look run) at s backs_are_zero before =
-      subst (λ w. StepOf en kd scene HasConsumer (look_of w)) (sym at) (looks_at_consumer en kd scene small s backs_are_zero inv before)
-  role_step start call at s backs_are_zero before = absurd at
+  role_step AcquireProducer (Acquire run) at few_steps backs_are_zero before =
+      rw at (acquires_producer en scene small few_steps backs_are_zero inv before)
+  role_step ReleaseProducer (Release run) at few_steps backs_are_zero before =
+      rw at.0 (releases_producer en scene small few_steps backs_are_zero at.1 inv before)
+  role_step AcquireConsumer (Acquire run) at few_steps backs_are_zero before =
+      rw at (acquires_consumer en scene small few_steps backs_are_zero inv before)
+  role_step ReleaseConsumer (Release run) at few_steps backs_are_zero before =
+      rw at.0 (releases_consumer en scene small few_steps backs_are_zero at.1 inv before)
+  role_step HasProducer (Look run) at few_steps backs_are_zero before =
+      rw at (looks_at_producer en scene small few_steps backs_are_zero inv before)
+  role_step HasConsumer (Look run) at few_steps backs_are_zero before =
+      rw at (looks_at_consumer en scene small few_steps backs_are_zero inv before)
+  role_step start call at few_steps backs_are_zero before = absurd at
 
-  -- a step of a call that tells a length shows what a step should
+  -- a step of `len`, `is_empty` or `is_full` keeps the invariant (`Shows`)
   length_step : (start : QueueStart T) (which : LengthOf) (run : Running Len (Unit {0}) (Unit {0}))
       → LengthAt scene.capacity start which run.call.capacity
       → scene.steps ≤ number_of en (Length which run) scene.backs
       → KnowsLen scene.capacity scene.core scene.party scene.events scene.since scene.changes scene.backs run.call.stage
       → IsCalm en kd scene scene.core.read → StepOf en kd scene start (Length which run)
-  length_step starts.Len measures.Len run at s knows_len before =
-      subst (λ n. StepOf en kd scene starts.Len (Length measures.Len (len_at n run.call.stage)))
-      (sym at) (len_step en kd scene inv small before run.call.stage s knows_len)
-  length_step IsEmpty measures.IsEmpty run at s knows_len before =
-      subst (λ n. StepOf en kd scene IsEmpty (Length measures.IsEmpty (len_at n run.call.stage)))
-      (sym at) (is_empty_step en kd scene inv small before run.call.stage s knows_len)
-  length_step IsFull measures.IsFull run at s knows_len before =
-      subst (λ n. StepOf en kd scene IsFull (Length measures.IsFull (len_at n run.call.stage))) (sym at)
-      (is_full_step en kd scene inv small before run.call.stage s knows_len)
-  length_step start which call at s knows_len before = absurd at
+  length_step starts.Len measures.Len run at few_steps knows_len before =
+      rw at (len_step inv small before run.call.stage few_steps knows_len)
+  length_step IsEmpty measures.IsEmpty run at few_steps knows_len before =
+      rw at (is_empty_step inv small before run.call.stage few_steps knows_len)
+  length_step IsFull measures.IsFull run at few_steps knows_len before =
+      rw at (is_full_step inv small before run.call.stage few_steps knows_len)
+  length_step start which call at few_steps knows_len before = absurd at
 
+-- a push of a bounded queue that is to load the write position does not find the last
 abbrev IsFreshRing : {V R : Type 0} → ℕ → RingCall V R → Type 0
 IsFreshRing write (rings.Push run) = IsFresh write run.call.stage
 IsFreshRing write other = Unit {0}
@@ -98,153 +96,157 @@ fresh_ring en write of_values (rings.Push run) is_fresh = is_fresh
 fresh_ring en write of_values (rings.Pop run) is_fresh = tt
 fresh_ring en write of_values (rings.Peek run) is_fresh = tt
 
--- a bounded queue of either kind
+-- Calls of a bounded queue of either kind: the index queue or the queue of values.
 module _ {T : Type 0} (en : Coding T) (law : IsCoding en) (r : Ring) (scene : Scene T (kind_of r))
-    (small : scene.core.write < 2 ^ 64) (inv : Inv en (kind_of r) scene) (b : scene.backs ≡ 0)
+    (small : scene.core.write < 2 ^ 64) (inv : Inv en (kind_of r) scene) (no_backs : scene.backs ≡ 0)
     (before : IsCalm en (kind_of r) scene scene.core.read) where
+  -- the words of the queue before the step
   abbrev words : List ℕ
   words = layout scene.roles scene.core
 
+  -- the next step of this call keeps the invariant (`Shows`)
   abbrev RingStep : QueueStart T → RingCall (Val T (kind_of r)) (Room r) → Type 0
   RingStep start call =
       DoesStep en (kind_of r) scene [] start (ask_of (ring_want en r call)) false
       (ring_after en r call (old_of words (ask_of (ring_want en r call)))) (ring_effect en r call)
 
-  -- a step of a push of a bounded queue shows what a step should
+  -- a step of a bounded queue's push keeps the invariant (`Shows`)
   push_call : (v : Val T (kind_of r)) (call : RingCall (Val T (kind_of r)) (Room r))
       → PushAt (encoded en (kind_of r)) (words_in r) scene.capacity scene.roles scene.core scene.party v call
       → scene.steps ≤ ring_number (encoded en (kind_of r)) (words_in r) call → IsFreshRing scene.core.write call → RingStep (ring.push r v) call
-  push_call v (rings.Push run) at s fresh =
-      subst (λ n. RingStep (ring.push r v) (push_at n run.given run.call.stage)) (sym at.1)
-      (subst (λ n. RingStep (ring.push r v) (push_at scene.capacity n run.call.stage)) (sym at.2)
-      (push_step en r law scene inv small before v at.0 b run.call.stage fresh at.3 s))
-  push_call v (rings.Pop run) at s fresh = absurd at
-  push_call v (rings.Peek run) at s fresh = absurd at
+  push_call v (rings.Push run) at few_steps fresh =
+      rw (at.1, at.2) (push_step r law inv small before v at.0 no_backs run.call.stage fresh at.3 few_steps)
+  push_call v (rings.Pop run) at few_steps fresh = absurd at
+  push_call v (rings.Peek run) at few_steps fresh = absurd at
 
-  -- a step of a pop of a bounded queue shows what a step should
+  -- a step of a bounded queue's pop keeps the invariant (`Shows`)
   pop_call : (call : RingCall (Val T (kind_of r)) (Room r))
       → PopAt (encoded en (kind_of r)) (words_in r) scene.capacity scene.roles scene.core scene.party call
       → scene.steps ≤ ring_number (encoded en (kind_of r)) (words_in r) call → RingStep Pop call
-  pop_call (rings.Push run) at s = absurd at
-  pop_call (rings.Pop run) at s =
-      subst (λ n. RingStep Pop (pop_at n run.room run.call.stage)) (sym at.1) (pop_step en r law scene inv small before run.room at.0 b run.call.stage at.2 s)
-  pop_call (rings.Peek run) at s = absurd at
+  pop_call (rings.Push run) at few_steps = absurd at
+  pop_call (rings.Pop run) at few_steps =
+      rw at.1 (pop_step r law inv small before run.room at.0 no_backs run.call.stage at.2 few_steps)
+  pop_call (rings.Peek run) at few_steps = absurd at
 
-  -- a step of a peek of a bounded queue shows what a step should
+  -- a step of a bounded queue's peek keeps the invariant (`Shows`)
   peek_call : (call : RingCall (Val T (kind_of r)) (Room r))
       → PeekAt (encoded en (kind_of r)) (words_in r) scene.capacity scene.roles scene.core scene.party call
       → scene.steps ≤ ring_number (encoded en (kind_of r)) (words_in r) call → RingStep Peek call
-  peek_call (rings.Push run) at s = absurd at
-  peek_call (rings.Pop run) at s = absurd at
-  peek_call (rings.Peek run) at s =
-      subst (λ n. RingStep Peek (peek_at n run.room run.call.stage)) (sym at.1)
-      (peek_step en r law scene inv small before run.room at.0 b run.call.stage at.2 s)
+  peek_call (rings.Push run) at few_steps = absurd at
+  peek_call (rings.Pop run) at few_steps = absurd at
+  peek_call (rings.Peek run) at few_steps =
+      rw at.1 (peek_step r law inv small before run.room at.0 no_backs run.call.stage at.2 few_steps)
 
-module _ {T : Type 0} (en : Coding T) (law : IsCoding en) where
-  -- a step of a push, pop or peek of the index queue shows what a step should
+module _ {T : Type 0} {en : Coding T} (law : IsCoding en) where
+  -- a step of a push, pop or peek of the index queue keeps the invariant (`Shows`)
   index_step : (scene : Scene T IndexQueue) → scene.core.write < 2 ^ 64 → Inv en IndexQueue scene
       → (start : QueueStart T) (call : RingCall ℕ OneWord)
       → IndexAt IndexQueue scene.capacity scene.roles scene.core scene.party start call
       → IsFreshRing scene.core.write call → scene.steps ≤ ring_number one_word in_one call → scene.backs ≡ 0
       → IsCalm en IndexQueue scene scene.core.read → StepOf en IndexQueue scene start (Indices call)
-  index_step scene small inv (PushIndex v) (rings.Push run) at fresh s backs_are_zero before =
-      push_call en law of_indices scene small inv backs_are_zero before v (rings.Push run) at s fresh
-  index_step scene small inv Pop (rings.Pop run) at fresh s backs_are_zero before =
-      pop_call en law of_indices scene small inv backs_are_zero before (rings.Pop run) at s
-  index_step scene small inv Peek (rings.Peek run) at fresh s backs_are_zero before =
-      peek_call en law of_indices scene small inv backs_are_zero before (rings.Peek run) at s
-  index_step scene small inv start call at fresh s backs_are_zero before = absurd at
+  index_step scene small inv (PushIndex v) (rings.Push run) at fresh few_steps backs_are_zero before =
+      push_call en law of_indices scene small inv backs_are_zero before v (rings.Push run) at few_steps fresh
+  index_step scene small inv Pop (rings.Pop run) at fresh few_steps backs_are_zero before =
+      pop_call en law of_indices scene small inv backs_are_zero before (rings.Pop run) at few_steps
+  index_step scene small inv Peek (rings.Peek run) at fresh few_steps backs_are_zero before =
+      peek_call en law of_indices scene small inv backs_are_zero before (rings.Peek run) at few_steps
+  index_step scene small inv start call at fresh few_steps backs_are_zero before = absurd at
 
-  -- so does a step of a push, pop or peek of the queue of values
+  -- a step of a push, pop or peek of the queue of values keeps the invariant (`Shows`)
   value_step : (scene : Scene T kinds.Queue) → scene.core.write < 2 ^ 64
       → Inv en kinds.Queue scene → (start : QueueStart T) (call : RingCall T (cells.Buffer 128))
       → ValueAt en kinds.Queue scene.capacity scene.roles scene.core scene.party start call
       → IsFreshRing scene.core.write call → scene.steps ≤ ring_number en in_cell call → scene.backs ≡ 0
       → IsCalm en kinds.Queue scene scene.core.read
       → StepOf en kinds.Queue scene start (Values call)
-  value_step scene small inv (Push v) (rings.Push run) at fresh s backs_are_zero before =
-      push_call en law of_values scene small inv backs_are_zero before v (rings.Push run) at s fresh
-  value_step scene small inv Pop (rings.Pop run) at fresh s backs_are_zero before =
-      pop_call en law of_values scene small inv backs_are_zero before (rings.Pop run) at s
-  value_step scene small inv Peek (rings.Peek run) at fresh s backs_are_zero before =
-      peek_call en law of_values scene small inv backs_are_zero before (rings.Peek run) at s
-  value_step scene small inv start call at fresh s backs_are_zero before = absurd at
+  value_step scene small inv (Push v) (rings.Push run) at fresh few_steps backs_are_zero before =
+      push_call en law of_values scene small inv backs_are_zero before v (rings.Push run) at few_steps fresh
+  value_step scene small inv Pop (rings.Pop run) at fresh few_steps backs_are_zero before =
+      pop_call en law of_values scene small inv backs_are_zero before (rings.Pop run) at few_steps
+  value_step scene small inv Peek (rings.Peek run) at fresh few_steps backs_are_zero before =
+      peek_call en law of_values scene small inv backs_are_zero before (rings.Peek run) at few_steps
+  value_step scene small inv start call at fresh few_steps backs_are_zero before = absurd at
 
--- where the party's call stands
+-- the party has this call under way, and its span has this begin and what the call has written
 abbrev IsCall : {T : Type 0} → {kd : QueueKind} → Scene T kd → QueueStart T → QueueFlight T → Type 0
 IsCall scene start flight =
     (flight_of (doing_of (party_of scene.party scene.latest)) ≡ Some (flights.Queues flight))
     × (span_of scene.party scene.events ≡ Open (Queues start) (has_written scene.capacity scene.core scene.party flight))
 
 module _ {T : Type 0} (en : Coding T) (scene : Scene T kinds.Overflow) (small : scene.core.write < 2 ^ 64) where
+  -- if this is the party's call under way, its next step keeps the invariant
   abbrev MovesFrom : QueueStart T → OverflowCall → Type 0
   MovesFrom start call = IsCall scene start (Overflow call) → MovesOf en kinds.Overflow scene start (Overflow call)
 
-  -- a step of a push or a pop of the overflowing queue comes to what a step should
+  -- a step of a push or a pop of the overflowing queue keeps the invariant
   overflow_step : Inv en kinds.Overflow scene → (start : QueueStart T) (call : OverflowCall)
       → OverflowAt scene.capacity scene.roles scene.core scene.party start call
       → scene.steps ≤ number_of en (Overflow call) scene.backs
       → KnowsFlight scene.capacity scene.core scene.party scene.events scene.since scene.changes scene.backs (Overflow call)
       → IsFreshAt {T = T} scene.core.write (Overflow call) → MovesFrom start call
-  overflow_step inv (PushIndex v) (overflows.Push run) at s b fresh is =
+  overflow_step inv (PushIndex v) (overflows.Push run) at few_steps knows_flight fresh is =
       subst (λ n. MovesFrom (PushIndex v) (overflow_push_at n run.given run.room run.call.stage)) (sym at.1)
-      (subst (λ n. MovesFrom (PushIndex v) (overflow_push_at scene.capacity n run.room run.call.stage)) (sym at.2)
-      (λ is. overflow_push_step en scene inv small v run.room at.0 b run.call.stage fresh at.3 s is.0 is.1))
+      (rw at.2 (λ is. overflow_push_step inv small v run.room at.0 knows_flight run.call.stage fresh at.3 few_steps is.0 is.1))
       is
-  overflow_step inv Pop (overflows.Pop run) at s b fresh is =
+  overflow_step inv Pop (overflows.Pop run) at few_steps knows_flight fresh is =
       subst (λ n. MovesFrom Pop (overflow_pop_at n run.room run.call.stage)) (sym at.1)
-      (λ is. overflow_pop_step en scene inv small run.room at.0 run.call.stage at.2 s b is.0 is.1) is
-  overflow_step inv start call at s b fresh is = absurd at
+      (λ is. overflow_pop_step inv small run.room at.0 run.call.stage at.2 few_steps knows_flight is.0 is.1) is
+  overflow_step inv start call at few_steps knows_flight fresh is = absurd at
 
-module _ {T : Type 0} (en : Coding T) (law : IsCoding en) where
-  -- a step of any call of a queue comes to what a step should, where the call stands and knows what it should
+module _ {T : Type 0} {en : Coding T} (law : IsCoding en) where
+  -- the next step of any call of a queue keeps the invariant, where the call stands at its stage, knows
+  -- what the stage says, and finds no last position
   pub step_moves : (kd : QueueKind) (scene : Scene T kd) → scene.core.write < 2 ^ 64 → Inv en kd scene
       → (start : QueueStart T) (flight : QueueFlight T)
       → At en kd scene.capacity scene.roles scene.core scene.party start flight
       → scene.steps ≤ number_of en flight scene.backs
       → KnowsFlight scene.capacity scene.core scene.party scene.events scene.since scene.changes scene.backs flight
       → IsFreshAt scene.core.write flight → IsCall scene start flight → MovesOf en kd scene start flight
-  step_moves kd scene small inv start (Role call) at s knows_flight fresh is =
-      of_step en kd scene inv start (Role call) is.1 (role_step en kd scene small inv start call at s knows_flight (ap (pending_at scene.core.read) is.0))
-  step_moves IndexQueue scene small inv start (Indices call) at s knows_flight fresh is =
-      of_step en IndexQueue scene inv start (Indices call) is.1
-      (index_step en law scene small inv start call at (fresh_ring en scene.core.write of_indices call fresh) s knows_flight
-      (ap (pending_at scene.core.read) is.0))
-  step_moves kinds.Overflow scene small inv start (Indices call) at s knows_flight fresh is = absurd at
-  step_moves kinds.Queue scene small inv start (Indices call) at s knows_flight fresh is = absurd at
-  step_moves IndexQueue scene small inv start (Values call) at s knows_flight fresh is = absurd at
-  step_moves kinds.Overflow scene small inv start (Values call) at s knows_flight fresh is = absurd at
-  step_moves kinds.Queue scene small inv start (Values call) at s knows_flight fresh is =
-      of_step en kinds.Queue scene inv start (Values call) is.1
-      (value_step en law scene small inv start call at (fresh_ring en scene.core.write of_values call fresh) s knows_flight
-      (ap (pending_at scene.core.read) is.0))
-  step_moves IndexQueue scene small inv start (Overflow call) at s knows_flight fresh is = absurd at
-  step_moves kinds.Overflow scene small inv start (Overflow call) at s knows_flight fresh is =
-      overflow_step en scene small inv start call at s knows_flight fresh is
-  step_moves kinds.Queue scene small inv start (Overflow call) at s knows_flight fresh is = absurd at
-  step_moves kd scene small inv start (Length which call) at s knows_flight fresh is =
-      of_step en kd scene inv start (Length which call) is.1
-      (length_step en kd scene small inv start which call at s knows_flight (ap (pending_at scene.core.read) is.0))
+  step_moves kd scene small inv start (Role call) at few_steps knows_flight fresh is_call =
+      of_step en kd scene inv start (Role call) is_call.1
+      (role_step small inv start call at few_steps knows_flight (ap (pending_at scene.core.read) is_call.0))
+  step_moves IndexQueue scene small inv start (Indices call) at few_steps knows_flight fresh is_call =
+      of_step en IndexQueue scene inv start (Indices call) is_call.1
+      (index_step law scene small inv start call at (fresh_ring en scene.core.write of_indices call fresh) few_steps knows_flight
+      (ap (pending_at scene.core.read) is_call.0))
+  step_moves kinds.Overflow scene small inv start (Indices call) at few_steps knows_flight fresh is_call = absurd at
+  step_moves kinds.Queue scene small inv start (Indices call) at few_steps knows_flight fresh is_call = absurd at
+  step_moves IndexQueue scene small inv start (Values call) at few_steps knows_flight fresh is_call = absurd at
+  step_moves kinds.Overflow scene small inv start (Values call) at few_steps knows_flight fresh is_call = absurd at
+  step_moves kinds.Queue scene small inv start (Values call) at few_steps knows_flight fresh is_call =
+      of_step en kinds.Queue scene inv start (Values call) is_call.1
+      (value_step law scene small inv start call at (fresh_ring en scene.core.write of_values call fresh) few_steps knows_flight
+      (ap (pending_at scene.core.read) is_call.0))
+  step_moves IndexQueue scene small inv start (Overflow call) at few_steps knows_flight fresh is_call = absurd at
+  step_moves kinds.Overflow scene small inv start (Overflow call) at few_steps knows_flight fresh is_call =
+      overflow_step en scene small inv start call at few_steps knows_flight fresh is_call
+  step_moves kinds.Queue scene small inv start (Overflow call) at few_steps knows_flight fresh is_call = absurd at
+  step_moves kd scene small inv start (Length which call) at few_steps knows_flight fresh is_call =
+      of_step en kd scene inv start (Length which call) is_call.1
+      (length_step small inv start which call at few_steps knows_flight (ap (pending_at scene.core.read) is_call.0))
 
--- ---- what a turn comes to
+-- ---- a turn of the machine
 
+-- a begin leads to the first stage of its call
 call_is : {T : Type 0} (kd : QueueKind) (c : ℕ) (start : QueueStart T) → call_of (machine_kind kd) c start ≡ first kd c start
 call_is = grind arith
 
+-- where the call wrapped as one of a machine is this call, the call itself is
 some_mapped : {T : Type 0} → (o : Option (QueueFlight T)) (flight : QueueFlight T)
     → option_map flights.Queues o ≡ Some (flights.Queues flight) → o ≡ Some flight
 some_mapped = grind arith
 
 module _ {T : Type 0} (en : Coding T) (kd : QueueKind) (c : ℕ) (t : Trace T) (s : frame.Sound (family en kd c) t) where
+  -- word 0 is the write position
   pub write_is : get_or t.world.words 0 0 ≡ s.state.core.write
   write_is = ap (λ ws. get_or ws 0 0) s.fit.words
 
-  -- few turns are few positions
+  -- while fewer than 2 ^ 64 - 2 turns were taken, no push finds the last position
   pub few_turns : t.world.turns < 2 ^ 64 - 2 → (p : ℕ) → IsFreshTurn t (Next p)
   few_turns = grind arith
 
-module _ {T : Type 0} (en : Coding T) (law : IsCoding en) (kd : QueueKind) (c : ℕ) (t : Trace T) (s : frame.Sound (family en kd c) t) (p : ℕ) where
-  -- what the machine is as the party steps
+module _ {T : Type 0} {en : Coding T} (law : IsCoding en) (kd : QueueKind) (c : ℕ) {t : Trace T} (s : frame.Sound (family en kd c) t) (p : ℕ) where
+  -- the scene of the party's step: the queue, the party's call, and the machine around it
   abbrev pub scene_of : Party T → ℕ → Scene T kd
   scene_of x since =
       record {
@@ -261,40 +263,40 @@ module _ {T : Type 0} (en : Coding T) (law : IsCoding en) (kd : QueueKind) (c : 
         turns = t.world.turns;
       }
 
+  -- the invariant holds before the step
   pub inv_of : (x : Party T) (since : ℕ) → Inv en kd (scene_of x since)
   inv_of x since = record { queue = s.holds; frame = s.inv }
 
   module _ (x : Party T) (since : ℕ) where
-    -- what its step comes to where the words, what is kept, and the call's name are these
-    pub comes : IsFreshTurn t (Next p) → (start : Start T) (flight : Flight T)
+    -- the step of the party's call leaves a machine with the invariant, where the call stands in the machine
+    pub comes : IsFreshTurn t (Next p) → {start : Start T} {flight : Flight T}
         → StandsThere (family en kd c) t s p x since start flight
         → ComesFrom (family en kd c) t s p x since en (layout s.state.roles s.state.core)
         (registries.Queues s.state.roles) start flight
-    comes fresh (Queues start) (flights.Queues flight) here =
+    comes fresh {start = (Queues start)} {flight = (flights.Queues flight)} here =
         let moves =
-        step_moves en law kd (scene_of x since) s.holds.within (inv_of x since) start flight here.at here.steps
+        step_moves law kd (scene_of x since) s.holds.within (inv_of x since) start flight here.at here.steps
         here.knows
-        (subst (λ n. IsFreshAt n flight) (write_is en kd c t s)
-        (fresh_there t.world.coding t.world.words flight (fresh (flights.Queues flight) here.found)))
+        (rw (← write_is en kd c t s) (fresh_there t.world.coding t.world.words flight (fresh (flights.Queues flight) here.found)))
         (here.found, here.span) in
         record {
           state = record { roles = _; core = moves.0 };
           fit = record { kept = refl; words = moves.1 };
-          holds = holds_more en kd (scene_of x since) _ moves.0 _ _ _ s.holds moves.2;
+          holds = holds_more en (scene_of x since) moves.0 s.holds moves.2;
           owes = moves.3;
         }
-    comes fresh start flight here = absurd here.at
+    comes fresh here = absurd here.at
 
   -- ---- a call begins
 
-  -- a begin whose first stage is right comes to what the frame asks of a begin
-  begins : (start : QueueStart T) (flight : QueueFlight T)
+  -- a begin whose call is at its first stage leaves a machine with the invariant
+  begins : {start : QueueStart T} {flight : QueueFlight T}
       → IsFirst en kd c s.state.roles s.state.core p (t.events ++ Begun p (Queues start) ∷ []) t.world.changes start flight
       → flight_of (doing_of (party_of p t.world.latest)) ≡ None
       → frame.Comes (family en kd c) t p (registries.Queues s.state.roles) (layout s.state.roles s.state.core)
       (party_at_begin (Queues start) (flights.Queues flight) t.world.changes)
       (Begun p (Queues start) ∷ []) t.world.changes
-  begins start flight first free =
+  begins {start} {flight} first free =
       let party_after : Party T = party_at_begin (Queues start) (flights.Queues flight) t.world.changes in
       let scene = scene_of party_after t.world.changes in
       let core_now = s.state.core in
@@ -303,9 +305,11 @@ module _ {T : Type 0} (en : Coding T) (law : IsCoding en) (kd : QueueKind) (c : 
       let low = s.holds.reached in
       let shows : Shows en kd scene s.state.roles core_now (span_of p t.events) party_after (Begun p (Queues start) ∷ []) t.world.changes =
       record {
+        -- the events that the step writes: each may follow in its span, and each tells the truth
         right = (tt, tt);
         lengths = (tt, tt);
         grants = (tt, tt);
+        -- the queue afterwards, and the list that its calls answer as
         good = s.holds.good;
         hangs =
             hangs_same T kd c core_now core_now _ _ refl (pending_put core_now.read pr p party_after t.world.latest first.calm before) s.holds.hangs;
@@ -320,6 +324,7 @@ module _ {T : Type 0} (en : Coding T) (law : IsCoding en) (kd : QueueKind) (c : 
         within = s.holds.within;
         own = (refl, tt);
         stands = (frame.shut (family en kd c) s.state p (party_of p t.world.latest) (span_of p t.events) free (s.inv.calls p), tt);
+        -- the party's call afterwards, and the calls of other parties
         here = record { span = ap (λ es. Open (Queues start) es) (sym first.wrote); steps = omega arith; at = first.at };
         knows = first.knows;
         others = λ q ne st f h. (h, refl);
@@ -328,24 +333,25 @@ module _ {T : Type 0} (en : Coding T) (law : IsCoding en) (kd : QueueKind) (c : 
       record {
         state = s.state;
         fit = record { kept = refl; words = refl };
-        holds = holds_more en kd scene _ _ _ _ _ s.holds (queue_part en kd scene _ _ _ _ _ _ shows);
+        holds = holds_more en scene _ s.holds (queue_part en kd scene _ _ _ _ _ _ shows);
         owes = owes en kd scene _ _ _ _ _ _ shows refl (inv_of party_after t.world.changes);
       }
 
-  -- a begin that the turns admit, and that no row refuses, comes to what the frame asks of a begin
-  pub begin_comes : (start : Start T) (flight : Flight T) → MayBegin t.world p start
+  -- a begin that the turns admit, and that no row refuses, leaves a machine with the invariant
+  pub begin_comes : {start : Start T} (flight : Flight T) → MayBegin t.world p start
       → first_of (machine_kind kd) c start (registries.Queues s.state.roles) ≡ Some flight
       → first_row ((begin_of (machine_kind kd) c start).rows (registries.Queues s.state.roles) p) ≡ None
       → frame.Comes (family en kd c) t p (kept_after_begin en c start p (registries.Queues s.state.roles))
       (layout s.state.roles s.state.core) (party_at_begin start flight t.world.changes) (Begun p start ∷ []) t.world.changes
-  begin_comes (Queues start) (flights.Queues flight) may e rows =
+  begin_comes {start = (Queues start)} (flights.Queues flight) may starts_at rows =
       let role = (row_passed (lacks_role s.state.roles p start) NoRole None rows).0 in
-      let called : first kd c start ≡ Some flight = sym (call_is kd c start) ∙ some_mapped (call_of (machine_kind kd) c start) flight e in
-      begins start flight (first_is en law c s.state.roles p (t.events ++ Begun p (Queues start) ∷ []) t.world.changes kd s.state.core
+      let called : first kd c start ≡ Some flight = sym (call_is kd c start) ∙ some_mapped (call_of (machine_kind kd) c start) flight starts_at in
+      begins (first_is law c s.state.roles p (t.events ++ Begun p (Queues start) ∷ []) t.world.changes kd s.state.core
       start flight called role)
       may.free
-  begin_comes start flight may e rows = grind arith
+  begin_comes flight may starts_at rows = grind arith
 
+-- no call of a queue asks a question
 pub no_question : {T : Type 0} → (en : Coding T) (kd : QueueKind) (c : ℕ) (s : Queue (Val T kd)) (p : ℕ) (start : Start T) (flight : Flight T)
     → (family en kd c).At s p start flight → is_question (want_of en flight) ≡ false
 no_question = grind arith

@@ -1,4 +1,5 @@
--- What a step of a push of a bounded queue keeps of what a pop or a peek knows, and one of a pop of what a push knows.
+-- A step of a bounded queue's push keeps what a pop or a peek knows, and a step of a pop
+-- keeps what a push knows.
 use Rattle.laws_queues.proofs.Names.{◌≡◌, ℕ, List, [], ◌∷◌, ◌++◌, refl, ap, Coding}
 use Rattle.std.proofs.Common.{arith}
 use Rattle.steps.specs.declared.queues.ring.PopStage.{PopStage}
@@ -15,7 +16,7 @@ module _ {V : Type 0} (en : Coding V) (c : ℕ) (k : Core V) where
       → KnowsPop en c (filled en.size en.words_of c k at word) room stage
   fill_keeps = grind arith
 
-  -- a store of the next write position keeps what a pop knows
+  -- a store of the next write position, which publishes a value, keeps what a pop knows
   pub publish_keeps : (w : V) (room : List ℕ) (stage : PopStage) → KnowsPop en c k room stage
       → KnowsPop en c (published en.size en.words_of c k w) room stage
   publish_keeps w room pops.LoadsRead knows_pop = knows_pop
@@ -32,12 +33,12 @@ module _ {V : Type 0} (en : Coding V) (c : ℕ) (k : Core V) where
   )
   publish_keeps w room (pops.StoresRead read) knows_pop = (knows_pop.0 ++ w ∷ [], knows_pop.1, ap (λ xs. xs ++ w ∷ []) knows_pop.2)
 
-  -- a store of the next read position keeps what a push knows
+  -- a store of the next read position, which takes the front value, keeps what a push knows
   pub take_keeps : (v : V) (rest : List V) → k.waiting ≡ v ∷ rest → (w : V) (stage : pushes.PushStage)
       → KnowsPush en c k w stage → KnowsPush en c (taken en.size en.words_of c k rest) w stage
   take_keeps = grind arith
 
-  -- what keeps all that a pop knows keeps what a peek knows
+  -- a change of the queue that keeps what a pop knows at each stage keeps what a peek knows
   pub peek_keeps : (k' : Core V) (room : List ℕ)
       → ((stage : PopStage) → KnowsPop en c k room stage → KnowsPop en c k' room stage)
       → (stage : PeekStage) → KnowsPeek en c k room stage → KnowsPeek en c k' room stage

@@ -1,4 +1,5 @@
--- The steps of a peek of a bounded queue: those of a pop without the last, which moves the read position.
+-- Each step of a bounded queue's peek keeps the invariant. They are the steps of a pop without the last,
+-- which moves the read position.
 use Rattle.laws_queues.proofs.Names.{◌≡◌, ℕ, ◌+◌, ◌^◌, ◌<◌, ◌≤◌, ◌==◌, nat_lt, Bool, true, false, ◌||◌, Option, Some}
 use Rattle.laws_queues.proofs.Names.{List, [], length, get_or, map, slice_get, refl, sym, ap, subst, ◌∙◌, set-get_or}
 use Rattle.laws_queues.proofs.Names.{nat_tests, Ask, Load, After, GoOn, Done, QueueFlight, RingCall, Quiet, Item}
@@ -20,10 +21,12 @@ use Rattle.laws_queues.proofs.Ring.Kinds.{peek_here, none_hangs, cells_are, answ
 use Rattle.laws_queues.proofs.Ring.Knows.{peek_at, KnowsPeek, peek_number}
 use Rattle.laws_queues.proofs.Ring.Words.{none_waits, some_waits, loads_more, loads_last}
 
-module _ {T : Type 0} (en : Coding T) (r : Ring) (law : IsCoding en) (scene : Scene T (kind_of r))
+-- The party `p` holds the consumer's role and has a peek under way. `c` is the capacity, `k` the queue
+-- before the step (positions, values that wait, cells).
+module _ {T : Type 0} {en : Coding T} (r : Ring) (law : IsCoding en) {scene : Scene T (kind_of r)}
     (inv : Inv en (kind_of r) scene) (small : scene.core.write < 2 ^ 64)
     (before : IsCalm en (kind_of r) scene scene.core.read) (room : Room r)
-    (holds : scene.roles.consumer ≡ Some scene.party) (b : scene.backs ≡ 0) where
+    (holds : scene.roles.consumer ≡ Some scene.party) (no_backs : scene.backs ≡ 0) where
   open scene use {capacity as c, roles as ro, core as k, party as p, steps, backs, since, changes, events}
 
   abbrev size : ℕ
@@ -35,47 +38,54 @@ module _ {T : Type 0} (en : Coding T) (r : Ring) (law : IsCoding en) (scene : Sc
   abbrev items : List (Val T (kind_of r)) → List (Item T)
   items xs = map (item (kind_of r)) xs
 
+  -- elements are coded as `IsCoding` asks
   lawful : IsCoding (encoded en (kind_of r))
   lawful = are_words en r law
 
-  g : Good size words_of c k
-  g = subst (λ n. Good size words_of n k) (cells_are r c) inv.queue.good
+  good_before : Good size words_of c k
+  good_before = rw (← cells_are r c) inv.queue.good
 
+  -- the capacity is below 2 ^ 32
   fits : c < 2 ^ 32
   fits = inv.queue.fits
 
+  -- the peek at a stage
   abbrev at : PeekStage → RingCall (Val T (kind_of r)) (Room r)
   at stage = peek_at c room stage
 
-  abbrev Does : Option Ask → After (QueueFlight T) (Answer T) → Type 0
-  Does ask after = DoesStep en (kind_of r) scene [] Peek ask false after Quiet
+  -- a step with this operation, after which the peek is `after`, keeps the
+  -- invariant (`Shows`, Queues/Invariant)
+  abbrev StepKeeps : Option Ask → After (QueueFlight T) (Answer T) → Type 0
+  StepKeeps ask after = DoesStep en (kind_of r) scene [] Peek ask false after Quiet
 
-  abbrev DoesOf : PeekStage → Type 0
-  DoesOf stage =
-      Does (ask_of (ring_want en r (at stage)))
+  -- the peek's step at this stage keeps the invariant (`Shows`)
+  abbrev StageKeeps : PeekStage → Type 0
+  StageKeeps stage =
+      StepKeeps (ask_of (ring_want en r (at stage)))
       (ring_after en r (at stage) (old_of (layout ro k) (ask_of (ring_want en r (at stage)))))
 
-  abbrev Knows : Room r → PeekStage → Type 0
-  Knows there stage = KnowsPeek (encoded en (kind_of r)) c k (words_in r there) stage
+  -- what the peek knows at this stage, with this room
+  abbrev PeekKnows : Room r → PeekStage → Type 0
+  PeekKnows there stage = KnowsPeek (encoded en (kind_of r)) c k (words_in r there) stage
 
-  -- a step after which the peek stands here with this room, and the queue is as it was
+  -- a step that leaves the queue as it is, after which the peek is at this stage with this room
   goes_on : (ask : Option Ask) (room' : Room r) (stage : PeekStage)
-      → words_after (layout ro k) ask ≡ layout ro k → Knows room' stage → steps + step_count ask ≤ peek_number size stage
-      → Does ask (GoOn (flight r (peek_at c room' stage)))
+      → words_after (layout ro k) ask ≡ layout ro k → PeekKnows room' stage → steps + step_count ask ≤ peek_number size stage
+      → StepKeeps ask (GoOn (flight r (peek_at c room' stage)))
   goes_on ask room' stage words known most =
       quiet en (kind_of r) scene inv small before false Peek ask (flight r (peek_at c room' stage)) k
       (calm T r k.read (peek_at c room' stage)) refl refl refl inv.queue.good words
       (record {
         span = ap (λ es. Open (Queues Peek) es) (sym (wrote_none r c k p (peek_at c room' stage)));
-        steps = subst (λ n. steps + step_count ask ≤ n) (sym (number en r (peek_at c room' stage) (backs + 0))) most;
+        steps = rw (number en r (peek_at c room' stage) (backs + 0)) most;
         at = peek_here en r c ro k p (peek_at c room' stage) (holds, refl, known);
       })
       (knows r c k p events (since + change_of (layout ro k) ask) (changes + change_of (layout ro k) ask) (backs + 0) (peek_at c room' stage) (omega arith))
       (λ q ne st f h. (h, refl))
 
-  -- a step with which it ends, and answers the oldest that waits
+  -- a step that ends the peek with the oldest value that waits, or None
   tells : (ask : Option Ask) (answer : Answer T) → words_after (layout ro k) ask ≡ layout ro k
-      → answer ≡ answer_of_item (slice_get (items k.waiting) 0) → steps + step_count ask ≤ 2 + size → Does ask (Done answer)
+      → answer ≡ answer_of_item (slice_get (items k.waiting) 0) → steps + step_count ask ≤ 2 + size → StepKeeps ask (Done answer)
   tells ask answer words right most = (
     k,
     words,
@@ -84,77 +94,83 @@ module _ {T : Type 0} (en : Coding T) (r : Ring) (law : IsCoding en) (scene : Sc
         (right ∙ ap (λ (xs : List (Item T)). answer_of_item (slice_get xs 0)) (sym (waiting_is events (items k.waiting) inv.queue.book)))
         tt
         (refl, refl)
-        (subst (λ n. steps + step_count ask ≤ n) (sym (most_peek en r (backs + 0))) most)
+        (rw (most_peek en r (backs + 0)) most)
         (omega arith)
         (none_hangs T r c k _)
         (λ q ne st f h. (h, refl)),
   )
 
-  loads_read : size ≤ length (words_in r room) → steps ≤ 0 → DoesOf peeks.LoadsRead
-  loads_read long s = goes_on (Some load_of_read) room (peeks.LoadsWrite k.read) refl (long, refl) (omega arith)
+  -- the load of the read position leads on to the load of the write position
+  loads_read : size ≤ length (words_in r room) → steps ≤ 0 → StageKeeps peeks.LoadsRead
+  loads_read long few_steps = goes_on (Some load_of_read) room (peeks.LoadsWrite k.read) refl (long, refl) (omega arith)
 
+  -- the stage at which the peek loads the word `i` of the cell
   abbrev loads_cell : ℕ → PeekStage
   loads_cell i = peeks.LoadsCell (cell_word c size k.read) i
 
-  -- the load of the write position does what a step should, where the room has place for the words of a value
-  loads_write : size ≤ length (words_in r room) → steps ≤ 1 → DoesOf (peeks.LoadsWrite k.read)
-  loads_write long s = go (c == 0 || k.write == k.read) refl
+  -- the load of the write position ends the peek with None where nothing waits, and else leads on to the cell
+  loads_write : size ≤ length (words_in r room) → steps ≤ 1 → StageKeeps (peeks.LoadsWrite k.read)
+  loads_write long few_steps = go (c == 0 || k.write == k.read) refl
     where
-      -- the cases are whether the queue has nothing to read
-      go : (t : Bool) → (c == 0 || k.write == k.read) ≡ t → DoesOf (peeks.LoadsWrite k.read)
+      -- the cases are whether nothing waits
+      go : (t : Bool) → (c == 0 || k.write == k.read) ≡ t → StageKeeps (peeks.LoadsWrite k.read)
+      -- nothing waits: the peek ends with None
       go true t =
           let goes : ring_after en r (at (peeks.LoadsWrite k.read)) k.write ≡ Done (answers.PoppedNone) = rw t refl in
-          let none = none_waits size words_of c k g t in
-          subst (λ a. Does (Some load_of_write) a) (sym goes)
-          (tells (Some load_of_write) answers.PoppedNone refl
+          let none = none_waits good_before t in
+          rw goes (tells (Some load_of_write) answers.PoppedNone refl
           (sym (ap (λ (xs : List (Val T (kind_of r))). answer_of_item {T = T} (slice_get (items xs) 0)) none)) (omega arith))
+      -- something waits: the peek goes on to load the first word of its value
       go false t =
           let goes : ring_after en r (at (peeks.LoadsWrite k.read)) k.write ≡ GoOn (flight r (at (loads_cell 0))) = rw t refl in
-          let first = first_of_some k.waiting (some_waits size words_of c k g t) in
+          let first = first_of_some k.waiting (some_waits good_before t) in
           let one = lawful.some in
-          let known : Knows room (loads_cell 0) =
+          let known : PeekKnows room (loads_cell 0) =
           (long, first.0, first.1, refl, first.2, refl, omega arith, λ i h. absurd (omega arith)) in
-          subst (λ a. Does (Some load_of_write) a) (sym goes) (goes_on (Some load_of_write) room (loads_cell 0) refl known (omega arith))
+          rw goes (goes_on (Some load_of_write) room (loads_cell 0) refl known (omega arith))
 
-  -- the words loaded so far are those of the front value
-  loads_word : (i : ℕ) → Knows room (loads_cell i) → steps ≤ 2 + i → DoesOf (loads_cell i)
-  loads_word i known s = go (nat_lt (i + 1) size) refl
+  -- the load of the `i`th word of the front value leads on to the next word, or ends the peek with the value
+  loads_word : (i : ℕ) → PeekKnows room (loads_cell i) → steps ≤ 2 + i → StageKeeps (loads_cell i)
+  loads_word i known few_steps = go (nat_lt (i + 1) size) refl
     where
+      -- the load of a word of the cell
       ask : Option Ask
       ask = Some (record { word = cell_asked size c k.read i; op = Load })
 
+      -- the word that the step loads
       old : ℕ
       old = get_or (layout ro k) (cell_asked size c k.read i) 0
 
+      -- the room with the loaded word in its place
       next : Room r
       next = with_word r room i old
 
+      -- a load of a word of the cell leaves the words as they are
       same : words_after (layout ro k) ask ≡ layout ro k
       same = set-get_or (layout ro k) (cell_asked size c k.read i) 0
 
       -- the cases are whether a further word of the value follows
-      go : (t : Bool) → nat_lt (i + 1) size ≡ t → DoesOf (loads_cell i)
+      go : (t : Bool) → nat_lt (i + 1) size ≡ t → StageKeeps (loads_cell i)
+      -- a further word follows: the peek goes on to load it
       go true t =
           let goes : ring_after en r (at (loads_cell i)) old ≡ GoOn (flight r (peek_at c next (loads_cell (i + 1)))) = rw t refl in
           let further : i + 1 < size = grind (arith, nat_tests) in
-          subst (λ a. Does ask a) (sym goes)
-          (goes_on ask next (loads_cell (i + 1)) same (loads_more en r law c ro k fits g room i known further) (omega arith))
+          rw goes (goes_on ask next (loads_cell (i + 1)) same (loads_more en r law c ro k fits good_before room i known further) (omega arith))
+      -- it was the last word: the peek ends with the front value
       go false t =
           let v : Val T (kind_of r) = read_in en r next in
           let goes : ring_after en r (at (loads_cell i)) old ≡ Done (got r v) = rw t refl in
           let below = known.6 in
           let last : size ≡ i + 1 = (let over : size ≤ i + 1 = grind (arith, nat_tests) in omega arith) in
-          let has = loads_last en r law c ro k fits g room i known last in
-          subst (λ a. Does ask a) (sym goes)
-          (tells ask (got r v) same
+          let has = loads_last en r law c ro k fits good_before room i known last in
+          rw goes (tells ask (got r v) same
           (sym (ap (λ (xs : List (Val T (kind_of r))). answer_of_item {T = T} (slice_get (items xs) 0)) has.2 ∙ answer_is r v))
           (omega arith))
 
-  -- each step of a peek does what a step should
-  pub peek_step : (stage : PeekStage) → Knows room stage → steps ≤ peek_number size stage → DoesOf stage
-  peek_step peeks.LoadsRead known s = loads_read known s
-  peek_step (peeks.LoadsWrite read) known s =
-      subst (λ q. DoesOf (peeks.LoadsWrite q)) (sym known.1) (loads_write known.0 s)
-  peek_step (peeks.LoadsCell cell i) known s =
-      subst (λ n. DoesOf (peeks.LoadsCell n i)) (sym known.5)
-      (loads_word i (known.0, known.1, known.2, refl, known.4, refl, known.6, known.7) s)
+  -- each step of a peek keeps the invariant (`Shows`)
+  pub peek_step : (stage : PeekStage) → PeekKnows room stage → steps ≤ peek_number size stage → StageKeeps stage
+  peek_step peeks.LoadsRead known few_steps = loads_read known few_steps
+  peek_step (peeks.LoadsWrite read) known few_steps =
+      rw known.1 (loads_write known.0 few_steps)
+  peek_step (peeks.LoadsCell cell i) known few_steps =
+      rw known.5 (loads_word i (known.0, known.1, known.2, refl, known.4, refl, known.6, known.7) few_steps)

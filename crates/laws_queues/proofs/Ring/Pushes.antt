@@ -1,4 +1,4 @@
--- The steps of a push of a bounded queue.
+-- Each step of a bounded queue's push keeps the invariant.
 use Rattle.laws_queues.proofs.Names.{◌≡◌, ◌≢◌, ℕ, ◌+◌, ◌-◌, ◌*◌, ◌%◌, ◌^◌, ◌<◌, ◌≤◌, ◌==◌, nat_lt, Bool, true, false}
 use Rattle.laws_queues.proofs.Names.{◌||◌, Option, Some, List, [], ◌∷◌, ◌++◌, length, get_or, map, refl, sym, ap}
 use Rattle.laws_queues.proofs.Names.{subst, ◌∙◌, append-nil, nat_tests, map-append, length-map, Ask, Store, After}
@@ -26,10 +26,12 @@ use Rattle.laws_queues.proofs.Ring.Kinds.{false_is_right, true_is_right, named, 
 use Rattle.laws_queues.proofs.Ring.Keeping.{fill_keeps, publish_keeps}
 use Rattle.laws_queues.proofs.Ring.Knows.{push_at, IsFresh, KnowsPush, push_number}
 
-module _ {T : Type 0} (en : Coding T) (r : Ring) (law : IsCoding en) (scene : Scene T (kind_of r))
+-- The party `p` holds the producer's role and pushes `v`. `c` is the capacity, `k` the queue before the
+-- step (positions, values that wait, cells).
+module _ {T : Type 0} {en : Coding T} (r : Ring) (law : IsCoding en) {scene : Scene T (kind_of r)}
     (inv : Inv en (kind_of r) scene) (small : scene.core.write < 2 ^ 64)
     (before : IsCalm en (kind_of r) scene scene.core.read) (v : Val T (kind_of r))
-    (holds : scene.roles.producer ≡ Some scene.party) (b : scene.backs ≡ 0) where
+    (holds : scene.roles.producer ≡ Some scene.party) (no_backs : scene.backs ≡ 0) where
   open scene use {capacity as c, roles as ro, core as k, party as p, steps, backs, since, changes, events}
 
   abbrev size : ℕ
@@ -41,72 +43,82 @@ module _ {T : Type 0} (en : Coding T) (r : Ring) (law : IsCoding en) (scene : Sc
   abbrev items : List (Val T (kind_of r)) → List (Item T)
   items xs = map (item (kind_of r)) xs
 
+  -- elements are coded as `IsCoding` asks
   lawful : IsCoding (encoded en (kind_of r))
   lawful = are_words en r law
 
-  g : Good size words_of c k
-  g = subst (λ n. Good size words_of n k) (cells_are r c) inv.queue.good
+  good_before : Good size words_of c k
+  good_before = rw (← cells_are r c) inv.queue.good
 
+  -- the capacity is below 2 ^ 32
   fits : c < 2 ^ 32
   fits = inv.queue.fits
 
+  -- what was published is what was handed out and what waits
   book : published events ≡ handed_out events ++ items k.waiting
   book = inv.queue.book
 
+  -- the push of `v` at a stage
   abbrev at : PushStage → RingCall (Val T (kind_of r)) (Room r)
   at stage = push_at c v stage
 
-  abbrev Does : Option Ask → After (QueueFlight T) (Answer T) → Effect T → Type 0
-  Does ask after effect = DoesStep en (kind_of r) scene [] (push r v) ask false after effect
+  -- a step with this operation, after which the push is `after`, keeps the
+  -- invariant (`Shows`, Queues/Invariant)
+  abbrev StepKeeps : Option Ask → After (QueueFlight T) (Answer T) → Effect T → Type 0
+  StepKeeps ask after effect = DoesStep en (kind_of r) scene [] (push r v) ask false after effect
 
   -- a push leaves the roles as they are
   stays : (ask : Option Ask) (after : After (QueueFlight T) (Answer T)) (effect : Effect T)
-      → Leaves en (kind_of r) scene ro [] (push r v) ask false after effect → Does ask after effect
+      → Leaves en (kind_of r) scene ro [] (push r v) ask false after effect → StepKeeps ask after effect
   stays = grind (arith, push, false, push_roles)
 
-  abbrev DoesOf : PushStage → Type 0
-  DoesOf stage =
-      Does (ask_of (ring_want en r (at stage)))
+  -- the push's step at this stage keeps the invariant (`Shows`)
+  abbrev StageKeeps : PushStage → Type 0
+  StageKeeps stage =
+      StepKeeps (ask_of (ring_want en r (at stage)))
       (ring_after en r (at stage) (old_of (layout ro k) (ask_of (ring_want en r (at stage)))))
       (ring_effect en r (at stage))
 
-  -- a step after which the push stands here, and of the queue at most the cells have changed
-  goes_on : (ask : Option Ask) (stage : PushStage) (k' : Core (Val T (kind_of r))) → k'.waiting ≡ k.waiting
+  -- a step that changes at most the cells of the queue, after which the push is at this stage
+  goes_on : (ask : Option Ask) (stage : PushStage) {k' : Core (Val T (kind_of r))} → k'.waiting ≡ k.waiting
       → k'.write ≡ k.write → k'.read ≡ k.read → Good size words_of c k' → words_after (layout ro k) ask ≡ layout ro k'
       → KnowsPush (encoded en (kind_of r)) c k' v stage → steps + step_count ask ≤ push_number size stage
       → ((q : ℕ) → q ≢ p → (s : QueueStart T) (f : QueueFlight T) → At en (kind_of r) c ro k q s f
       → At en (kind_of r) c ro k' q s f × (has_written {T = T} c k' q f ≡ has_written c k q f))
-      → Does ask (GoOn (flight r (at stage))) Quiet
-  goes_on ask stage k' waits write read good words known most others =
+      → StepKeeps ask (GoOn (flight r (at stage))) Quiet
+  goes_on ask stage {k'} waits write read good words known most others =
       stays ask (GoOn (flight r (at stage))) Quiet
       (quiet en (kind_of r) scene inv small before false (push r v) ask (flight r (at stage)) k'
       (calm T r k.read (at stage)) waits write read
-      (subst (λ n. Good size words_of n k') (sym (cells_are r c)) good) words
+      (rw (cells_are r c) good) words
       (record {
         span = ap (λ es. Open (Queues (push r v)) es) (sym (wrote_none r c k' p (at stage)));
-        steps = subst (λ n. steps + step_count ask ≤ n) (sym (number en r (at stage) (backs + 0))) most;
+        steps = rw (number en r (at stage) (backs + 0)) most;
         at = push_here en r c ro k' p v (at stage) (holds, refl, refl, known);
       })
       (knows r c k' p events (since + change_of (layout ro k) ask) (changes + change_of (layout ro k) ask) (backs + 0) (at stage) (omega arith))
       others)
 
-  -- the load of the write position does what a step should
-  loads_write : k.write < 2 ^ 64 - 1 → steps ≤ 0 → DoesOf pushes.LoadsWrite
-  loads_write fresh s =
+  -- the load of the write position leads on to the load of the read position, as the write
+  -- position is not the last
+  loads_write : k.write < 2 ^ 64 - 1 → steps ≤ 0 → StageKeeps pushes.LoadsWrite
+  loads_write fresh few_steps =
       let not_last : (k.write == 2 ^ 64 - 1) ≡ false = grind (arith, nat_tests) in
       let goes : ring_after en r (at pushes.LoadsWrite) k.write ≡ GoOn (flight r (at (pushes.LoadsRead k.write))) = rw not_last refl in
-      subst (λ a. Does (Some load_of_write) a Quiet) (sym goes)
-      (goes_on (Some load_of_write) (pushes.LoadsRead k.write) k refl refl refl g refl (refl, fresh) (omega arith) (λ q ne st f h. (h, refl)))
+      rw goes
+      (goes_on (Some load_of_write) (pushes.LoadsRead k.write) refl refl refl good_before refl (refl, fresh) (omega arith) (λ q ne st f h. (h, refl)))
 
+  -- where the positions are the capacity apart, as many values wait as the capacity
   full : (c == 0 || distance k.write k.read == c) ≡ true → length k.waiting ≡ c
   full = grind arith
 
+  -- where they are not, fewer values wait than the capacity
   room : (c == 0 || distance k.write k.read == c) ≡ false → length k.waiting < c
   room = grind arith
 
-  -- the load of the read position ends the push with `false`, where the queue is full
-  refused : length k.waiting ≡ c → steps ≤ 1 → Does (Some load_of_read) (Done (answers.Truth false)) Acts
-  refused lap s =
+  -- the load of the read position ends the push with false, where the queue is full
+  refused : length k.waiting ≡ c → steps ≤ 1 → StepKeeps (Some load_of_read) (Done (answers.Truth false)) Acts
+  refused lap few_steps =
       let reached = inv.queue.reached in
       let long : length (items k.waiting) ≡ length k.waiting = length-map k.waiting (item (kind_of r)) in
       let not_below : nat_lt (length (items k.waiting)) c ≡ false = grind (arith, nat_tests) in
@@ -116,6 +128,7 @@ module _ {T : Type 0} (en : Coding T) (r : Ring) (law : IsCoding en) (scene : Sc
         k,
         refl,
         record {
+          -- the events that the step writes: each may follow in its span, and each tells the truth
           own = (refl, (refl, tt));
           stands = ((refl, refl), ((refl, wrote_false r c p v), tt));
           grants = (tt, (push_grants r c (events ++ Acted p (Queues (push r v)) (answers.Truth false) ∷ []) p v false, tt));
@@ -123,18 +136,20 @@ module _ {T : Type 0} (en : Coding T) (r : Ring) (law : IsCoding en) (scene : Sc
           consumers = push_consumer r c events p v false ro.consumer;
           right = (false_is_right r c events p v (ap length (waiting_is events (items k.waiting) book) ∙ (long ∙ lap)), (tt, tt));
           lengths = (tt, (push_tells r c (events ++ Acted p (Queues (push r v)) (answers.Truth false) ∷ []) p v false, tt));
+          -- the queue afterwards, and the list that its calls answer as
           good = inv.queue.good;
           hangs = none_hangs T r c k _;
           out = omega arith;
           book = append-nil (items k.waiting);
           goes = list_after_push r c k.waiting v ∙ (none ∙ sym (listed_is r c k.waiting));
           answers = list_answers_push r c k.waiting v ∙ ap (λ x. answers.Truth x ∷ []) not_below;
+          -- the party's call afterwards, and the calls of other parties
           here =
               record {
                 answer = answers.Truth false;
                 wrote = Acted p (Queues (push r v)) (answers.Truth false) ∷ [];
                 span = refl;
-                steps = subst (λ n. steps + 1 ≤ n) (sym most) (omega arith);
+                steps = rw most (omega arith);
               };
           knows = omega arith;
           up = record { write = omega arith; read = omega arith; paid = omega arith };
@@ -144,84 +159,95 @@ module _ {T : Type 0} (en : Coding T) (r : Ring) (law : IsCoding en) (scene : Sc
         },
       )
 
+  -- the stage at which the push stores the word `i` of its element
   abbrev stores_cell : ℕ → PushStage
   stores_cell i = pushes.StoresCell k.write (cell_word c size k.write) i
 
-  -- the load of the read position does what a step should, whether the queue is full or not
-  loads_read : k.write < 2 ^ 64 - 1 → steps ≤ 1 → DoesOf (pushes.LoadsRead k.write)
-  loads_read fresh s = go (c == 0 || distance k.write k.read == c) refl
+  -- the load of the read position ends the push with false where the queue is full, and else
+  -- leads on to the cell
+  loads_read : k.write < 2 ^ 64 - 1 → steps ≤ 1 → StageKeeps (pushes.LoadsRead k.write)
+  loads_read fresh few_steps = go (c == 0 || distance k.write k.read == c) refl
     where
       -- the cases are whether the queue is full
-      go : (t : Bool) → (c == 0 || distance k.write k.read == c) ≡ t → DoesOf (pushes.LoadsRead k.write)
+      go : (t : Bool) → (c == 0 || distance k.write k.read == c) ≡ t → StageKeeps (pushes.LoadsRead k.write)
+      -- the queue is full: the push ends with false
       go true t =
           let goes : ring_after en r (at (pushes.LoadsRead k.write)) k.read ≡ Done (answers.Truth false) = rw t refl in
-          subst (λ a. Does (Some load_of_read) a Acts) (sym goes) (refused (full t) s)
+          rw goes (refused (full t) few_steps)
+      -- there is room: the push goes on to store the first word of its value
       go false t =
           let goes : ring_after en r (at (pushes.LoadsRead k.write)) k.read ≡ GoOn (flight r (at (stores_cell 0))) = rw t refl in
           let some = lawful.some in
-          subst (λ a. Does (Some load_of_read) a Acts) (sym goes)
-          (goes_on (Some load_of_read) (stores_cell 0) k refl refl refl g refl
+          rw goes (goes_on (Some load_of_read) (stores_cell 0) refl refl refl good_before refl
           (refl, room t, refl, omega arith, (λ i h. absurd (omega arith)), fresh) (omega arith)
           (λ q ne st f h. (h, refl)))
 
-  -- the words stored so far are those of the value
-  stores_word : k.write < 2 ^ 64 - 1 → (i : ℕ) → length k.waiting < c → i < size
-      → Holds size words_of c k.cells k.write v i → steps ≤ 2 + i → DoesOf (stores_cell i)
-  stores_word fresh i room below so_far s = go (nat_lt (i + 1) size) refl
+  -- the store of the `i`th word of the value leads on to the next word, or to the store of the write position
+  stores_word : k.write < 2 ^ 64 - 1 → {i : ℕ} → length k.waiting < c → i < size
+      → Holds size words_of c k.cells k.write v i → steps ≤ 2 + i → StageKeeps (stores_cell i)
+  stores_word fresh {i} room below so_far few_steps = go (nat_lt (i + 1) size) refl
     where
+      -- the word of the element that the step stores
       word : ℕ
       word = get_or (words_of v) i 0
 
+      -- the store of this word into the cell
       ask : Option Ask
       ask = Some (record { word = cell_asked size c k.write i; op = Store word })
 
+      -- the queue with the word in its cell
       next : Core (Val T (kind_of r))
       next = filled size words_of c k i word
 
+      -- the queue with the word in its cell is right
       good : Good size words_of c next
-      good = fills size words_of c k i word room below g
+      good = fills size words_of c k i word room below good_before
 
+      -- the words after the store are those of the queue with the next word of the element in its cell
       words : words_after (layout ro k) ask ≡ layout ro next
       words =
           let few = lawful.few in
           let place = asked_place size c k.write i (omega arith) fits few below in
           set_at k.write k.read (free ro.producer) (free ro.consumer) k.cells (cell_asked size c k.write i) (size * (k.write % c) + i) word place
 
+      -- one more word of the element stands in the cell
       more : Holds size words_of c next.cells next.write v (i + 1)
-      more = one_filled size words_of c k v i room below g so_far
+      more = one_filled size words_of c k v i room below good_before so_far
 
-      -- the calls of the other parties stand where they stood, and have written the same, once the value waits
+      -- the calls of other parties stand where they stood, and have written the same, once the word is stored
       others : (q : ℕ) → q ≢ p → (st : QueueStart T) (f : QueueFlight T) → At en (kind_of r) c ro k q st f
           → At en (kind_of r) c ro next q st f × (has_written {T = T} c next q f ≡ has_written c k q f)
       others q ne =
-          kept ro ro q (λ h. h) (λ h. h) en c (kind_of r) k next (ring_keeps en r c ro k next q (record {
+          kept ro ro q (λ h. h) (λ h. h) en c (kind_of r) k next (ring_keeps en r (record {
             push = λ mine w stage h. absurd (clash ro.producer p q ne holds mine);
             pop = λ mine other stage h. fill_keeps (encoded en (kind_of r)) c k i word other stage h;
           }))
 
       -- the cases are whether a further word of the value follows
-      go : (t : Bool) → nat_lt (i + 1) size ≡ t → DoesOf (stores_cell i)
+      go : (t : Bool) → nat_lt (i + 1) size ≡ t → StageKeeps (stores_cell i)
+      -- a further word follows: the push goes on to store it
       go true t =
           let goes : ring_after en r (at (stores_cell i)) (get_or (layout ro k) (cell_asked size c k.write i) 0)
           ≡ GoOn (flight r (at (stores_cell (i + 1)))) =
           rw t refl in
           let further : i + 1 < size = grind (arith, nat_tests) in
-          subst (λ a. Does ask a Quiet) (sym goes)
-          (goes_on ask (stores_cell (i + 1)) next refl refl refl good words (refl, room, refl, further, more, fresh) (omega arith) others)
+          subst (λ a. StepKeeps ask a Quiet) (sym goes)
+          (goes_on ask (stores_cell (i + 1)) refl refl refl good words (refl, room, refl, further, more, fresh) (omega arith) others)
+      -- it was the last word: the push goes on to store the next write position
       go false t =
           let goes : ring_after en r (at (stores_cell i)) (get_or (layout ro k) (cell_asked size c k.write i) 0)
           ≡ GoOn (flight r (at (pushes.StoresWrite k.write))) =
           rw t refl in
           let last : size ≡ i + 1 = (let over : size ≤ i + 1 = grind (arith, nat_tests) in omega arith) in
-          subst (λ a. Does ask a Quiet) (sym goes)
-          (goes_on ask (pushes.StoresWrite k.write) next refl refl refl good words
+          subst (λ a. StepKeeps ask a Quiet) (sym goes)
+          (goes_on ask (pushes.StoresWrite k.write) refl refl refl good words
           (refl, room, subst (λ n. Holds size words_of c next.cells next.write v n) (sym last) more, fresh)
           (omega arith) others)
 
-  -- the store of the next write position ends the push, with its value behind those that waited
+  -- the store of the next write position ends the push with true, and its value waits behind the others
   stores_write : k.write < 2 ^ 64 - 1 → length k.waiting < c → Holds size words_of c k.cells k.write v size
-      → steps ≤ 2 + size → DoesOf (pushes.StoresWrite k.write)
-  stores_write fresh room whole s =
+      → steps ≤ 2 + size → StageKeeps (pushes.StoresWrite k.write)
+  stores_write fresh room whole few_steps =
       let reached = inv.queue.reached in
       let long : length (items k.waiting) ≡ length k.waiting = length-map k.waiting (item (kind_of r)) in
       let is_below : nat_lt (length (items k.waiting)) c ≡ true = grind (arith, nat_tests) in
@@ -237,8 +263,9 @@ module _ {T : Type 0} (en : Coding T) (r : Ring) (law : IsCoding en) (scene : Sc
         after,
         ap (λ n. n ∷ k.read ∷ free ro.producer ∷ free ro.consumer ∷ k.cells) next,
         record {
+          -- the events that the step writes: each may follow in its span, and each tells the truth
           own = (refl, (refl, (refl, tt)));
-          stands = ((named r v, refl), ((refl, refl), ((refl, wrote_true r c p v), tt)));
+          stands = ((named r v, refl), ((refl, refl), ((refl, wrote_true r p v), tt)));
           grants = (
             tt,
             (
@@ -266,23 +293,25 @@ module _ {T : Type 0} (en : Coding T) (r : Ring) (law : IsCoding en) (scene : Sc
               ),
             ),
           );
-          good = subst (λ n. Good size words_of n after) (sym (cells_are r c)) (publishes size words_of c k v room g whole);
+          -- the queue afterwards, and the list that its calls answer as
+          good = rw (cells_are r c) (publishes size words_of c k v room good_before whole);
           hangs = none_hangs T r c after _;
           out = omega arith;
           book = joined;
           goes = list_after_push r c k.waiting v ∙ (all ∙ sym (listed_is r c (k.waiting ++ v ∷ [])));
           answers = list_answers_push r c k.waiting v ∙ ap (λ x. answers.Truth x ∷ []) is_below;
+          -- the party's call afterwards, and the calls of other parties
           here =
               record {
                 answer = answers.Truth true;
                 wrote = Published p (item (kind_of r) v) ∷ Acted p (Queues (push r v)) (answers.Truth true) ∷ [];
                 span = refl;
-                steps = subst (λ n. steps + 1 ≤ n) (sym most) (omega arith);
+                steps = rw most (omega arith);
               };
           knows = omega arith;
           up = record { write = omega arith; read = omega arith; paid = omega arith };
           others =
-              λ q ne. kept ro ro q (λ h. h) (λ h. h) en c (kind_of r) k after (ring_keeps en r c ro k after q (record {
+              λ q ne. kept ro ro q (λ h. h) (λ h. h) en c (kind_of r) k after (ring_keeps en r (record {
                 push = λ mine w stage h. absurd (clash ro.producer p q ne holds mine);
                 pop = λ mine other stage h. publish_keeps (encoded en (kind_of r)) c k v other stage h;
               }));
@@ -291,14 +320,12 @@ module _ {T : Type 0} (en : Coding T) (r : Ring) (law : IsCoding en) (scene : Sc
         },
       )
 
-  -- each step of a push does what a step should
+  -- each step of a push keeps the invariant (`Shows`)
   pub push_step : (stage : PushStage) → IsFresh k.write stage
-      → KnowsPush (encoded en (kind_of r)) c k v stage → steps ≤ push_number size stage → DoesOf stage
-  push_step pushes.LoadsWrite fresh known s = loads_write fresh s
-  push_step (pushes.LoadsRead write) fresh known s = subst (λ w. DoesOf (pushes.LoadsRead w)) (sym known.0) (loads_read known.1 s)
-  push_step (pushes.StoresCell write cell i) fresh known s =
-      subst (λ w. DoesOf (pushes.StoresCell w cell i)) (sym known.0)
-      (subst (λ n. DoesOf (pushes.StoresCell k.write n i)) (sym known.2)
-      (stores_word known.5 i known.1 known.3 known.4 s))
-  push_step (pushes.StoresWrite write) fresh known s =
-      subst (λ w. DoesOf (pushes.StoresWrite w)) (sym known.0) (stores_write known.3 known.1 known.2 s)
+      → KnowsPush (encoded en (kind_of r)) c k v stage → steps ≤ push_number size stage → StageKeeps stage
+  push_step pushes.LoadsWrite fresh known few_steps = loads_write fresh few_steps
+  push_step (pushes.LoadsRead write) fresh known few_steps = rw known.0 (loads_read known.1 few_steps)
+  push_step (pushes.StoresCell write cell i) fresh known few_steps =
+      rw (known.0, known.2) (stores_word known.5 known.1 known.3 known.4 few_steps)
+  push_step (pushes.StoresWrite write) fresh known few_steps =
+      rw known.0 (stores_write known.3 known.1 known.2 few_steps)

@@ -21,13 +21,14 @@ module _ {T : Type 0} where
 
   pub same_entry : (m n p q : ℕ) (s t : Start T) (x y : Option (Response T)) (a b : Answer T) → m ≡ n → p ≡ q
       → s ≡ t → x ≡ y → a ≡ b → entry_at m p s x a ≡ entry_at n q t y b
-  same_entry m n p q s t x y a b e f g h i = rw (e, f, g, h, i) refl
+  same_entry m n p q s t x y a b same_place same_party same_start same_reply i = rw (same_place, same_party, same_start, same_reply, i) refl
 
   -- the parts of what is known, at None these
   abbrev pub name_in : Start T → Standing T → Start T
   name_in d None = d
   name_in d (Some x) = x.0
 
+  -- The answer with which a call under way has acted, if it has.
   abbrev pub acted_in : Option (Answer T) → Standing T → Option (Answer T)
   acted_in d None = d
   acted_in d (Some x) = x.1
@@ -35,13 +36,14 @@ module _ {T : Type 0} where
   abbrev pub under_way : Start T → Option (Answer T) → Standing T
   under_way start acted = Some (start, acted)
 
+  -- A call that has acted is not one that has not.
   pub acted_clash : (s t : Start T) (a : Answer T) → under_way s (Some a) ≡ under_way t None → ⊥
-  acted_clash s t a e =
-      let second : Some a ≡ None = ap (acted_in None) e in
+  acted_clash s t a same_standing =
+      let second : Some a ≡ None = ap (acted_in None) same_standing in
       cc
 
   pub none_clash : (x : Start T × Option (Answer T)) → None ≡ Some x → ⊥
-  none_clash x e = cc
+  none_clash x none_is = cc
 
   -- ---- responses
 
@@ -53,31 +55,34 @@ module _ {T : Type 0} where
       → response_in p (Finished q start answer ∷ es) place ≡ response_in p es (place + 1)
   passed p q start answer es place ne = let tests_apart : (q == p) ≡ false = grind (arith, nat_tests) in rw tests_apart refl
 
+  -- The party's next response is the end that comes first.
   pub responded : (p q : ℕ) (start : Start T) (answer : Answer T) (es : List (Event T)) (place : ℕ) → q ≡ p
       → response_in p (Finished q start answer ∷ es) place ≡ Some (response_at place answer)
-  responded p q start answer es place is = let tests_same : (q == p) ≡ true = grind (arith, nat_tests) in rw tests_same refl
+  responded p q start answer es place same_party = let tests_same : (q == p) ≡ true = grind (arith, nat_tests) in rw tests_same refl
 
+  -- The place of a response, if there is one.
   pub place_of : Response T → Option (Response T) → ℕ
   place_of d None = d.place
   place_of d (Some r) = r.place
 
   pub same_response : (r s : Response T) → Some r ≡ Some s → r ≡ s
-  same_response r s e = cc
+  same_response r s same = cc
 
   -- a response that comes in these events stands among them
   pub response_late : (p : ℕ) (es : List (Event T)) (place : ℕ) (r : Response T) → response_in p es place ≡ Some r → place ≤ r.place
-  response_late p [] place r e = absurd (cc)
-  response_late p (Finished q start answer ∷ es) place r e = ⊎_elim mine (theirs (response_late p es (place + 1) r)) (cases_eq q p)
+  response_late p [] place r responds = absurd (cc)
+  response_late p (Finished q start answer ∷ es) place r responds = ⊎_elim mine (theirs (response_late p es (place + 1) r)) (cases_eq q p)
     where
+      -- The case that the event is of the call's own party.
       mine : q ≡ p → place ≤ r.place
       mine is =
-          let same : response_at place answer ≡ r = same_response (response_at place answer) r (sym (responded p q start answer es place is) ∙ e) in
+          let same : response_at place answer ≡ r = same_response (response_at place answer) r (sym (responded p q start answer es place is) ∙ responds) in
           let at : place ≡ r.place = ap (λ (r : Response T). r.place) same in
           omega arith
 
       theirs : (response_in p es (place + 1) ≡ Some r → place + 1 ≤ r.place) → q ≢ p → place ≤ r.place
-      theirs more ne = omega (arith, more (sym (passed p q start answer es place ne) ∙ e))
-  response_late p (e ∷ es) place r h = omega (arith, response_late p es (place + 1) r h)
+      theirs more ne = omega (arith, more (sym (passed p q start answer es place ne) ∙ responds))
+  response_late p (e ∷ es) place r responds = omega (arith, response_late p es (place + 1) r responds)
 
   -- the calls that begin in these events stand among them
   pub calls_late : (es : List (Event T)) (place : ℕ) (c : Call T) → Contains (calls_from es place) c
@@ -87,10 +92,11 @@ module _ {T : Type 0} where
       ⊎_elim mine (theirs (calls_late es (place + 1) c))
       (split (call_at place p start (response_in p es (place + 1))) c (calls_from es (place + 1)) h)
     where
+      -- The case that the event begins this call.
       mine : call_at place p start (response_in p es (place + 1)) ≡ c → (place ≤ c.place) × ((r : Response T) → c.response ≡ Some r → place ≤ r.place)
-      mine is =
-          let at : place ≡ c.place = ap (λ (c : Call T). c.place) is in
-          let its : response_in p es (place + 1) ≡ c.response = ap (λ (c : Call T). c.response) is in
+      mine same_call =
+          let at : place ≡ c.place = ap (λ (c : Call T). c.place) same_call in
+          let its : response_in p es (place + 1) ≡ c.response = ap (λ (c : Call T). c.response) same_call in
           (omega arith, λ r e. omega (arith, response_late p es (place + 1) r (its ∙ e)))
 
       -- a call that begins after the first event has its place, and its end, after that event
@@ -98,7 +104,7 @@ module _ {T : Type 0} where
           → (place + 1 ≤ c.place) × ((r : Response T) → c.response ≡ Some r → place + 1 ≤ r.place))
           → Contains (calls_from es (place + 1)) c
           → (place ≤ c.place) × ((r : Response T) → c.response ≡ Some r → place ≤ r.place)
-      theirs more h = let far = more h in let le = far.0 in (omega arith, λ r e. omega (arith, far.1 r e))
+      theirs more member = let far = more member in let le = far.0 in (omega arith, λ r e. omega (arith, far.1 r e))
   calls_late (e ∷ es) place c h =
       let far = calls_late es (place + 1) c h in
       let le = far.0 in
@@ -107,6 +113,7 @@ module _ {T : Type 0} where
 module _ {T : Type 0} (is_call : Start T → Bool) where
   -- ---- each call acts once, while it is under way, and ends with that answer
 
+  -- A call that ends is the one under way, and, if it is a call of the object, has acted with its answer.
   abbrev pub Ends : Start T → Answer T → Standing T → Type 0
   Ends start answer None = ⊥
   Ends start answer (Some call) = (call.0 ≡ start) × (is_call start ≡ true → call.1 ≡ Some answer)
@@ -162,31 +169,32 @@ module _ {T : Type 0} (is_call : Start T → Bool) where
           let its : response_at place a ≡ r = same_response (response_at place a) r (sym (responded p q s a es place same) ∙ e) in
           let last : a ≡ r.answer = ap (λ (r : Response T). r.answer) its in
           cc
-  told p start answer r (e ∷ es) place going of_object is once h = told p start answer r es (place + 1) going of_object is once h
+  told p start answer r (e ∷ es) place going of_object is once responds = told p start answer r es (place + 1) going of_object is once responds
 
   -- a call that has not acted yet acts before it ends
   pub acts_before : (p : ℕ) (start : Start T) (r : Response T) (es : List (Event T)) (place : ℕ)
       (going : ℕ → Standing T) (begun : ℕ → ℕ)
       → is_call start ≡ true → going p ≡ Some (start, None) → ActsOnce es going → response_in p es place ≡ Some r
       → Contains (order_in es place begun) (entry_at (begun p) p start (Some r) r.answer)
-  acts_before p start r [] place going begun of_object is once e = absurd (cc)
-  acts_before p start r (Begun q s ∷ es) place going begun of_object is once e =
-      ⊎_elim (λ (same : p ≡ q). let clash : None ≡ Some (start, None) = sym once.0 ∙ (sym (ap going same) ∙ is) in absurd (cc))
+  acts_before p start r [] place going begun of_object going_is once e = absurd (cc)
+  acts_before p start r (Begun q s ∷ es) place going begun of_object going_is once e =
+      ⊎_elim (λ (same : p ≡ q). let clash : None ≡ Some (start, None) = sym once.0 ∙ (sym (ap going same) ∙ going_is) in absurd (cc))
       (λ (ne : p ≢ q).
       subst (λ n. Contains (order_in es (place + 1) (put q place begun)) (entry_at n p start (Some r) r.answer)) (put_other q p place begun ne)
       (acts_before p start r es (place + 1) (put q (Some (s, None)) going) (put q place begun) of_object
-      (put_other q p (Some (s, None)) going ne ∙ is) once.1 e))
+      (put_other q p (Some (s, None)) going ne ∙ going_is) once.1 e))
       (cases_eq p q)
-  acts_before p start r (Acted q s a ∷ es) place going begun of_object is once e =
+  acts_before p start r (Acted q s a ∷ es) place going begun of_object going_is once e =
       ⊎_elim mine
       (λ (ne : p ≢ q).
       later (is_call s) (entry_at (begun q) q s (response_in q es (place + 1)) a) (entry_at (begun p) p start (Some r) r.answer) (order_in es (place + 1) begun)
-      (acts_before p start r es (place + 1) (put q (Some (s, Some a)) going) begun of_object (put_other q p (Some (s, Some a)) going ne ∙ is) once.1 e))
+      (acts_before p start r es (place + 1) (put q (Some (s, Some a)) going) begun of_object (put_other q p (Some (s, Some a)) going ne ∙ going_is) once.1 e))
       (cases_eq p q)
     where
+      -- The case that the act is of the call's own party.
       mine : p ≡ q → Contains (order_in (Acted q s a ∷ es) place begun) (entry_at (begun p) p start (Some r) r.answer)
       mine same =
-          let whole : Some (s, None) ≡ Some (start, None) = sym once.0 ∙ (sym (ap going same) ∙ is) in
+          let whole : Some (s, None) ≡ Some (start, None) = sym once.0 ∙ (sym (ap going same) ∙ going_is) in
           let name : s ≡ start = ap (name_in s) whole in
           let now : put q (Some (s, Some a)) going p ≡ Some (start, Some a) =
           ap (put q (Some (s, Some a)) going) same ∙ (put_same q (Some (s, Some a)) going ∙ ap (λ (n : Start T). Some (n, Some a)) name)
@@ -197,37 +205,37 @@ module _ {T : Type 0} (is_call : Start T → Bool) where
           (ap is_call name ∙ of_object)
           (same_entry (begun q) (begun p) q p s start (response_in q es (place + 1)) (Some r) a r.answer
           (sym (ap begun same)) (sym same) name (ap (λ n. response_in n es (place + 1)) (sym same) ∙ e) its)
-  acts_before p start r (Finished q s a ∷ es) place going begun of_object is once e =
-      ⊎_elim (λ (same : q ≡ p). let clash : None ≡ Some a = ends_as s a (going q) start None (ap going same ∙ is) of_object once.0 in absurd (cc))
+  acts_before p start r (Finished q s a ∷ es) place going begun of_object going_is once e =
+      ⊎_elim (λ (same : q ≡ p). let clash : None ≡ Some a = ends_as s a (going q) start None (ap going same ∙ going_is) of_object once.0 in absurd (cc))
       (λ (ne : q ≢ p). acts_before p start r es (place + 1) (put q None going) begun of_object
-      (put_other q p None going (λ h. ne (sym h)) ∙ is) once.1 (sym (passed p q s a es place ne) ∙ e))
+      (put_other q p None going (λ h. ne (sym h)) ∙ going_is) once.1 (sym (passed p q s a es place ne) ∙ e))
       (cases_eq q p)
-  acts_before p start r (e ∷ es) place going begun of_object is once h = acts_before p start r es (place + 1) going begun of_object is once h
+  acts_before p start r (e ∷ es) place going begun of_object going_is once h = acts_before p start r es (place + 1) going begun of_object going_is once h
 
   -- each call that begins in these events and ends has its entry among those that act
   pub completed_act : (es : List (Event T)) (place : ℕ) (going : ℕ → Standing T) (begun : ℕ → ℕ) → ActsOnce es going
       → (c : Call T) (r : Response T) → Contains (calls_from es place) c → c.response ≡ Some r → is_call c.start ≡ true
       → Contains (order_in es place begun) (c, r.answer)
-  completed_act [] place going begun once c r h e of_object = absurd (none_there c h)
-  completed_act (Begun p start ∷ es) place going begun once c r h e of_object =
-      ⊎_elim mine (λ more. completed_act es (place + 1) (put p (Some (start, None)) going) (put p place begun) once.1 c r more e of_object)
-      (split (call_at place p start (response_in p es (place + 1))) c (calls_from es (place + 1)) h)
+  completed_act [] place going begun once c r member responds of_object = absurd (none_there c member)
+  completed_act (Begun p start ∷ es) place going begun once c r member responds of_object =
+      ⊎_elim mine (λ more. completed_act es (place + 1) (put p (Some (start, None)) going) (put p place begun) once.1 c r more responds of_object)
+      (split (call_at place p start (response_in p es (place + 1))) c (calls_from es (place + 1)) member)
     where
       -- the call that begins here is the one: it acts before it ends
       mine : call_at place p start (response_in p es (place + 1)) ≡ c → Contains (order_in es (place + 1) (put p place begun)) (c, r.answer)
-      mine is =
-          let name : start ≡ c.start = ap (λ (c : Call T). c.start) is in
-          let its : response_in p es (place + 1) ≡ Some r = ap (λ (c : Call T). c.response) is ∙ e in
+      mine same_call =
+          let name : start ≡ c.start = ap (λ (c : Call T). c.start) same_call in
+          let its : response_in p es (place + 1) ≡ Some r = ap (λ (c : Call T). c.response) same_call ∙ responds in
           let whole : entry_at (put p place begun p) p start (Some r) r.answer ≡ entry_at c.place c.party c.start c.response r.answer =
           same_entry (put p place begun p) c.place p c.party start c.start (Some r) c.response r.answer r.answer
-          (put_same p place begun ∙ ap (λ (c : Call T). c.place) is) (ap (λ (c : Call T). c.party) is) name (sym e) refl
+          (put_same p place begun ∙ ap (λ (c : Call T). c.place) same_call) (ap (λ (c : Call T). c.party) same_call) name (sym responds) refl
           in
           subst (Contains (order_in es (place + 1) (put p place begun))) whole
           (acts_before p start r es (place + 1) (put p (Some (start, None)) going) (put p place begun)
           (ap is_call name ∙ of_object) (put_same p (Some (start, None)) going) once.1 its)
-  completed_act (Acted p start answer ∷ es) place going begun once c r h e of_object =
+  completed_act (Acted p start answer ∷ es) place going begun once c r member responds of_object =
       later (is_call start) (entry_at (begun p) p start (response_in p es (place + 1)) answer) (c, r.answer) (order_in es (place + 1) begun)
-      (completed_act es (place + 1) (put p (Some (start, Some answer)) going) begun once.1 c r h e of_object)
-  completed_act (Finished p start answer ∷ es) place going begun once c r h e of_object =
-      completed_act es (place + 1) (put p None going) begun once.1 c r h e of_object
-  completed_act (x ∷ es) place going begun once c r h e of_object = completed_act es (place + 1) going begun once c r h e of_object
+      (completed_act es (place + 1) (put p (Some (start, Some answer)) going) begun once.1 c r member responds of_object)
+  completed_act (Finished p start answer ∷ es) place going begun once c r member responds of_object =
+      completed_act es (place + 1) (put p None going) begun once.1 c r member responds of_object
+  completed_act (x ∷ es) place going begun once c r member responds of_object = completed_act es (place + 1) going begun once c r member responds of_object

@@ -15,11 +15,13 @@ use Rattle.model.proofs.Linearizable.Spans.{acts_once}
 module _ {T : Type 0} where
   -- ---- the queues
 
+  -- A finished push or pop has acted once in its span, with its answer.
   one_of_list : (kind : QueueKind) (capacity : ℕ) (start : Start T) (answer : Answer T) (wrote : List (Event T))
       → is_push_or_pop start ≡ true → queue_promises.wrote kind capacity start answer wrote
       → moments wrote ≡ (start, answer) ∷ []
   one_of_list = grind arith
 
+  -- A call that is no push or pop leaves the list as it is.
   others_of_list : (kind : QueueKind) (capacity : ℕ) (items : List (Item T)) (start : Start T)
       → is_push_or_pop start ≡ false → (list_of kind capacity).after items start ≡ items
   others_of_list queue_kinds.IndexQueue capacity items start neither = bounded start neither
@@ -50,6 +52,7 @@ module _ {T : Type 0} where
       bounded (starts.Queues other) neither = refl
       bounded other neither = refl
 
+  -- A run of a queue that keeps its promise is linearizable.
   queue_linearizable : (kind : QueueKind) (t : Trace T) → IsKeptBy (queue_promises.promise kind) t → IsLinearizable (as_list kind t.world.capacity) t.events
   queue_linearizable kind t kept =
       linearizable (as_list kind t.world.capacity) (others_of_list kind t.world.capacity) t.events
@@ -57,6 +60,7 @@ module _ {T : Type 0} where
 
   -- ---- the single value
 
+  -- A finished store or load has acted once in its span, with its answer.
   one_of_value : (capacity : ℕ) (start : Start T) (answer : Answer T) (wrote : List (Event T))
       → is_store_or_load start ≡ true → value_promises.wrote capacity start answer wrote
       → moments wrote ≡ (start, answer) ∷ []
@@ -66,6 +70,7 @@ module _ {T : Type 0} where
       → (value_promises.value_of_zeros code).after value start ≡ value
   others_of_value = grind arith
 
+  -- A run of the single value that keeps its promise is linearizable.
   value_linearizable : (t : Trace T) → IsKeptBy value_promises.promise t → IsLinearizable (as_value t.world.coding) t.events
   value_linearizable t kept =
       linearizable (as_value t.world.coding) (others_of_value t.world.coding) t.events

@@ -19,33 +19,36 @@ module _ {X : Type 0} where
 -- ---- members of lists
 
 module _ {X : Type 0} where
+  -- The list with x in front, if b is true.
   abbrev pub kept_if : Bool → X → List X → List X
   kept_if true x xs = x ∷ xs
   kept_if false x xs = xs
 
   pub there : (x y : X) (xs : List X) → Contains xs y → Contains (x ∷ xs) y
-  there x y xs h = let lt = h.1 in (suc h.0, omega arith, h.2)
+  there x y xs member = let lt = member.1 in (suc member.0, omega arith, member.2)
 
   pub here : (x y : X) (xs : List X) → x ≡ y → Contains (x ∷ xs) y
-  here x y xs e = (0, omega arith, e)
+  here x y xs same = (0, omega arith, same)
 
   pub first : (b : Bool) (x y : X) (xs : List X) → b ≡ true → x ≡ y → Contains (kept_if b x xs) y
-  first true x y xs t e = here x y xs e
-  first false x y xs t e = absurd (cc)
+  first true x y xs same_true same = here x y xs same
+  first false x y xs same_true same = absurd (cc)
 
   pub later : (b : Bool) (x y : X) (xs : List X) → Contains xs y → Contains (kept_if b x xs) y
-  later true x y xs h = there x y xs h
-  later false x y xs h = h
+  later true x y xs member = there x y xs member
+  later false x y xs member = member
 
   pub none_there : (y : X) → Contains [] y → ⊥
-  none_there y h = omega (arith, h.1)
+  none_there y member = omega (arith, member.1)
 
+  -- A member of a list is its first element or a member of the rest.
   pub split : (x y : X) (xs : List X) → Contains (x ∷ xs) y → (x ≡ y) ⊎ Contains xs y
-  split x y xs h = go h.0 h.1 h.2
+  split x y xs member = go member.0 member.1 member.2
     where
+      -- The cases are whether the place of the element is the first one.
       go : (k : ℕ) → k < length (x ∷ xs) → get_or (x ∷ xs) k y ≡ y → (x ≡ y) ⊎ Contains xs y
-      go zero lt e = inl e
-      go (suc k) lt e = inr (k, omega arith, e)
+      go zero lt found_at = inl found_at
+      go (suc k) lt found_at = inr (k, omega arith, found_at)
 
   pub split_if : (b : Bool) (x y : X) (xs : List X) → Contains (kept_if b x xs) y → (b ≡ true) × (x ≡ y) ⊎ Contains xs y
   split_if = grind (arith, inl, inr, split)
@@ -59,6 +62,8 @@ module _ {X : Type 0} where
   AllLater R [] = Unit {0}
   AllLater R (x ∷ xs) = ((y : X) → Contains xs y → R x y) × AllLater R xs
 
+  -- An element that is kept only if `b` is true stands in the relation to all later ones, if it
+  -- does so where it is kept.
   pub later_if : (R : X → X → Type 0) (b : Bool) (x : X) (xs : List X)
       → (b ≡ true → (y : X) → Contains xs y → R x y) → AllLater R xs → AllLater R (kept_if b x xs)
   later_if R true x xs f all = (f refl, all)
@@ -72,6 +77,7 @@ module _ {X : Type 0} where
   pairs_of R (x ∷ xs) all (suc i) zero d lt within = absurd (omega arith)
   pairs_of R (x ∷ xs) all (suc i) (suc j) d lt within = pairs_of R xs all.1 i j d (omega arith) (omega arith)
 
+  -- A relation that holds to all later elements can be replaced by one that follows from it.
   pub later_so : (R S : X → X → Type 0) → ((x y : X) → R x y → S x y) → (xs : List X) → AllLater R xs → AllLater S xs
   later_so R S f [] all = tt
   later_so R S f (x ∷ xs) all = (λ y h. f x y (all.0 y h), later_so R S f xs all.1)

@@ -18,10 +18,12 @@ module _ {T : Type 0} (is_call : Start T → Bool) where
     Pending : (p : ℕ) (start : Start T) → c ≡ call_at (begun p) p start (response_in p es place) → going p ≡ Some (start, None) → Source c es place going begun
     Later : Contains (calls_from es place) c → Source c es place going begun
 
+  -- The response of a call that is under way at this place, or begins after it, comes no earlier
+  -- than the place.
   late : (c : Call T) (r : Response T) (es : List (Event T)) (place : ℕ) (going : ℕ → Standing T) (begun : ℕ → ℕ)
       → Source c es place going begun → c.response ≡ Some r → place ≤ r.place
-  late c r es place going begun (Pending p start is under) e = response_late p es place r (sym (ap (λ (c : Call T). c.response) is) ∙ e)
-  late c r es place going begun (Later h) e = (calls_late es place c h).1 r e
+  late c r es place going begun (Pending p start is under) responds = response_late p es place r (sym (ap (λ (c : Call T). c.response) is) ∙ responds)
+  late c r es place going begun (Later h) responds = (calls_late es place c h).1 r responds
 
   -- a call of the later events is one of all of them, and the call that begins first begins here
   source_begun : (p : ℕ) (s : Start T) (es : List (Event T)) (place : ℕ) (going : ℕ → Standing T) (begun : ℕ → ℕ) (c : Call T)
@@ -40,6 +42,7 @@ module _ {T : Type 0} (is_call : Start T → Bool) where
           in
           Later (here (call_at place p s (response_in p es (place + 1))) c (calls_from es (place + 1)) (there ∙ sym is))
 
+      -- The case that the begin is of another party.
       theirs : q ≢ p → Source c (Begun p s ∷ es) place going begun
       theirs ne =
           Pending q start (is ∙ ap (λ n. call_at n q start (response_in q es (place + 1))) (put_other p q place begun ne))
@@ -52,6 +55,7 @@ module _ {T : Type 0} (is_call : Start T → Bool) where
   source_acted p s a es place going begun c (Later h) = Later h
   source_acted p s a es place going begun c (Pending q start is under) = ⊎_elim mine theirs (cases_eq q p)
     where
+      -- The case that q is the party that acts cannot be: after the act its call has acted.
       mine : q ≡ p → Source c (Acted p s a ∷ es) place going begun
       mine same =
           absurd (acted_clash s start a (sym (ap (put p (Some (s, Some a)) going) same ∙ put_same p (Some (s, Some a)) going) ∙ under))
@@ -66,16 +70,18 @@ module _ {T : Type 0} (is_call : Start T → Bool) where
   source_finished p s a es place going begun c (Later h) = Later h
   source_finished p s a es place going begun c (Pending q start is under) = ⊎_elim mine theirs (cases_eq q p)
     where
+      -- The case that q is the party whose call ends cannot be: after the end it has none under way.
       mine : q ≡ p → Source c (Finished p s a ∷ es) place going begun
       mine same =
           absurd (none_clash (start, None) (sym (ap (put p None going) same ∙ put_same p None going) ∙ under))
 
+      -- The case that the end is of another party's call.
       theirs : q ≢ p → Source c (Finished p s a ∷ es) place going begun
       theirs ne =
           Pending q start (is ∙ ap (λ (o : Option (Response T)). call_at (begun q) q start o) (sym (passed q p s a es place (λ h. ne (sym h)))))
           (sym (put_other p q None going ne) ∙ under)
 
-  -- a call of the later events is one of all of them where the first event is neither of these
+  -- A call of the later events is one of all events, if the first event neither begins nor ends a call.
   source_quiet : (e : Event T) (es : List (Event T)) (place : ℕ) (going : ℕ → Standing T) (begun : ℕ → ℕ) (c : Call T)
       → calls_from (e ∷ es) place ≡ calls_from es (place + 1)
       → ((p : ℕ) → response_in p (e ∷ es) place ≡ response_in p es (place + 1)) → Source c es (place + 1) going begun
@@ -100,15 +106,16 @@ module _ {T : Type 0} (is_call : Start T → Bool) where
       ⊎_elim mine (theirs (comes es (place + 1) (put p (Some (s, Some a)) going) begun once.1 x))
       (split_if (is_call s) (entry_at (begun p) p s (response_in p es (place + 1)) a) x (order_in is_call es (place + 1) begun) h)
     where
+      -- The case that the act is this call's.
       mine : (is_call s ≡ true) × (entry_at (begun p) p s (response_in p es (place + 1)) a ≡ x) → Comes x (Acted p s a ∷ es) place going begun
-      mine m =
-          let its : call_at (begun p) p s (response_in p es (place + 1)) ≡ x.0 = ap (λ (x : Call T × Answer T). x.0) m.1 in
-          record { source = Pending p s (sym its) once.0; call = subst (λ (c : Call T). is_call c.start ≡ true) its m.0 }
+      mine is_entry =
+          let its : call_at (begun p) p s (response_in p es (place + 1)) ≡ x.0 = ap (λ (x : Call T × Answer T). x.0) is_entry.1 in
+          record { source = Pending p s (sym its) once.0; call = subst (λ (c : Call T). is_call c.start ≡ true) its is_entry.0 }
 
       -- an entry that comes after this act has its source in the later events
       theirs : (Contains (order_in is_call es (place + 1) begun) x → Comes x es (place + 1) (put p (Some (s, Some a)) going) begun)
           → Contains (order_in is_call es (place + 1) begun) x → Comes x (Acted p s a ∷ es) place going begun
-      theirs more h = record { source = source_acted p s a es place going begun x.0 (more h).source; call = (more h).call }
+      theirs more member = record { source = source_acted p s a es place going begun x.0 (more member).source; call = (more member).call }
   comes (Finished p s a ∷ es) place going begun once x h =
       let more = comes es (place + 1) (put p None going) begun once.1 x h in
       record { source = source_finished p s a es place going begun x.0 more.source; call = more.call }
@@ -122,33 +129,39 @@ module _ {T : Type 0} (is_call : Start T → Bool) where
   abbrev AreBegun : ℕ → (ℕ → Standing T) → (ℕ → ℕ) → Type 0
   AreBegun place going begun = (p : ℕ) (x : Start T × Option (Answer T)) → going p ≡ Some x → begun p < place
 
-  abbrev Apart : Call T × Answer T → Call T × Answer T → Type 0
-  Apart x y = (x.0 ≢ y.0) × ¬ Precedes y.0 x.0
+  abbrev MayPrecede : Call T × Answer T → Call T × Answer T → Type 0
+  MayPrecede x y = (x.0 ≢ y.0) × ¬ Precedes y.0 x.0
 
+  -- Each call under way began before the next place, also after a begin.
   begun_begun : (p : ℕ) (s : Start T) (place : ℕ) (going : ℕ → Standing T) (begun : ℕ → ℕ)
       → AreBegun place going begun → AreBegun (place + 1) (put p (Some (s, None)) going) (put p place begun)
   begun_begun p s place going begun all q x under = ⊎_elim mine theirs (cases_eq q p)
     where
+      -- The case that q is the party that begins.
       mine : q ≡ p → put p place begun q < place + 1
       mine same = let at : put p place begun q ≡ place = ap (put p place begun) same ∙ put_same p place begun in omega arith
 
       theirs : q ≢ p → put p place begun q < place + 1
       theirs ne = omega (arith, put_other p q place begun ne, all q x (sym (put_other p q (Some (s, None)) going ne) ∙ under))
 
+  -- Each call under way began before the next place, also after an act.
   begun_acted : (p : ℕ) (s : Start T) (a : Answer T) (place : ℕ) (going : ℕ → Standing T) (begun : ℕ → ℕ)
       → going p ≡ Some (s, None) → AreBegun place going begun
       → AreBegun (place + 1) (put p (Some (s, Some a)) going) begun
   begun_acted p s a place going begun here all q x under = ⊎_elim mine theirs (cases_eq q p)
     where
+      -- The case that q is the party that acts.
       mine : q ≡ p → begun q < place + 1
       mine same = omega (arith, all q (s, None) (ap going same ∙ here))
 
       theirs : q ≢ p → begun q < place + 1
       theirs ne = omega (arith, all q x (sym (put_other p q (Some (s, Some a)) going ne) ∙ under))
 
+  -- Each call under way began before the next place, also after an end.
   begun_finished : (p : ℕ) (place : ℕ) (going : ℕ → Standing T) (begun : ℕ → ℕ) → AreBegun place going begun → AreBegun (place + 1) (put p None going) begun
   begun_finished p place going begun all q x under = ⊎_elim mine theirs (cases_eq q p)
     where
+      -- The case that q is the party whose call ends.
       mine : q ≡ p → begun q < place + 1
       mine same = let clash : None ≡ Some x = sym (ap (put p None going) same ∙ put_same p None going) ∙ under in absurd (cc)
 
@@ -172,17 +185,17 @@ module _ {T : Type 0} (is_call : Start T → Bool) where
           omega (arith, (calls_late es (place + 1) c h).0)
 
       before : (response : Option (Response T)) → c.response ≡ response → ¬ StandsBefore response (begun p)
-      before None e h = h
-      before (Some r) e h = omega (arith, late c r es (place + 1) (put p (Some (s, Some a)) going) begun source e)
+      before None responds h = h
+      before (Some r) responds h = omega (arith, late c r es (place + 1) (put p (Some (s, Some a)) going) begun source responds)
 
   -- any two entries are of two calls, and the later one had not ended before the earlier one began
   in_order : (es : List (Event T)) (place : ℕ) (going : ℕ → Standing T) (begun : ℕ → ℕ) → ActsOnce is_call es going
-      → AreBegun place going begun → AllLater Apart (order_in is_call es place begun)
+      → AreBegun place going begun → AllLater MayPrecede (order_in is_call es place begun)
   in_order [] place going begun once all = tt
   in_order (Begun p s ∷ es) place going begun once all =
       in_order es (place + 1) (put p (Some (s, None)) going) (put p place begun) once.1 (begun_begun p s place going begun all)
   in_order (Acted p s a ∷ es) place going begun once all =
-      later_if Apart (is_call s) (entry_at (begun p) p s (response_in p es (place + 1)) a) (order_in is_call es (place + 1) begun)
+      later_if MayPrecede (is_call s) (entry_at (begun p) p s (response_in p es (place + 1)) a) (order_in is_call es (place + 1) begun)
       (λ t y h. now_and_later p s a es place going begun (response_in p es (place + 1)) y.0 (all p (s, None) once.0)
       (comes es (place + 1) (put p (Some (s, Some a)) going) begun once.1 y h).source)
       (in_order es (place + 1) (put p (Some (s, Some a)) going) begun once.1 (begun_acted p s a place going begun once.0 all))
@@ -213,14 +226,16 @@ module _ {T : Type 0} (is_call : Start T → Bool) where
         more : IsLegalFrom (o.after s start) (moments es)
         more = cc
 
+        -- The cases are whether the call that acts is one of the object.
         go : (b : Bool) → is_call start ≡ b → ((s : State) → IsLegalFrom s (moments es) → IsLegalFrom s (names (order_in is_call es (place + 1) begun)))
             → IsLegalFrom s (names (kept_if b (entry_at (begun p) p start (response_in p es (place + 1)) answer) (order_in is_call es (place + 1) begun)))
-        go true t rest = let tail = rest (o.after s start) more in cc
-        go false t rest = rest s (subst (λ n. IsLegalFrom n (moments es)) (others s start t) more)
+        go true test rest = let tail = rest (o.after s start) more in cc
+        go false test rest = rest s (subst (λ n. IsLegalFrom n (moments es)) (others s start test) more)
     legal_in (e ∷ es) place begun s legal = legal_in es (place + 1) begun s legal
 
 -- the theorem: a history in which each call acts once is linearizable where its moments are legal
 module _ {T State : Type 0} (spec : Specification T State) where
+  -- A call of the object that has responded is in the order with its answer.
   abbrev Answered : List (Event T) → Call T → Type 0
   Answered history call =
       IfSome call.response
@@ -240,25 +255,29 @@ module _ {T State : Type 0} (spec : Specification T State) where
         completed = all_of (Answered history) (calls_of history) answered;
         once =
             pairs_of (λ x y. x.0 ≢ y.0) (order_in spec.is_call history 0 (λ p. 0))
-            (later_so (Apart spec.is_call) (λ x y. x.0 ≢ y.0) (λ x y h. h.0) (order_in spec.is_call history 0 (λ p. 0)) apart);
+            (later_so (MayPrecede spec.is_call) (λ x y. x.0 ≢ y.0) (λ x y h. h.0) (order_in spec.is_call history 0 (λ p. 0)) apart);
         real_time =
             pairs_of (λ x y. ¬ Precedes y.0 x.0) (order_in spec.is_call history 0 (λ p. 0))
-            (later_so (Apart spec.is_call) (λ x y. ¬ Precedes y.0 x.0) (λ x y h. h.1) (order_in spec.is_call history 0 (λ p. 0)) apart);
+            (later_so (MayPrecede spec.is_call) (λ x y. ¬ Precedes y.0 x.0) (λ x y h. h.1) (order_in spec.is_call history 0 (λ p. 0)) apart);
       }
     where
+      -- Each call of the history that has responded is in the order.
       answered : (c : Call T) → Contains (calls_of history) c → Answered history c
-      answered c h = go c.response refl
+      answered c member = go c.response refl
         where
+          -- The cases are whether the call has responded.
           go : (o : Option (Response T)) → c.response ≡ o
               → IfSome o
               (λ response. spec.is_call c.start ≡ true → Contains (order_in spec.is_call history 0 (λ p. 0)) (c, response.answer))
-          go None e = tt
-          go (Some r) e = λ t. completed_act spec.is_call history 0 (λ p. None) (λ p. 0) once c r h e t
+          go None responds = tt
+          go (Some r) responds = λ t. completed_act spec.is_call history 0 (λ p. None) (λ p. 0) once c r member responds t
 
+      -- Each call in the order is one of the object, and was invoked in the history.
       called : (x : Call T × Answer T) → Contains (order_in spec.is_call history 0 (λ p. 0)) x
           → (spec.is_call x.0.start ≡ true) × Contains (calls_of history) x.0
       called x h = go (comes spec.is_call history 0 (λ p. None) (λ p. 0) once x h)
         where
+          -- A call that is under way or begins later was invoked in the history.
           begins : Source spec.is_call x.0 history 0 (λ p. None) (λ p. 0) → Contains (calls_of history) x.0
           begins (Pending p start is under) = absurd (cc)
           begins (Later h) = h

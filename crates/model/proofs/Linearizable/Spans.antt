@@ -20,8 +20,8 @@ module _ {T : Type 0} where
   standing (Open start wrote) = Some (start, first_answer (moments wrote))
   standing (Ended start answer wrote) = None
 
-  abbrev Agree : (ℕ → Standing T) → List (Event T) → Type 0
-  Agree going before = (p : ℕ) → going p ≡ standing (span_of p before)
+  abbrev StandsBySpans : (ℕ → Standing T) → List (Event T) → Type 0
+  StandsBySpans going before = (p : ℕ) → going p ≡ standing (span_of p before)
 
   moments_more : (wrote : List (Event T)) (e : Event T) → moments (wrote ++ e ∷ []) ≡ moments wrote ++ moments (e ∷ [])
   moments_more wrote e = flat_map-append acts wrote (e ∷ [])
@@ -32,6 +32,7 @@ module _ {T : Type 0} where
   not_acted : (start : Start T) (span : Span T) → IsOpenFor start (λ wrote. moments wrote ≡ []) span → standing span ≡ Some (start, None)
   not_acted = grind arith
 
+  -- After its act the span of a call that had not acted is that of one that has, with this answer.
   acted_now : (p : ℕ) (start : Start T) (answer : Answer T) (span : Span T)
       → IsOpenFor start (λ wrote. moments wrote ≡ []) span
       → Some (start, Some answer) ≡ standing (longer span (Acted p start answer))
@@ -46,28 +47,33 @@ module _ {T : Type 0} where
 
   -- ---- one event
 
+  -- After an event of party p the parties' standings agree with the events, if that of p is
+  -- changed as its span is.
   own_step : (going : ℕ → Standing T) (before : List (Event T)) (p : ℕ) (e : Event T) (now : Standing T)
-      → Agree going before → whose e ≡ Some p → now ≡ standing (own_after (span_of p before) e)
-      → Agree (put p now going) (before ++ e ∷ [])
-  own_step going before p e now agree mine is q = ⊎_elim same other (cases_eq q p)
+      → StandsBySpans going before → whose e ≡ Some p → now ≡ standing (own_after (span_of p before) e)
+      → StandsBySpans (put p now going) (before ++ e ∷ [])
+  own_step going before p e now agree mine now_is q = ⊎_elim same other (cases_eq q p)
     where
+      -- The case that q is the party of the event.
       same : q ≡ p → put p now going q ≡ standing (span_of q (before ++ e ∷ []))
-      same h =
-          ap (put p now going) h ∙ (put_same p now going ∙ (is ∙ (ap standing (sym (span_of-own p before (e ∷ []) (mine, tt)))
-          ∙ ap (λ n. standing (span_of n (before ++ e ∷ []))) (sym h))))
+      same same_party =
+          ap (put p now going) same_party ∙ (put_same p now going ∙ (now_is ∙ (ap standing (sym (span_of-own p before (e ∷ []) (mine, tt)))
+          ∙ ap (λ n. standing (span_of n (before ++ e ∷ []))) (sym same_party))))
 
       other : q ≢ p → put p now going q ≡ standing (span_of q (before ++ e ∷ []))
       other ne =
           put_other p q now going ne ∙ (agree q ∙ ap standing (sym (span_of-other p q before (e ∷ []) ne (mine, tt))))
 
-  quiet_step : (going : ℕ → Standing T) (before : List (Event T)) (e : Event T) → Agree going before
-      → ((span : Span T) → own_after span e ≡ longer span e) → acts e ≡ [] → Agree going (before ++ e ∷ [])
+  -- After an event that only lengthens a span, and is no act, the parties' standings agree with the events.
+  quiet_step : (going : ℕ → Standing T) (before : List (Event T)) (e : Event T) → StandsBySpans going before
+      → ((span : Span T) → own_after span e ≡ longer span e) → acts e ≡ [] → StandsBySpans going (before ++ e ∷ [])
   quiet_step going before e agree writes none q =
       agree q ∙ (sym (stays (is_party q (whose e)) refl) ∙ ap standing (sym (fold-append (span_after q) Never before (e ∷ []))))
     where
+      -- The cases are whether the event is of party q.
       stays : (b : Bool) → is_party q (whose e) ≡ b → standing (span_after q (span_of q before) e) ≡ standing (span_of q before)
-      stays true t = rw t (ap standing (writes (span_of q before)) ∙ quiet (span_of q before) e none)
-      stays false t = rw t refl
+      stays true test = rw test (ap standing (writes (span_of q before)) ∙ quiet (span_of q before) e none)
+      stays false test = rw test refl
 
 -- ---- all events
 
@@ -79,7 +85,7 @@ module _ {T : Type 0} (promise : Promise T) (capacity : ℕ) (is_call : Start T 
   ends = grind arith
 
   -- in a history in which each event stands right, each call acts once
-  follows : (es before : List (Event T)) (going : ℕ → Standing T) → Agree going before
+  follows : (es before : List (Event T)) (going : ℕ → Standing T) → StandsBySpans going before
       → AreRight (StandsRight promise capacity) before es → ActsOnce is_call es going
   follows [] before going agree right = tt
   follows (Begun p start ∷ es) before going agree right = (

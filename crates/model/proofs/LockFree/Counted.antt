@@ -1,5 +1,5 @@
--- Calls end that have begun: with each turn those under way and those that have ended are as many as before, and one more
--- where a call begins. And a step is of one that is under way.
+-- The calls under way and those that have ended are counted together: a begin adds one, and any other turn
+-- leaves the number as it was. And a party that takes a step has a call under way.
 use Rattle.model.proofs.Names.{After, AllByRecursion, Ask, GoOn, IsBelow, List}
 use Rattle.model.proofs.Names.{None, Option, Refusal, Some, Trace, World, [], after_answer, after_begin, after_decision, after_next}
 use Rattle.model.proofs.Names.{after_step, after_turn, after_turns, answer_in, ap, arith, Bool, ask_of_doing, cases_eq}
@@ -34,7 +34,7 @@ module _ {T : Type 0} where
   abbrev under : World T → ℕ → ℕ
   under w p = one_if (is_some (flight_in w p))
 
-  -- where no call of a party below n has moved, as many calls are under way as before
+  -- If no call of a party below n has moved, the number of calls under way is as it was.
   same_pending : (n : ℕ) (old new : World T) → ((q : ℕ) → q < n → flight_in new q ≡ flight_in old q) → pending n new ≡ pending n old
   same_pending zero old new same = refl
   same_pending (suc n) old new same =
@@ -42,12 +42,13 @@ module _ {T : Type 0} where
       let last = same n (omega arith) in
       rw (rest, last) refl
 
-  -- where one party's call alone moves, the count of calls under way changes as it does
+  -- If only one party's call has moved, the number of calls under way changes by this call.
   moves : (n : ℕ) (old new : World T) (p : ℕ) → p < n → ((q : ℕ) → q ≢ p → flight_in new q ≡ flight_in old q)
       → pending n new + under old p ≡ pending n old + under new p
   moves zero old new p below others = absurd (omega arith)
   moves (suc n) old new p below others = ⊎_elim last (λ ne. before ne (moves n old new p)) (cases_eq p n)
     where
+      -- The case that the party is the last one.
       last : p ≡ n → pending (suc n) new + under old p ≡ pending (suc n) old + under new p
       last e =
           let rest = same_pending n old new (λ q less. others q (λ same. absurd (omega (arith, less, same, e)))) in
@@ -62,12 +63,12 @@ module _ {T : Type 0} where
           let last = others n (λ same. ne (sym same)) in
           rw last (omega arith)
 
-  abbrev Counts : ℕ → World T → World T → ℕ → ℕ → Type 0
-  Counts n old new ended begins = pending n new + ended ≡ pending n old + begins
+  abbrev CountsCalls : ℕ → World T → World T → ℕ → ℕ → Type 0
+  CountsCalls n old new ended begins = pending n new + ended ≡ pending n old + begins
 
   -- a turn that begins a call puts one more call under way, and ends none
   begins : (n : ℕ) (w : World T) (p : ℕ) (start : Start T) → p < n → (o : Option (Flight T)) → is_none o ≡ false → flight_in w p ≡ None
-      → Counts n w (after_begin w p start o) 0 1
+      → CountsCalls n w (after_begin w p start o) 0 1
   begins n w p start below None some free = absurd (cc)
   begins n w p start below (Some flight) some free =
       let here : flight_in (after_begin w p start (Some flight)) p ≡ Some flight = ap (λ o. flight_of (doing_of o)) (party_put_same p _ w.latest) in
@@ -78,12 +79,13 @@ module _ {T : Type 0} where
   -- a call goes on or ends
   goes : (n : ℕ) (w : World T) (p : ℕ) (x : Party T) (ask : Option Ask) (answer : ℕ) (doing : Doing T) (flight : Flight T) → p < n
       → flight_in w p ≡ Some flight → party_of p w.latest ≡ Some x → x.doing ≡ doing
-      → Counts n w (after_answer w p x ask answer doing) (ends (events_of_answer w p x answer doing)) 0
-  goes n w p x ask answer (Over others) flight below is found same_doing =
+      → CountsCalls n w (after_answer w p x ask answer doing) (ends (events_of_answer w p x answer doing)) 0
+  goes n w p x ask answer (Over others) flight below flight_is found same_doing =
       let none : flight_in w p ≡ None = ap (λ o. flight_of (doing_of o)) found ∙ ap (λ d. flight_of (Some d)) same_doing in
       absurd (cc)
-  goes n w p x ask answer (Going now since) flight below is found same_doing = by_after s.after refl
+  goes n w p x ask answer (Going now since) flight below flight_is found same_doing = by_after s.after refl
     where
+      -- `s` is the step of the party's call.
       s : Step (Flight T) (Registry T) T
       s = step_in w p x now answer
 
@@ -94,8 +96,9 @@ module _ {T : Type 0} where
       moved = moves n w new p below (λ q ne. answered w p x ask answer (Going now since) q ne)
 
       one : under w p ≡ 1
-      one = rw is refl
+      one = rw flight_is refl
 
+      -- The party's call stands where the step has led it.
       here : (a : After (Flight T) (Answer T)) → s.after ≡ a
           → flight_in new p ≡ flight_of (Some (doing_after (w.changes + change_of w.words ask) (since + change_of w.words ask) a))
       here a leads =
@@ -112,7 +115,7 @@ module _ {T : Type 0} where
           )
 
       -- a step that leads on leaves as many calls under way, and one that ends its call leaves one fewer
-      by_after : (a : After (Flight T) (Answer T)) → s.after ≡ a → Counts n w new (ends (events_of_step p x.start s)) 0
+      by_after : (a : After (Flight T) (Answer T)) → s.after ≡ a → CountsCalls n w new (ends (events_of_step p x.start s)) 0
       by_after (GoOn next) leads =
           let there : under new p ≡ 1 = rw (here (GoOn next) leads) refl in
           let none : ends (ending_of p x.start (answer_in s.after)) ≡ 0 = rw leads refl in
@@ -122,21 +125,23 @@ module _ {T : Type 0} where
           let end : ends (ending_of p x.start (answer_in s.after)) ≡ 1 = rw leads refl in
           omega (arith, ended, moved, one)
 
+  -- A turn `Next` of a party below n keeps the count of calls under way, but for those that end.
   nexts : (n : ℕ) (w : World T) (p : ℕ) → p < n → (flight : Flight T) → flight_in w p ≡ Some flight → (o : Option (Party T)) → party_of p w.latest ≡ o
-      → Counts n w (after_next w p o) (ends (events_of_next w p o)) 0
-  nexts n w p below flight is None found = let none : flight_in w p ≡ None = ap (λ o. flight_of (doing_of o)) found in absurd (cc)
-  nexts n w p below flight is (Some x) found =
-      goes n w p x (ask_of_doing w.coding x.doing) (old_of w.words (ask_of_doing w.coding x.doing)) x.doing flight below is found refl
+      → CountsCalls n w (after_next w p o) (ends (events_of_next w p o)) 0
+  nexts n w p below flight flight_is None found = let none : flight_in w p ≡ None = ap (λ o. flight_of (doing_of o)) found in absurd (cc)
+  nexts n w p below flight flight_is (Some x) found =
+      goes n w p x (ask_of_doing w.coding x.doing) (old_of w.words (ask_of_doing w.coding x.doing)) x.doing flight below flight_is found refl
 
+  -- A decision for a party below n keeps the count of calls under way, but for those that end.
   decides : (n : ℕ) (w : World T) (p : ℕ) (said : Bool) → p < n → (flight : Flight T) → flight_in w p ≡ Some flight
       → (o : Option (Party T)) → party_of p w.latest ≡ o
-      → Counts n w (after_decision w p said o) (ends (events_of_decision w p said o)) 0
-  decides n w p said below flight is None found = let none : flight_in w p ≡ None = ap (λ o. flight_of (doing_of o)) found in absurd (cc)
-  decides n w p said below flight is (Some x) found = goes n w p x None (number_of said) x.doing flight below is found refl
+      → CountsCalls n w (after_decision w p said o) (ends (events_of_decision w p said o)) 0
+  decides n w p said below flight flight_is None found = let none : flight_in w p ≡ None = ap (λ o. flight_of (doing_of o)) found in absurd (cc)
+  decides n w p said below flight flight_is (Some x) found = goes n w p x None (number_of said) x.doing flight below flight_is found refl
 
   -- each turn adds the call that it begins to those under way, and takes off the one that it ends
   pub turn_counts : (n : ℕ) (w : World T) (turn : Turn T) → IsPossible w turn → IsBelow n turn
-      → Counts n w (world_after w turn) (ends (events_of w turn)) (begin_in turn)
+      → CountsCalls n w (world_after w turn) (ends (events_of w turn)) (begin_in turn)
   turn_counts n w (Begin p start) may below = begins n w p start below (first_of w.kind w.capacity start w.kept) may.call may.free
   turn_counts n w (Next p) may below = nexts n w p below may.flight may.is (party_of p w.latest) refl
   turn_counts n w (Decide p said) may below = decides n w p said below may.0.flight may.0.is (party_of p w.latest) refl
@@ -168,6 +173,7 @@ module _ {T : Type 0} where
         ending_begins p x.start (answer_in s.after),
       )
     where
+      -- The end of a call is no begin of one.
       ending_begins : (p : ℕ) (start : Start T) (o : Option (Answer T)) → begun (ending_of p start o) ≡ 0
       ending_begins p start None = refl
       ending_begins p start (Some answer) = refl
@@ -180,6 +186,7 @@ module _ {T : Type 0} where
   decision_begins w p said None = refl
   decision_begins w p said (Some x) = answer_begins w p x (number_of said) x.doing
 
+  -- A turn writes the begin of a call exactly if it begins one.
   turn_begins : (w : World T) (turn : Turn T) → begun (events_of w turn) ≡ begin_in turn
   turn_begins w (Begin p start) = refl
   turn_begins w (Next p) = next_begins w p (party_of p w.latest)
@@ -194,18 +201,20 @@ module _ {T : Type 0} where
 
   -- ---- a step
 
+  -- If a party below n has a call under way, then at least one call is under way.
   one_pending : (n : ℕ) (w : World T) (p : ℕ) (flight : Flight T) → p < n → flight_in w p ≡ Some flight → 1 ≤ pending n w
-  one_pending zero w p flight below is = absurd (omega arith)
-  one_pending (suc n) w p flight below is = ⊎_elim last (λ ne. before ne (one_pending n w p flight)) (cases_eq p n)
+  one_pending zero w p flight below flight_is = absurd (omega arith)
+  one_pending (suc n) w p flight below flight_is = ⊎_elim last (λ ne. before ne (one_pending n w p flight)) (cases_eq p n)
     where
+      -- The case that the party is the last one.
       last : p ≡ n → 1 ≤ pending (suc n) w
-      last e =
-          let here : under w p ≡ 1 = rw is refl in
-          let one : under w n ≡ 1 = rw e at here in
+      last same =
+          let here : under w p ≡ 1 = rw flight_is refl in
+          let one : under w n ≡ 1 = rw same at here in
           omega arith
 
       before : p ≢ n → (p < n → flight_in w p ≡ Some flight → 1 ≤ pending n w) → 1 ≤ pending (suc n) w
-      before ne more = let rest = more (omega (arith, ne)) is in omega arith
+      before ne more = let rest = more (omega (arith, ne)) flight_is in omega arith
 
   -- a turn takes a step only where a call is under way
   pub steps_pending : (n : ℕ) (w : World T) (turn : Turn T) → IsPossible w turn → IsBelow n turn → steps_of w turn ≤ pending n w

@@ -18,6 +18,7 @@ if_mine true steps = omega arith
 if_mine false steps = omega arith
 
 module _ {T : Type 0} where
+  -- The steps of one party in a turn are at most all steps of the turn.
   own_of_all : (p : ℕ) (w : World T) (turn : Turn T) → own_step p w turn ≤ steps_of w turn
   own_of_all p w (Begin q start) = omega arith
   own_of_all p w (Next q) = if_mine (q == p) (steps_of w (Next q))
@@ -35,6 +36,8 @@ module _ {T : Type 0} where
 
   -- ---- rounds
 
+  -- A party that takes a step in each round rests as one of them begins, or there are as many
+  -- steps as rounds.
   rests_or_many : (p : ℕ) (t : Trace T) (rounds : List (List (Turn T))) → StepsInEach p t rounds
       → RestsInOne p t rounds ⊎ (length rounds ≤ steps_in t (turns_of rounds))
   rests_or_many p t [] each = inr (omega arith)
@@ -78,6 +81,7 @@ module _ {T : Type 0} where
     then_is u [] ys = refl
     then_is u (x ∷ xs) ys = then_is (after_turn u x) xs ys
 
+    -- The first k turns of the schedule lead to its moment k.
     reaches : (k : ℕ) → after_turns t (first turns k) ≡ moment t turns k
     reaches zero = refl
     reaches (suc k) =
@@ -94,10 +98,12 @@ module _ {T : Type 0} where
         subst (λ (u : Trace T). steps_of u.world (turns k) ≡ steps_at k) (sym (reaches k)) refl in
         omega (arith, steps_of_both t (first turns k) (turns k ∷ []))
 
+    -- At a later moment of the schedule no fewer steps have been taken.
     steps_up : (k m : ℕ) → k ≤ m → steps_in t (first turns k) ≤ steps_in t (first turns m)
     steps_up k zero le = let same : k ≡ 0 = omega arith in rw same (omega arith)
     steps_up k (suc m) le = ⊎_elim here (λ ne. there ne (steps_up k m)) (cases_eq k (suc m))
       where
+        -- The case that the later moment is the next one itself.
         here : k ≡ suc m → steps_in t (first turns k) ≤ steps_in t (first turns (suc m))
         here same = rw same (omega arith)
 
@@ -121,11 +127,13 @@ module _ {T : Type 0} where
     all_of P each zero = tt
     all_of P each (suc k) = all_more P (first turns k) (turns k) (all_of P each k) (each k)
 
+    -- Turns that are not refused, and one more after them that is not, are turns that are not refused.
     allowed_more : (u : Trace T) (xs : List (Turn T)) (x : Turn T) → AreAllowedOn u xs → call_refusal (after_turns u xs).world x ≡ None
         → AreAllowedOn u (xs ++ x ∷ [])
     allowed_more u [] x all here = (here, tt)
     allowed_more u (y ∷ xs) x all here = (all.0, allowed_more (after_turn u y) xs x all.1 here)
 
+    -- On a schedule of which no turn is refused the first k turns are not refused.
     all_allowed : ((k : ℕ) → call_refusal (moment t turns k).world (turns k) ≡ None) → (k : ℕ) → AreAllowedOn t (first turns k)
     all_allowed goes zero = tt
     all_allowed goes (suc k) =
@@ -133,14 +141,14 @@ module _ {T : Type 0} where
         (subst (λ (u : Trace T). call_refusal u.world (turns k) ≡ None) (sym (reaches k)) (goes k))
 
     module _ (p : ℕ) (fair : IsFair t turns p) where
-      abbrev Rests : Type 0
-      Rests = (k : ℕ) × (flight_in (moment t turns k).world p ≡ None)
+      abbrev IdleAtSome : Type 0
+      IdleAtSome = (k : ℕ) × (flight_in (moment t turns k).world p ≡ None)
 
-      abbrev Took : ℕ → Type 0
-      Took j = (k : ℕ) × (j ≤ steps_in t (first turns k))
+      abbrev StepsTaken : ℕ → Type 0
+      StepsTaken j = (k : ℕ) × (j ≤ steps_in t (first turns k))
 
       -- it rests, or takes one step more
-      once : (j : ℕ) → Took j → Rests ⊎ Took (suc j)
+      once : (j : ℕ) → StepsTaken j → IdleAtSome ⊎ StepsTaken (suc j)
       once j (k, took) = ⊎_elim (λ none. inl (fair.at k, none)) (λ one. inr (suc (fair.at k), more one)) (fair.goes k)
         where
           -- the party's step at its next turn is one more step of all
@@ -148,14 +156,17 @@ module _ {T : Type 0} where
           more one =
               omega (arith, own_of_all p (moment t turns (fair.at k)).world (turns (fair.at k)), steps_up k (fair.at k) (fair.later k), steps_more (fair.at k))
 
-      often : (j : ℕ) → Rests ⊎ Took j
+      often : (j : ℕ) → IdleAtSome ⊎ StepsTaken j
       often zero = inr (0, omega arith)
       often (suc j) = ⊎_elim (λ rests. inl rests) (λ took. once j took) (often j)
 
+  -- If the steps on a schedule are bounded, a party to which it is fair comes to a moment without
+  -- a call under way.
   fair_by : (t : Trace T) (turns : ℕ → Turn T) (p : ℕ) → IsFair t turns p → (most : ℕ) → ((k : ℕ) → steps_in t (first turns k) ≤ most)
       → (k : ℕ) × (flight_in (moment t turns k).world p ≡ None)
   fair_by t turns p fair most within = ⊎_elim (λ rests. rests) none (often t turns p fair (suc most))
     where
+      -- More steps than the bound allows are never taken.
       none : (k : ℕ) × (suc most ≤ steps_in t (first turns k)) → (k : ℕ) × (flight_in (moment t turns k).world p ≡ None)
       none (k, many) = absurd (omega (arith, within k))
 

@@ -1,4 +1,4 @@
--- What a step of a call shows, by what it comes to, where the words alone are measured.
+-- How the measure of a call falls with its step, where the measure depends on the words alone.
 use Rattle.model.proofs.Names.{After, Answer, Coding, Flight, GoOn, List, Registry, Some, World, after_of, arith}
 use Rattle.model.proofs.Names.{ask_of, goes_of, inl, inr, nat_tests, old_of, set-get_or, step_count, subst, sym, true}
 use Rattle.model.proofs.Names.{want_of, words_after, ℕ, ⊎_elim, ◌+◌, ◌==◌, ◌≡◌, ◌≤◌, ◌⊎◌}
@@ -29,7 +29,7 @@ module _ {T : Type 0} (M : WordMeasure T) where
   FallsIn old new steps was (GoOn next) = FallsThere old new steps was next
   FallsIn old new steps was (Done answer) = Unit {0}
 
-  -- it leaves the others no more
+  -- What falls by the measure of the words alone falls by the measure of words and registry.
   falls_there : (w : World T) (p : ℕ) (new : List ℕ) (now : Registry T) (steps : ℕ) (was next : Flight T)
       → FallsThere w.words new steps was next → Falls (of_words M) w p new now steps was next
   falls_there w p new now steps was next (inl h) = (
@@ -41,7 +41,7 @@ module _ {T : Type 0} (M : WordMeasure T) where
 
   pub falls_by : (w : World T) (p : ℕ) (new : List ℕ) (now : Registry T) (steps : ℕ) (was : Flight T) (after : After (Flight T) (Answer T))
       → FallsIn w.words new steps was after → (next : Flight T) → after ≡ GoOn next → Falls (of_words M) w p new now steps was next
-  falls_by w p new now steps was after falls next e = falls_there w p new now steps was next (subst (FallsIn w.words new steps was) e falls)
+  falls_by w p new now steps was after falls next leads = falls_there w p new now steps was next (subst (FallsIn w.words new steps was) leads falls)
 
   -- a step of a call in these words, by its own table
   abbrev pub StepFalls : Coding T → List ℕ → Flight T → Type 0

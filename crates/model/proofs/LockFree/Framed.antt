@@ -1,5 +1,5 @@
--- The same of a family whose frame holds of every run without a bound of turns: from a measure of its calls it follows that
--- calls keep ending.
+-- Lock-freedom of a family whose frame holds of every run without a bound of turns: from a measure of its
+-- calls it follows that calls keep ending.
 use Rattle.model.proofs.Names.{AreWithinEnds, Begin, Bool, Bound, Coding, Die, Flight, Going, IsBelow, IsReachedOn}
 use Rattle.model.proofs.Names.{KeepsEnding, Kind, None, Party, Some, Start, Trace, after_turns, call_refusal}
 use Rattle.model.proofs.Names.{ends, flight_in, is_question, kept_after_begin, kept_after_death, number_of, old_of}
@@ -15,10 +15,13 @@ module _ {T : Type 0} (kind : Kind) (F : Coding T → ℕ → Family T) (M : ℕ
   abbrev SoundThere : Trace T → Type 0
   SoundThere t = Sound (F t.world.coding t.world.capacity) t
 
+  -- The measure of the family at the capacity of this machine.
   abbrev there : Trace T → Measure T
   there t = M t.world.capacity
 
-  -- what it owes, of each machine that turns have reached and each call that is under way there
+  -- What the family owes, of each machine that turns reach: its frame holds (`sound`), the measure of a call
+  -- under way is bounded (`most`), a begin and a death give no other call more steps (`begins`, `dies`), and
+  -- with a step or a decision the measure of the call falls (`step`, `decision`).
   pub record FramedLaws : Type 0 where
     pub sound : (t : Trace T) → t.world.kind ≡ kind → IsReachedOn t → SoundThere t
     pub most : (t : Trace T) → SoundThere t → (p : ℕ) (x : Party T) (flight : Flight T) (since : ℕ)

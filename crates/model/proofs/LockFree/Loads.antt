@@ -13,7 +13,7 @@ use Rattle.model.proofs.LockFree.Measure.{worth}
 use Rattle.model.proofs.LockFree.Weighed.{ended_more}
 use Rattle.model.proofs.Rows.{IsPossible, possible_on}
 
--- a step more, where one of the calls has not ended
+-- One step more is within the load, if one of the calls has not ended.
 one_step : (bound before calls ended pending steps step : ℕ) → step ≤ 1 → step ≤ pending → pending + ended ≡ before + calls
     → steps + before * (bound + 1) ≤ bound + ended * (bound + 1) → steps ≤ calls * (bound + 1) → steps + step ≤ calls * (bound + 1)
 one_step bound before calls ended pending steps zero one under count within paid = omega arith
@@ -25,15 +25,16 @@ more_calls calls begins each = worth calls (calls + begins) each (omega arith)
 
 module _ {T : Type 0} (refuses : World T → Turn T → Option Refusal) (possible : (w : World T) (turn : Turn T) → refuses w turn ≡ None → IsPossible w turn)
     (n : ℕ) (May : Turn T → Type 0) (below : (turn : Turn T) → May turn → IsBelow n turn) where
-  -- whatever turns are taken from here, after so many steps
-  abbrev Within : ℕ → ℕ → Trace T → ℕ → Type 0
-  Within bound before t steps =
+  -- Whatever turns are taken from this machine, after `steps` steps, all steps are within
+  -- the bound between ends.
+  abbrev StaysWithin : ℕ → ℕ → Trace T → ℕ → Type 0
+  StaysWithin bound before t steps =
       (turns : List (Turn T)) → AreAllowedBy refuses t turns → AllByRecursion May turns
       → AreWithinEnds bound (steps + steps_in t turns) before (ends (after_turns t turns).events)
 
   -- each call since that moment, and each that these turns begin, pays for one step more than the bound
   calls_pay : (bound before calls steps : ℕ) (t : Trace T) (turns : List (Turn T)) → AreAllowedBy refuses t turns → AllByRecursion May turns
-      → Within bound before t steps → pending n t.world + ends t.events ≡ before + calls → steps ≤ calls * (bound + 1)
+      → StaysWithin bound before t steps → pending n t.world + ends t.events ≡ before + calls → steps ≤ calls * (bound + 1)
       → steps + steps_in t turns ≤ (calls + begins_in turns) * (bound + 1)
   calls_pay bound before calls steps t [] allowed may within count paid = omega (arith, more_calls calls 0 (bound + 1))
   calls_pay bound before calls steps t (turn ∷ turns) allowed may within count paid =
@@ -61,6 +62,7 @@ module _ {T : Type 0} (refuses : World T → Turn T → Option Refusal) (possibl
       omega arith
 
 module _ {T : Type 0} where
+  -- If calls keep ending with this bound, then a finite load ends with it.
   pub loads_end : (kind : Kind) (bound : Bound) → KeepsEnding T kind bound → EndsLoad T kind bound
   loads_end kind bound keeps t is r n turns allowed below =
       load_within call_refusal possible_on n (IsBelow n) (λ turn may. may) (bound n t.world.capacity t.world.coding.size) t turns allowed below
@@ -79,7 +81,7 @@ module _ {T : Type 0} where
   second_all P Q [] all = tt
   second_all P Q (turn ∷ turns) all = (all.0.1, second_all P Q turns all.1)
 
-  -- where calls of this form end as the bound says, every finite load of them ends
+  -- If calls of which `Such` holds keep ending with this bound, every finite load of them ends with it.
   pub loads_end_of : (kind : Kind) (Such : Start T → Type 0) (bound : Bound) → KeepsEndingOf T kind Such bound → EndsLoadOf T kind Such bound
   loads_end_of kind Such bound keeps t is r before n turns allowed below such =
       load_within call_refusal possible_on n (λ turn. IsBelow n turn × BeginsSuch Such turn) (λ turn may. may.0)

@@ -1,5 +1,5 @@
--- In more steps than the bound a call ends, and the same of the machines as they run, with a number of parties and at most
--- 2^64 - 2 turns.
+-- From calls that keep ending to lock-freedom: in more steps than the bound a call ends. It also holds of
+-- machines as they run, with a number of parties and at most 2^64 - 2 turns.
 use Rattle.model.proofs.Names.{AllByRecursion, AreAllowed, AreAllowedOn, AreWithinEnds, Begin, Bound, Decide, Die}
 use Rattle.model.proofs.Names.{IsBelow, IsReached, IsReachedOn, KeepsEnding, Kind, List, Next, None, Start, Trace, Turn}
 use Rattle.model.proofs.Names.{World, [], after_turn, after_turns, arith, cases_lt, ends, false, is_loan, nat_tests}
@@ -22,15 +22,19 @@ past_none = grind (arith, nat_tests)
 one_ends : (bound steps before after : ℕ) → AreWithinEnds bound steps before after → bound < steps → before < after
 one_ends bound steps before after within many = ⊎_elim (λ less. less) none (cases_lt before after)
   where
+    -- If no more calls had ended after than before, the steps would be within the bound.
     none : after ≤ before → before < after
     none le = absurd (omega (arith, worth after before (bound + 1) le))
 
 module _ {T : Type 0} where
+  -- If calls keep ending with this bound, then the kind is lock-free with it.
   pub one_call_ends : (kind : Kind) (bound : Bound) → KeepsEnding T kind bound → IsLockFree T kind bound
   one_call_ends kind bound keeps t is r n turns allowed below many =
       one_ends (bound n t.world.capacity t.world.coding.size) (steps_in t turns) (ends t.events) (ends (after_turns t turns).events)
       (keeps t is r n turns allowed below) many
 
+  -- If calls keep ending with this bound in runs in which `Such` holds of each call that begins,
+  -- then the kind is lock-free with it in these runs.
   pub one_call_ends_of : (kind : Kind) (Such : Start T → Type 0) (bound : Bound) → KeepsEndingOf T kind Such bound → IsLockFreeOf T kind Such bound
   one_call_ends_of kind Such bound keeps t is r before n turns allowed below such many =
       one_ends (bound n t.world.capacity t.world.coding.size) (steps_in t turns) (ends t.events) (ends (after_turns t turns).events)
@@ -38,11 +42,12 @@ module _ {T : Type 0} where
 
   -- ---- machines as they run
 
+  -- A turn that a machine does not refuse is of one of its parties, or a death.
   below_parties : (w : World T) (turn : Turn T) → refusal_of w turn ≡ None → IsBelow w.parties turn
-  below_parties w (Begin p start) e = past_none w.parties p (row_passed (nat_le w.parties p) NoParty _ (row_passed (is_at_end w) AtEnd _ e).1).0
-  below_parties w (Next p) e = past_none w.parties p (row_passed (nat_le w.parties p) NoParty _ (row_passed (is_at_end w) AtEnd _ e).1).0
-  below_parties w (Decide p said) e = past_none w.parties p (row_passed (nat_le w.parties p) NoParty _ (row_passed (is_at_end w) AtEnd _ e).1).0
-  below_parties w (Die owner) e = tt
+  below_parties w (Begin p start) free = past_none w.parties p (row_passed (nat_le w.parties p) NoParty _ (row_passed (is_at_end w) AtEnd _ free).1).0
+  below_parties w (Next p) not_refused = past_none w.parties p (row_passed (nat_le w.parties p) NoParty _ (row_passed (is_at_end w) AtEnd _ not_refused).1).0
+  below_parties w (Decide p said) free = past_none w.parties p (row_passed (nat_le w.parties p) NoParty _ (row_passed (is_at_end w) AtEnd _ free).1).0
+  below_parties w (Die owner) not_refused = tt
 
   -- turns that a machine allows are allowed as calls too, and each is of one of its parties
   pub all_allowed : (t : Trace T) (turns : List (Turn T)) (n : ℕ) → t.world.parties ≡ n → AreAllowed t turns
@@ -62,12 +67,14 @@ module _ {T : Type 0} where
       (reached_on_opening t.world.coding t.world.kind t.world.capacity t.world.parties reached.coded reached.admitted))
       reached
 
+  -- A kind that is lock-free, and no loan channel, is lock-free in its machines as they run.
   pub machines : (kind : Kind) → is_loan kind ≡ false → (bound : Bound) → IsLockFree T kind bound → HasLockFreeRuns T kind bound
   machines kind no_loan bound free t is r turns all many =
       let allowed = all_allowed t turns t.world.parties refl all in
       let none : is_loan t.world.kind ≡ false = subst (λ k. is_loan k ≡ false) (sym is) no_loan in
       free t is (reached_on t none r) t.world.parties turns allowed.0 allowed.1 many
 
+  -- A kind whose loads end, and that is no loan channel, ends its loads in its machines as they run.
   pub loads_in_runs : (kind : Kind) → is_loan kind ≡ false → (bound : Bound) → EndsLoad T kind bound → EndsLoadRuns T kind bound
   loads_in_runs kind no_loan bound ends t is r turns all =
       let allowed = all_allowed t turns t.world.parties refl all in

@@ -16,6 +16,7 @@ use Rattle.model.proofs.LockFree.Sums.{sum_below, sum_le, sum_falls, sum_rises, 
 pub worth : (fewer more each : ℕ) → fewer ≤ more → fewer * each ≤ more * each
 worth fewer more each le = let rest : more ≡ fewer + (more - fewer) = omega arith in rw rest (spread fewer (more - fewer) each)
   where
+    -- A number times `each` is at most a greater number times `each`.
     spread : (a b each : ℕ) → a * each ≤ (a + b) * each
     spread = omega arith
 
@@ -45,21 +46,27 @@ module _ {T : Type 0} (M : Measure T) where
   abbrev pub Harmless : World T → ℕ → List ℕ → Registry T → Type 0
   Harmless w p new now = (q : ℕ) → q ≢ p → (other : Flight T) → flight_in w q ≡ Some other → Leaves w new now other
 
-  -- a call that goes on has a step less to take, and leaves the others no more or has a change less to make
+  -- With its step a call that goes on has a step less to take. Either it gives no other call more steps, or
+  -- it has a change less to make.
   abbrev pub Falls : World T → ℕ → List ℕ → Registry T → ℕ → Flight T → Flight T → Type 0
   Falls w p new now steps was next =
       (M.left new now next + steps ≤ M.left w.words w.kept was)
       × ((Harmless w p new now × (M.pays next ≤ M.pays was)) ⊎ (M.pays next + 1 ≤ M.pays was))
 
+  -- A step of the call that goes on makes it fall as `Falls` says.
   abbrev pub FallsBy : World T → ℕ → Party T → Flight T → Option Ask → ℕ → Type 0
   FallsBy w p x flight ask answer =
       (next : Flight T) → (step_in w p x flight answer).after ≡ GoOn next
       → Falls w p (words_after w.words ask) (step_in w p x flight answer).kept (step_count ask) flight next
 
+  -- The operation that a call under way asks for, if any.
   abbrev pub asked : World T → Flight T → Option Ask
   asked w flight = ask_of (want_of w.coding flight)
 
-  -- what a family owes of the machines of which it speaks, and of the turns that may be taken and are not refused
+  -- What a family owes, of the machines of which P holds, and of turns of which May holds and that are
+  -- not refused: P stays true (`keeps`), the measure is bounded (`most`), a begin and a death give no
+  -- other call more steps (`begins`, `dies`), and with a step or a decision the measure of the call
+  -- falls (`step`, `decision`).
   pub record Owed (refuses : World T → Turn T → Option Refusal) (P : Trace T → Type 0) (May : Turn T → Type 0) : Type 0 where
     pub keeps : (t : Trace T) (turn : Turn T) → refuses t.world turn ≡ None → May turn → P t → P (after_turn t turn)
     pub most : (t : Trace T) → P t → (p : ℕ) (flight : Flight T) → flight_in t.world p ≡ Some flight
@@ -78,10 +85,14 @@ module _ {T : Type 0} (M : Measure T) where
 
   -- ---- what all parties below n have left
 
+  -- How many steps a party's call can take alone, by the measure. A party without a call may begin one, and
+  -- has the most.
   abbrev pub left_of : List ℕ → Registry T → Option (Flight T) → ℕ
   left_of words kept None = M.alone
   left_of words kept (Some flight) = M.left words kept flight
 
+  -- How many changes that can cost others a party's call can make. A party without a call may begin one, and
+  -- has the most.
   abbrev pub pays_of : Option (Flight T) → ℕ
   pays_of None = M.changes
   pays_of (Some flight) = M.pays flight
@@ -93,16 +104,18 @@ module _ {T : Type 0} (M : Measure T) where
   pays_at w p = pays_of (flight_in w p)
 
   module _ (n : ℕ) where
-    -- what a change can cost the others
+    -- What one change of a word can cost the other n - 1 parties in steps.
     abbrev pub price : ℕ
     price = (n - 1) * M.alone
 
+    -- The weight of a machine: the steps that the parties below n can take before one of their calls ends.
     abbrev pub weight : World T → ℕ
     weight w = sum_below n (pays_at w) * price + sum_below n (left_at w)
 
     abbrev pub bound : ℕ
     bound = stretch n M.changes M.alone
 
+    -- No party has more steps to take, or more changes to make, than the measure allows a call.
     pub record IsWithin (w : World T) : Type 0 where
       pub left : (q : ℕ) → left_at w q ≤ M.alone
       pub pays : (q : ℕ) → pays_at w q ≤ M.changes
@@ -115,14 +128,16 @@ module _ {T : Type 0} (M : Measure T) where
 
     -- ---- one turn
 
-    -- the sums of a turn in which the party p has so much less
+    -- With a turn in which party p has `steps` steps less to take, and no party more, the weight
+    -- falls by these steps.
     pub by_left : (old new : World T) (p steps : ℕ) → p < n → ((q : ℕ) → left_at new q ≤ left_at old q) → left_at new p + steps ≤ left_at old p
         → ((q : ℕ) → pays_at new q ≤ pays_at old q) → steps + weight new ≤ weight old
     by_left old new p steps below left here pays =
         let no_more = worth (sum_below n (pays_at new)) (sum_below n (pays_at old)) price (sum_le n (pays_at new) (pays_at old) pays) in
         omega (arith, sum_falls n (left_at new) (left_at old) p steps below left here)
 
-    -- a step that changes the words may raise the others' parts, and pays for that with one of its changes
+    -- A step that changes a word may give other parties more steps to take. Its call pays for that with one
+    -- of its changes.
     by_change : (old new : World T) (p steps : ℕ) → p < n → ((q : ℕ) → left_at new q ≤ M.alone) → left_at new p + steps ≤ left_at old p
         → ((q : ℕ) → pays_at new q ≤ pays_at old q) → pays_at new p + 1 ≤ pays_at old p → steps + weight new ≤ weight old
     by_change old new p steps below left left_here pays here =
@@ -144,6 +159,7 @@ module _ {T : Type 0} (M : Measure T) where
         → Shows w (after_step w p x since ask (step_in w p x flight answer)) (step_count ask) (ends (events_of_step p x.start (step_in w p x flight answer)))
     resumes w p x flight since answer ask below found doing falls within = go s.after refl
       where
+        -- `s` is the step of the party's call.
         s : Step (Flight T) (Registry T) T
         s = step_in w p x flight answer
 
@@ -162,6 +178,7 @@ module _ {T : Type 0} (M : Measure T) where
         goes_on : (next : Flight T) → s.after ≡ GoOn next → Shows w new (step_count ask) (ends (events_of_step p x.start s))
         goes_on next e = ⊎_elim by_less by_pay fell.1
           where
+            -- The call has fallen with this step, as `Falls` says.
             fell : Falls w p new.words new.kept (step_count ask) flight next
             fell = falls next e
 
@@ -171,16 +188,18 @@ module _ {T : Type 0} (M : Measure T) where
             no_less : (q : ℕ) → M.pays next ≤ M.pays flight → pays_at new q ≤ pays_at w q
             no_less q le = ⊎_elim mine theirs (cases_eq q p)
               where
+                -- The case that q is the party of the turn.
                 mine : q ≡ p → pays_at new q ≤ pays_at w q
                 mine same = rw same (rw (now, was) le)
 
                 theirs : q ≢ p → pays_at new q ≤ pays_at w q
                 theirs ne = rw (others q ne) (omega arith)
 
+            -- If the step harms no other call, each has no more steps to take than before.
             still : (q : ℕ) → q ≢ p → Harmless w p new.words new.kept → (o : Option (Flight T)) → flight_in w q ≡ o
                 → left_of new.words new.kept o ≤ left_of w.words w.kept o
-            still q ne harmless None e = omega arith
-            still q ne harmless (Some other) e = harmless q ne other e
+            still q ne harmless None flight_is = omega arith
+            still q ne harmless (Some other) flight_is = harmless q ne other flight_is
 
             left_here : left_at new p + step_count ask ≤ left_at w p
             left_here = rw (now, was) fell.0
@@ -188,17 +207,20 @@ module _ {T : Type 0} (M : Measure T) where
             -- an answer that harms no other call and leads to less of its own takes its steps off the weight
             by_less : (Harmless w p new.words new.kept × (M.pays next ≤ M.pays flight))
                 → Shows w new (step_count ask) (ends (events_of_step p x.start s))
-            by_less h = omega (arith, by_left w new p (step_count ask) below left_no_less left_here (λ q. no_less q h.1))
+            by_less harmless = omega (arith, by_left w new p (step_count ask) below left_no_less left_here (λ q. no_less q harmless.1))
               where
+                -- No party has more steps to take than before.
                 left_no_less : (q : ℕ) → left_at new q ≤ left_at w q
                 left_no_less q = ⊎_elim mine theirs (cases_eq q p)
                   where
+                    -- The case that q is the party of the turn.
                     mine : q ≡ p → left_at new q ≤ left_at w q
                     mine same = let here = left_here in rw same (omega arith)
 
                     theirs : q ≢ p → left_at new q ≤ left_at w q
-                    theirs ne = rw (others q ne) (still q ne h.0 (flight_in w q) refl)
+                    theirs ne = rw (others q ne) (still q ne harmless.0 (flight_in w q) refl)
 
+            -- The case that the step pays for what it changes: its call has a change less to make.
             by_pay : M.pays next + 1 ≤ M.pays flight → Shows w new (step_count ask) (ends (events_of_step p x.start s))
             by_pay h =
                 let less = by_change w new p (step_count ask) below within.left left_here (λ q. no_less q (omega (arith, h))) (rw (now, was) h) in

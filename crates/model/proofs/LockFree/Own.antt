@@ -42,15 +42,17 @@ module _ {T : Type 0} (K : Outline T) where
   KnownAfter p kept (GoOn flight) = K.Known p kept flight
   KnownAfter p kept (Done answer) = Unit {0}
 
-  -- what is known by the one is known by the other
+  -- What is known of a call by what was kept is known by what is kept now.
   abbrev pub Lasts : Registry T → Registry T → Type 0
   Lasts was now = (p : ℕ) (flight : Flight T) → K.Known p was flight → K.Known p now flight
 
-  -- the words are as many as at the opening
+  -- There are as many words as at the opening.
   abbrev pub IsWide : Coding T → ℕ → List ℕ → Type 0
   IsWide code c words = length words ≡ length ((opening_of K.kind).words code.size c)
 
-  -- what it owes, where values are written so and this capacity is admitted
+  -- What a family owes, for a coding and an admitted capacity: what is kept stays as it may be (`opens`,
+  -- `stays`, `dies`), each call stands where it may (`begins`, `goes`), and its measure falls with each of
+  -- its turns (`decides`, `falls`) and is bounded (`most`).
   pub record OwnLaws (code : Coding T) (c : ℕ) : Type 0 where
     pub opens : K.Kept ((opening_of K.kind).kept c)
     pub begins : (start : Start T) (kept : Registry T) (flight : Flight T) → K.Such start → K.Kept kept → first_of K.kind c start kept ≡ Some flight
@@ -76,7 +78,9 @@ module _ {T : Type 0} (K : Outline T) where
         → K.At code c start flight → K.Kept kept → K.Known p kept flight → IsWide code c words
         → StepFallsBy (K.measure code c) code words p kept flight
 
-  -- the same of a family whose tables see nothing of what is kept
+  -- What a family owes whose tables of steps see nothing of what is kept beside the words: that each stage of
+  -- a call leads to one where `At` holds (`begins`, `goes`), and that each step, decision and measure of a
+  -- call is as its table says.
   pub record TableLaws (code : Coding T) (c : ℕ) : Type 0 where
     pub opens : K.Kept ((opening_of K.kind).kept c)
     pub known : (p : ℕ) (kept : Registry T) (flight : Flight T) → K.Known p kept flight
@@ -123,6 +127,7 @@ module _ {T : Type 0} (K : Outline T) where
             (sym (L.told [] None p start flight (old_of words ask) kept at held).1) (L.falls words start flight at wide));
       }
     where
+      -- What is known does not depend on what is kept, so it lasts.
       lasts : (was now : Registry T) → Lasts was now
       lasts was now p flight known = L.known p now flight
 
@@ -135,16 +140,20 @@ module _ {T : Type 0} (K : Outline T) where
     OwnDoing w kept p start (Going flight since) = K.At w.coding w.capacity start flight × K.Known p kept flight
     OwnDoing w kept p start (Over others) = Unit {0}
 
+    -- The party's latest call stands where the family knows it to stand, if it has begun one.
     abbrev OwnParty : World T → Registry T → ℕ → Option (Party T) → Type 0
     OwnParty w kept p None = Unit {0}
     OwnParty w kept p (Some x) = OwnDoing w kept p x.start x.doing
 
     record IsOwn (w : World T) : Type 0 where
+      -- the machine is of the kind, with an admitted coding and capacity
       pub kind : w.kind ≡ K.kind
       pub coded : IsCoding w.coding
       pub admitted : capacity_error K.kind w.capacity ≡ None
+      -- what is kept is as the family says, and there are as many words as at the opening
       pub kept : K.Kept w.kept
       pub wide : IsWide w.coding w.capacity w.words
+      -- each call under way stands where it is known to
       pub calls : (p : ℕ) → OwnParty w w.kept p (party_of p w.latest)
 
     laws_of : (w : World T) → IsOwn w → OwnLaws w.coding w.capacity
@@ -157,28 +166,33 @@ module _ {T : Type 0} (K : Outline T) where
     party_lasts w was now lasts p None own = tt
     party_lasts w was now lasts p (Some x) own = go x.doing own
       where
+        -- The cases are whether the party's latest call is under way or over.
         go : (doing : Doing T) → OwnDoing w was p x.start doing → OwnDoing w now p x.start doing
         go (Going flight since) own = (own.0, lasts p flight own.1)
         go (Over others) own = tt
 
+    -- After a turn each party's call stands where it is known to, if that of the turn's own party does.
     put_own : (w : World T) (now : Registry T) (p : ℕ) (y : Party T) (latest : List (ℕ × Party T)) → Lasts w.kept now → OwnParty w now p (Some y)
         → ((q : ℕ) → OwnParty w w.kept q (party_of q latest)) → (q : ℕ) → OwnParty w now q (party_of q (put p y latest))
     put_own w now p y latest lasts mine all q = ⊎_elim here there (cases_eq q p)
       where
+        -- The case that q is the party of the turn.
         here : q ≡ p → OwnParty w now q (party_of q (put p y latest))
-        here e =
-            subst (λ n. OwnParty w now n (party_of n (put p y latest))) (sym e)
+        here same_party =
+            subst (λ n. OwnParty w now n (party_of n (put p y latest))) (sym same_party)
             (subst (OwnParty w now p) (sym (party_put_same p y latest)) mine)
 
+        -- The case that q is another party.
         there : q ≢ p → OwnParty w now q (party_of q (put p y latest))
         there ne =
             subst (OwnParty w now q) (sym (party_put_other q p y latest ne))
             (party_lasts w w.kept now lasts q (party_of q latest) (all q))
 
+    -- After its step a call stands where it is known to, or it is over.
     doing_own : (w : World T) (now : Registry T) (p : ℕ) (start : Start T) (changes since : ℕ) (after : After (Flight T) (Answer T)) → Lasts w.kept now
         → OwnAfter w.coding w.capacity start after → KnownAfter p w.kept after → OwnDoing w now p start (doing_after changes since after)
-    doing_own w now p start changes since (GoOn flight) lasts at known = (at, lasts p flight known)
-    doing_own w now p start changes since (Done answer) lasts at known = tt
+    doing_own w now p start changes since (GoOn flight) lasts own_after known = (own_after, lasts p flight known)
+    doing_own w now p start changes since (Done answer) lasts own_after known = tt
 
     -- `IsOwn` still holds of the machine when a call has gone on by an answer
     answer_keeps : (w : World T) (p : ℕ) (x : Party T) (ask : Option Ask) (answer : ℕ) (doing : Doing T) → IsOwn w
@@ -206,11 +220,13 @@ module _ {T : Type 0} (K : Outline T) where
     own_there : (w : World T) → IsOwn w → (p : ℕ) (x : Party T) → party_of p w.latest ≡ Some x → OwnDoing w w.kept p x.start x.doing
     own_there w own p x found = subst (OwnParty w w.kept p) found (own.calls p)
 
+    -- A turn `Next` keeps what is known of the machine.
     next_keeps : (w : World T) (p : ℕ) → IsOwn w → (o : Option (Party T)) → party_of p w.latest ≡ o → IsOwn (after_next w p o)
     next_keeps w p own None found = own
     next_keeps w p own (Some x) found =
         answer_keeps w p x (ask_of_doing w.coding x.doing) (old_of w.words (ask_of_doing w.coding x.doing)) x.doing own (own_there w own p x found)
 
+    -- A decision keeps what is known of the machine.
     decision_keeps : (w : World T) (p : ℕ) (said : Bool) → IsOwn w → (o : Option (Party T)) → party_of p w.latest ≡ o
         → IsOwn (after_decision w p said o)
     decision_keeps w p said own None found = own
@@ -253,11 +269,13 @@ module _ {T : Type 0} (K : Outline T) where
           calls = λ p. party_lasts w w.kept (kept_after_death w.kept owner) dies.1 p (party_of p w.latest) (own.calls p);
         }
 
+    -- What is known of a machine holds at its opening.
     opens : (code : Coding T) (c parties : ℕ) → IsCoding code → capacity_error K.kind c ≡ None → IsOwn (opening code K.kind c parties).world
     opens code c parties coded admitted =
         let L = laws code c coded admitted in
         record { kind = refl; coded = coded; admitted = admitted; kept = L.opens; wide = refl; calls = λ p. tt }
 
+    -- What is known of a machine holds after a turn that is taken or refused.
     attempt_keeps : (t : Trace T) (turn : Turn T) → BeginsSuch K.Such turn → IsOwn t.world → (o : Option Refusal)
         → IsOwn (unless_refused t (after_turn t turn) o).world
     attempt_keeps t turn such own None = turn_keeps t.world turn such own
@@ -265,6 +283,7 @@ module _ {T : Type 0} (K : Outline T) where
 
     -- ---- each call under way
 
+    -- A call under way stands where it is known to.
     call_there : (w : World T) → IsOwn w → (p : ℕ) (x : Party T) (flight : Flight T) (since : ℕ) → party_of p w.latest ≡ Some x
         → x.doing ≡ Going flight since → K.At w.coding w.capacity x.start flight × K.Known p w.kept flight
     call_there w own p x flight since found doing = subst (OwnDoing w w.kept p x.start) doing (own_there w own p x found)
@@ -273,9 +292,10 @@ module _ {T : Type 0} (K : Outline T) where
       pub start : Start T
       pub at : K.At w.coding w.capacity start flight
 
+    -- The flight of a party is that of a call which stands where it is known to.
     stands : (w : World T) → IsOwn w → (p : ℕ) (flight : Flight T) → flight_in w p ≡ Some flight → Stands w flight
-    stands w own p flight e =
-        let under = under_way w p flight e in
+    stands w own p flight flight_is =
+        let under = under_way w p flight flight_is in
         let there = call_there w own p under.party flight under.since under.found under.doing in
         record { start = under.party.start; at = there.0 }
 
@@ -290,26 +310,27 @@ module _ {T : Type 0} (K : Outline T) where
     table_falls : (w : World T) → IsOwn w → (p : ℕ) (x : Party T) (flight : Flight T)
         → K.At w.coding w.capacity x.start flight → K.Known p w.kept flight
         → FallsBy (of_words (measure_of w)) w p x flight (ask_of (want_of w.coding flight)) (old_of w.words (ask_of (want_of w.coding flight)))
-    table_falls w h p x flight at known next e =
-        let L = laws_of w h in
+    table_falls w own p x flight stands_at known next e =
+        let L = laws_of w own in
         let ask = ask_of (want_of w.coding flight) in
         let old = old_of w.words ask in
-        let told = L.told w.words (beside_of w.words w.kept w.latest p) p x.start flight old w.kept at h.kept in
+        let told = L.told w.words (beside_of w.words w.kept w.latest p) p x.start flight old w.kept stands_at own.kept in
         falls_by (measure_of w) w p (words_after w.words ask) (step_in w p x flight old).kept (step_count ask) flight
-        (goes_of w.coding p flight old w.kept) (L.falls w.words p w.kept x.start flight at h.kept known h.wide) next (sym told ∙ e)
+        (goes_of w.coding p flight old w.kept) (L.falls w.words p w.kept x.start flight stands_at own.kept known own.wide) next (sym told ∙ e)
 
     -- an answer to a question makes the measure of its call fall
     decision_falls : (w : World T) → IsOwn w → (p : ℕ) (x : Party T) (flight : Flight T) (said : Bool) → K.At w.coding w.capacity x.start flight
         → is_question (want_of w.coding flight) ≡ true → FallsBy (of_words (measure_of w)) w p x flight None (number_of said)
-    decision_falls w h p x flight said at asks next e =
-        let L = laws_of w h in
-        let told = L.told w.words (beside_of w.words w.kept w.latest p) p x.start flight (number_of said) w.kept at h.kept in
+    decision_falls w own p x flight said stands_at asks next e =
+        let L = laws_of w own in
+        let told = L.told w.words (beside_of w.words w.kept w.latest p) p x.start flight (number_of said) w.kept stands_at own.kept in
         falls_by (measure_of w) w p w.words (step_in w p x flight (number_of said)).kept 0 flight
-        (goes_of w.coding p flight (number_of said) w.kept) (L.decides w.words p w.kept x.start flight said at h.kept asks) next (sym told ∙ e)
+        (goes_of w.coding p flight (number_of said) w.kept) (L.decides w.words p w.kept x.start flight said stands_at own.kept asks) next (sym told ∙ e)
 
     abbrev May : ℕ → Turn T → Type 0
     May n turn = IsBelow n turn × BeginsSuch K.Such turn
 
+    -- Turns of parties below n that begin only calls of which `Such` holds are turns that may be taken.
     both_may : (n : ℕ) (turns : List (Turn T)) → AllByRecursion (IsBelow n) turns → AllByRecursion (BeginsSuch K.Such) turns
         → AllByRecursion (May n) turns
     both_may n [] below such = tt
@@ -325,6 +346,7 @@ module _ {T : Type 0} (K : Outline T) where
     -- ---- every run of turns that are not refused
 
     module _ (refuses : World T → Turn T → Option Refusal) (possible : (w : World T) (turn : Turn T) → refuses w turn ≡ None → IsPossible w turn) where
+      -- What is known of a machine holds after any list of turns that begin only calls of which `Such` holds.
       run_keeps : (turns : List (Turn T)) (t : Trace T) → AllByRecursion (BeginsSuch K.Such) turns → IsOwn t.world → IsOwn (run_by refuses turns t).world
       run_keeps [] t such own = own
       run_keeps (turn ∷ turns) t such own =
@@ -382,12 +404,14 @@ module _ {T : Type 0} (K : Outline T) where
     all_such any [] = tt
     all_such any (turn ∷ turns) = (one turn, all_such any turns)
       where
+        -- If `Such` holds of every call, then of each that a turn begins.
         one : (turn : Turn T) → BeginsSuch K.Such turn
         one (Begin p start) = any start
         one (Next p) = tt
         one (Decide p said) = tt
         one (Die owner) = tt
 
+    -- If `Such` holds of every call, calls keep ending with the bound of the measure.
     pub keeps_ending : ((start : Start T) → K.Such start) → (bound : Bound) → ((code : Coding T) (c n : ℕ) → bound n c code.size ≡ measured code c n)
         → KeepsEnding T K.kind bound
     keeps_ending any bound same t is r n turns allowed below =

@@ -1,4 +1,5 @@
--- Every turn, and every list of turns.
+-- From what a family owes of its measure: every turn takes its steps off the weight of the machine, and every
+-- list of turns keeps calls ending.
 use Rattle.model.proofs.Names.{AllByRecursion, AreWithinEnds, Begin, Bool, Decide, Die, Doing, Flight}
 use Rattle.model.proofs.Names.{Going, IsBelow, List, Next, None, Option, Over, Party, Refusal, Some, Start, Trace, Turn, World}
 use Rattle.model.proofs.Names.{after_answer, after_begin, after_decision, after_next, after_turn, after_turns, ap}
@@ -18,29 +19,31 @@ use Rattle.model.proofs.LockFree.Sums.{sum_le}
 
 module _ {T : Type 0} (refuses : World T → Turn T → Option Refusal) (possible : (w : World T) (turn : Turn T) → refuses w turn ≡ None → IsPossible w turn)
     (M : Measure T) (P : Trace T → Type 0) (May : Turn T → Type 0) (O : Owed M refuses P May) where
+  -- A party's call has at most `alone` steps left. A party without a call counts as one with the most.
   left_within : (t : Trace T) → P t → (q : ℕ) (o : Option (Flight T)) → flight_in t.world q ≡ o
       → left_of M t.world.words t.world.kept o ≤ M.alone
-  left_within t h q None e = omega arith
-  left_within t h q (Some flight) e = (O.most t h q flight e).0
+  left_within t h q None flight_is = omega arith
+  left_within t h q (Some flight) flight_is = (O.most t h q flight flight_is).0
 
   pays_within : (t : Trace T) → P t → (q : ℕ) (o : Option (Flight T)) → flight_in t.world q ≡ o → pays_of M o ≤ M.changes
-  pays_within t h q None e = omega arith
-  pays_within t h q (Some flight) e = (O.most t h q flight e).1
+  pays_within t h q None flight_is = omega arith
+  pays_within t h q (Some flight) flight_is = (O.most t h q flight flight_is).1
 
   module _ (n : ℕ) (below : (turn : Turn T) → May turn → IsBelow n turn) where
     within : (t : Trace T) → P t → IsWithin M n t.world
     within t h = record { left = λ q. left_within t h q (flight_in t.world q) refl; pays = λ q. pays_within t h q (flight_in t.world q) refl }
 
-    abbrev Shown : Trace T → Turn T → Type 0
-    Shown t turn = Shows M n t.world (world_after t.world turn) (steps_of t.world turn) (ends (events_of t.world turn))
+    abbrev ShowsTurn : Trace T → Turn T → Type 0
+    ShowsTurn t turn = Shows M n t.world (world_after t.world turn) (steps_of t.world turn) (ends (events_of t.world turn))
 
-    -- a call begins
+    -- A begin raises no party's measure, so the weight of the machine does not rise.
     begins : (w : World T) (p : ℕ) (start : Start T) → p < n → (o : Option (Flight T)) → is_none o ≡ false → flight_in w p ≡ None
         → Harmless M w p w.words (kept_after_begin w.coding w.capacity start p w.kept)
         → IsWithin M n (after_begin w p start o) → 0 + weight M n (after_begin w p start o) ≤ weight M n w
     begins w p start below None some free harmless within = absurd (cc)
     begins w p start below (Some flight) some free harmless within = by_left M n w new p 0 below left here pays
       where
+        -- `new` is the machine after the begin.
         new : World T
         new = after_begin w p start (Some flight)
 
@@ -50,6 +53,7 @@ module _ {T : Type 0} (refuses : World T → Turn T → Option Refusal) (possibl
         left : (q : ℕ) → left_at M new q ≤ left_at M w q
         left q = ⊎_elim mine theirs (cases_eq q p)
           where
+            -- The case that q is the party that begins.
             mine : q ≡ p → left_at M new q ≤ left_at M w q
             mine same = let most = within.left p in rw (same, free) most
 
@@ -63,6 +67,7 @@ module _ {T : Type 0} (refuses : World T → Turn T → Option Refusal) (possibl
         pays : (q : ℕ) → pays_at M new q ≤ pays_at M w q
         pays q = ⊎_elim mine theirs (cases_eq q p)
           where
+            -- The case that q is the party that begins.
             mine : q ≡ p → pays_at M new q ≤ pays_at M w q
             mine same = let most = within.pays p in rw (same, free) most
 
@@ -74,8 +79,8 @@ module _ {T : Type 0} (refuses : World T → Turn T → Option Refusal) (possibl
         → IsWithin M n (world_after t.world (Next p)) → (o : Option (Party T)) → party_of p t.world.latest ≡ o
         → IsWithin M n (after_next t.world p o)
         → Shows M n t.world (after_next t.world p o) (step_count (ask_of_flight t.world.coding (flight_of (doing_of o)))) (ends (events_of_next t.world p o))
-    nexts t h p below flight is within None found there = let none : flight_in t.world p ≡ None = ap (λ o. flight_of (doing_of o)) found in absurd (cc)
-    nexts t h p below flight is within (Some x) found there = go x.doing refl there
+    nexts t h p below flight flight_is within None found there = let none : flight_in t.world p ≡ None = ap (λ o. flight_of (doing_of o)) found in absurd (cc)
+    nexts t h p below flight flight_is within (Some x) found there = go x.doing refl there
       where
         -- the weight pays for the step of a call under way; where none is under way there is no such turn
         go : (doing : Doing T) → x.doing ≡ doing
@@ -114,30 +119,31 @@ module _ {T : Type 0} (refuses : World T → Turn T → Option Refusal) (possibl
     -- an owner dies
     dead : (t : Trace T) → P t → (owner : ℕ) → refuses t.world (Die owner) ≡ None → May (Die owner)
         → weight M n (after_death t.world owner) ≤ weight M n t.world
-    dead t h owner e may =
+    dead t h owner not_refused may =
         omega (arith, sum_le n (left_at M (after_death t.world owner)) (left_at M t.world) (λ q. one q (flight_in t.world q) refl))
       where
+        -- The cases are whether the party has a call under way.
         one : (q : ℕ) (o : Option (Flight T)) → flight_in t.world q ≡ o
             → left_of M t.world.words (kept_after_death t.world.kept owner) o ≤ left_of M t.world.words t.world.kept o
-        one q None is = omega arith
-        one q (Some other) is = O.dies t h owner e may q other is
+        one q None flight_is = omega arith
+        one q (Some other) flight_is = O.dies t h owner not_refused may q other flight_is
 
     -- the weight pays for each turn
     turn_shows : (t : Trace T) → P t → (turn : Turn T) → refuses t.world turn ≡ None → May turn → IsBelow n turn
-        → IsWithin M n (world_after t.world turn) → Shown t turn
-    turn_shows t h (Begin p start) e such below there =
-        let may : MayStart t.world p start = possible t.world (Begin p start) e in
+        → IsWithin M n (world_after t.world turn) → ShowsTurn t turn
+    turn_shows t h (Begin p start) not_refused such below there =
+        let may : MayStart t.world p start = possible t.world (Begin p start) not_refused in
         let shows =
         begins t.world p start below (first_of t.world.kind t.world.capacity start t.world.kept) may.call may.free
-        (O.begins t h p start e such) there in
+        (O.begins t h p start not_refused such) there in
         omega arith
-    turn_shows t h (Next p) e such below there =
-        let may : MayGoOn t.world p = possible t.world (Next p) e in
+    turn_shows t h (Next p) not_refused such below there =
+        let may : MayGoOn t.world p = possible t.world (Next p) not_refused in
         nexts t h p below may.flight may.is there (party_of p t.world.latest) refl there
-    turn_shows t h (Decide p said) e such below there =
-        let may : MayGoOn t.world p × (is_due t.world.coding (flight_in t.world p) ≡ true) = possible t.world (Decide p said) e in
+    turn_shows t h (Decide p said) not_refused such below there =
+        let may : MayGoOn t.world p × (is_due t.world.coding (flight_in t.world p) ≡ true) = possible t.world (Decide p said) not_refused in
         decides t h p said below may.0.flight may.0.is may.1 (party_of p t.world.latest) refl there
-    turn_shows t h (Die owner) e such below there = omega (arith, dead t h owner e such)
+    turn_shows t h (Die owner) not_refused such below there = omega (arith, dead t h owner not_refused such)
 
     -- ---- a list of turns
 

@@ -6,6 +6,7 @@ use Rattle.model.proofs.Names.{◌*◌, ◌++◌, ◌+◌, ◌∷◌, ◌≡◌,
 use Rattle.model.specs.LockFree.{BeginsSuch, end_of, steps_of}
 use Rattle.model.specs.Turns.{AreAllowedBy, IsReachedBy}
 
+-- The account of one turn and that of the turns after it make the account of all.
 one_turn_more : (s steps old new last before ended after each : ℕ) → s + new ≤ old + ended * each
     → steps + last + (before + ended) * each ≤ new + after * each
     → s + steps + last + before * each ≤ old + after * each

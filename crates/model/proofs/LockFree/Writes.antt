@@ -1,4 +1,5 @@
--- What a step writes down has no begin and no end of a call: the end comes beside it.
+-- What a step of a call writes down has no begin and no end of a call. The end of the call itself
+-- is added behind that.
 use Rattle.std.proofs.Common.{◌≡◌, ℕ, ◌+◌, ◌≤◌, Option, List, [], ◌∷◌, ◌++◌, map, refl, arith}
 use Rattle.std.specs.List.{sum_by}
 use Rattle.std.proofs.lemmas.List.Sums.{sum_by-append, sum_by-le-sum_by}
@@ -32,6 +33,7 @@ module _ {T : Type 0} where
   abbrev edge_of : Event T → ℕ
   edge_of e = begun_of e + end_of e
 
+  -- How many events of the list begin or end a call.
   abbrev edges : List (Event T) → ℕ
   edges events = sum_by edge_of events
 
@@ -80,12 +82,14 @@ module _ (T : Type 0) where
       let two = container_questions p flight old in
       rw (more, one, two) refl
 
+  -- A step of a call of any family writes no begin and no end of a call.
   no_edge : (code : Coding T) (words : List ℕ) (beside : Option (ℕ × ℕ)) (p : ℕ) (start : Start T) (flight : Flight T) (old : ℕ) (kept : Registry T)
       → edges (step_of code words beside p start flight old kept).wrote ≡ 0
   no_edge =
       grind (arith, queue_writes, atomic_writes, bits_writes, index_writes, robust_writes, container_writes, loan_writes)
 
   module _ (code : Coding T) (words : List ℕ) (beside : Option (ℕ × ℕ)) (p : ℕ) (start : Start T) (flight : Flight T) (old : ℕ) (kept : Registry T) where
+    -- What a step of the call writes down.
     abbrev wrote : List (Event T)
     wrote = (step_of code words beside p start flight old kept).wrote
 

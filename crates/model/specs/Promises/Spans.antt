@@ -7,8 +7,9 @@ use Rattle.model.specs.Reading.{moments, whose, Span, span_of}
 use Rattle.model.specs.Shape.{IsOpenFor, IsShut}
 
 module _ {T : Type 0} where
-  -- Where an event may stand in its party's span: a call begins where none is under way, acts at most once, writes what
-  -- its family says, and finishes with what its answer says.
+  -- Where an event may stand in its party's span, which is the party's latest call with what it has
+  -- written so far. A call begins only where none is under way, acts at most once, writes what its family
+  -- allows, and finishes after what its answer says.
   abbrev pub Stands : Promise T → ℕ → Event T → Span T → Type 0
   Stands promise capacity (Begun p start) span = IsShut span
   Stands promise capacity (Acted p start answer) span =

@@ -20,14 +20,16 @@ use Rattle.model.specs.World.{World, Trace, flight_in, progress_in}
 
 -- ---- the counts of a call
 
--- one step more where an operation was asked for, at most one turn back more, and what others changed stays
+-- How the counts of a call change in its own turn: one step more if an operation was asked for, at most
+-- one turn back more, and the count of changes by other parties as it was.
 pub record HasGoneOn (asks over : Bool) (old new : Progress) : Type 0 where
   pub steps : new.steps ≡ (if asks then old.steps + 1 else old.steps)
   pub backs : (new.backs ≡ old.backs) ⊎ (new.backs ≡ old.backs + 1)
   pub others : new.others ≡ old.others
   pub finished : new.finished ≡ over
 
--- both are the counts of a call, which has gone on from the first to the second
+-- The counts of a party's call before and after its own turn, which both exist: the call has gone on from
+-- the first to the second.
 abbrev pub BothGoOn : (asks over : Bool) → Option Progress → Option Progress → Type 0
 BothGoOn asks over (Some old) (Some new) = HasGoneOn asks over old new
 BothGoOn asks over (Some old) None = ⊥
@@ -69,7 +71,8 @@ module _ {T : Type 0} where
 
   -- ---- the party's call
 
-  -- the call stands there afterwards, or is done
+  -- After the turn the party's call stands at this stage, or, if the call is done, the
+  -- party has none under way.
   abbrev pub StandsAt : World T → ℕ → After (Flight T) (Answer T) → Type 0
   StandsAt w p (GoOn flight) = flight_in w p ≡ Some flight
   StandsAt w p (Done answer) = flight_in w p ≡ None

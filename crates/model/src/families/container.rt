@@ -20,7 +20,8 @@ pub enum ContainerStart<T> {
     Replace(u64, T, OwnerId),
     /// How many indices this owner has. It asks about each value of his whether to go on.
     Find(OwnerId),
-    /// It frees the indices of this owner, who is dead, and asks about each value of his whether to do so.
+    /// It frees the indices of this owner, who is dead, and before that asks about each value of the owner whether to
+    /// free its index.
     Recover(OwnerId, ReleaseMode),
     /// The party's state is emptied and then brought up to date.
     GetState,

@@ -9,11 +9,13 @@ use Rattle.pages_threads.specs.Known.{index_page, overflowing_page, queue_page, 
 use Rattle.pages_threads.proofs.Passing.{linear}
 use Rattle.pages_threads.proofs.passes_are_linearizable.Goals as goal
 
+-- what a pass of an index queue has seen is linearizable as the bounded list
 pub returns-clause-index : goal.returns-clause-index
 returns-clause-index g c capacity =
     linear (index_page capacity) (bounded_list capacity) (c.passes_run_the_pages.ensures.index capacity)
     (λ v knows turns few. c.index_queue.ensures capacity turns (admitted_fits IndexQueue capacity knows.admitted) few)
 
+-- what a pass of an overflowing queue has seen is linearizable as its list
 pub returns-clause-overflowing : goal.returns-clause-overflowing
 returns-clause-overflowing g c capacity more =
     linear (overflowing_page capacity) (overflowing_list capacity) (c.passes_run_the_pages.ensures.overflowing capacity more)
@@ -23,6 +25,7 @@ pub returns-clause-value : goal.returns-clause-value
 returns-clause-value g c =
     linear value_page register c.passes_run_the_pages.ensures.value (λ v knows turns few. c.single_value.ensures turns few)
 
+-- what a pass of a queue of values has seen is linearizable as the bounded list
 pub returns-clause-values : goal.returns-clause-values
 returns-clause-values g c how capacity =
     linear (queue_page how capacity) (values.bounded_list capacity) (c.passes_run_the_pages.ensures.values how capacity)

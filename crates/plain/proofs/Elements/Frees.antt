@@ -1,4 +1,5 @@
--- What a recovery of a container does to the words once it was told to free an index.
+-- What a recovery of a container does to the words once it was told to free an index: the value is hidden,
+-- the cell emptied, the counter raised and perhaps the set locked, and in the end the change counted.
 use Rattle.std.proofs.Common.{◌≡◌, ◌≢◌, ℕ, zero, suc, ◌+◌, ◌^◌, ◌<◌, ◌≤◌, false, List, [], ◌∷◌, length, take, None}
 use Rattle.std.proofs.Common.{refl, sym, ap, subst, ◌∙◌, arith, slice_index, slice_set, length-set, get_or-set_same}
 use Rattle.std.proofs.Common.{get_or-set_other, get_or-take, if◌then◌else◌}
@@ -23,6 +24,8 @@ use Rattle.plain.proofs.Elements.Values.{value_same, behind_contents, behind_fit
 -- ---- raise and lock, where more words stand behind those of the set
 
 module _ (capacity g : ℕ) (cells ws : List ℕ) (small : g < 2 ^ 64) (front : take (1 + capacity) ws ≡ g ∷ cells) where
+  -- a raise over all the words raises the set's counter as it would alone, and leaves the
+  -- words behind the set's
   pub raise_over : g ≢ locked → (Q : ReleaseState → List ℕ → Type 0)
       → ((last : List ℕ) → Behind (1 + capacity) ws last → take (1 + capacity) last ≡ next_generation g ∷ cells → Q Unlocked last)
       → Walks raise_want raise_after 2 (OnEnd Q) raises.LoadsCounter ws
@@ -32,9 +35,9 @@ module _ (capacity g : ℕ) (cells ws : List ℕ) (small : g < 2 ^ 64) (front : 
   pub lock_over : length cells ≡ capacity → capacity < 2 ^ 32 → (Q : ReleaseState → List ℕ → Type 0)
       → ((state : ReleaseState) (last : List ℕ) → Behind (1 + capacity) ws last → take (1 + capacity) last ≡ locking g cells ∷ cells → Q state last)
       → Walks lock_want (lock_after capacity) (plus (suc (suc (suc (length cells)))) 1) (OnEnd Q) first_lock ws
-  lock_over long few Q so =
+  lock_over long few Q holds =
       front_walks lock_want (lock_after capacity) (1 + capacity) (LockLow capacity) (lock_below capacity) (λ l old low. lock_goes_low capacity l old) ws
-      (λ e last. last ≡ locking g cells ∷ cells) Q so
+      (λ e last. last ≡ locking g cells ∷ cells) Q holds
       (plus (suc (suc (suc (length cells)))) 1) first_lock ws tt (stays (1 + capacity) ws)
       (subst (λ vs. Walks lock_want (lock_after capacity) (plus (suc (suc (suc (length cells)))) 1)
       (OnEnd (λ e last. last ≡ locking g cells ∷ cells)) first_lock vs)
@@ -50,40 +53,50 @@ set_swap (z ∷ l) (suc i) zero x y ne = refl
 set_swap (z ∷ l) (suc i) (suc j) x y ne = ap (λ t. z ∷ t) (set_swap l i j x y (λ e. ne (ap suc e)))
 
 module _ {V : Type 0} (value_of : List ℕ → V) (size capacity container : ℕ) (words : List ℕ) (holds : Holds value_of size capacity container words) where
+  -- the words are those of a container
   fits : Represents size capacity words
   fits = holds.0
 
+  -- the contents of the words
   abbrev s : Contents V
   s = contents_in value_of size capacity container words
 
+  -- the counter of the set
   abbrev g : ℕ
   g = counter value_of size capacity container words holds
 
+  -- the cells of the owners
   abbrev its_cells : List ℕ
   its_cells = cells value_of size capacity container words holds
 
+  -- the first word is the counter
   pub head_is : slice_index words 0 ≡ g
   head_is = grind (arith, get_or-take, front)
 
+  -- the generation of the contents is the counter
   pub generation_is : s.owners.generation ≡ g
   generation_is = grind (arith, front)
 
+  -- the counter has 64 bits
   pub counter_low : g < 2 ^ 64
   counter_low = subst (λ n. n < 2 ^ 64) head_is fits.small
 
   -- ---- the change is counted
 
+  -- the words with 1 added to the number of changes
   abbrev pub counted : List ℕ
   counted = slice_set words (change_word capacity) (one_more (slice_index words (change_word capacity)))
 
+  -- their contents are those before with one change more
   counted_is : contents_in value_of size capacity container counted ≡ one_change s
   counted_is = grind (arith, one_more, take, take-set-le, map_same, value_at, value_same, get_or-set_other, get_or-set_same)
 
-  -- the words fit, and their contents are those before with one change counted
+  -- these are the words of a container whose contents are those before with one change more
   pub record Counted (last : List ℕ) : Type 0 where
     pub fit : Holds value_of size capacity container last
     pub is : contents_in value_of size capacity container last ≡ one_change s
 
+  -- to add 1 to the number of changes counts one change more
   pub counts_so : Counted counted
   counts_so = grind (arith, length-set, get_or-set_other, counted_is)
 
@@ -91,30 +104,35 @@ module _ {V : Type 0} (value_of : List ℕ → V) (size capacity container : ℕ
 
   module _ (wide : size ≤ 128) (mode : ReleaseMode) (index : ℕ) (near : index < capacity)
       (odd : is_even (slice_index words (count_word capacity index)) ≡ false) where
+    -- the number of the index, which is odd
     abbrev n : ℕ
     n = slice_index words (count_word capacity index)
 
-    -- without the value
+    -- the words with the value hidden: the number of the index is one more
     abbrev hid : List ℕ
     hid = slice_set words (count_word capacity index) (one_more n)
 
-    -- without the owner too
+    -- the words with the value hidden and the cell emptied
     abbrev pub bare : List ℕ
     bare = slice_set (slice_set words (cell_word index) empty) (count_word capacity index) (one_more n)
 
+    -- the cells with this one emptied
     abbrev pub emptied : List ℕ
     emptied = slice_set its_cells index empty
 
+    -- the order of hiding and emptying does not matter
     bare_is : bare ≡ slice_set hid (cell_word index) empty
     bare_is = grind (arith, set_swap, empty, one_more)
 
+    -- the cells with this one emptied are as many as before
     pub emptied_long : length emptied ≡ capacity
     emptied_long = length-set its_cells index empty ∙ cells_long value_of size capacity container words holds
 
+    -- to hide the value leaves the words of the set
     hid_front : take (1 + capacity) hid ≡ take (1 + capacity) words
     hid_front = take-set-le (1 + capacity) words (count_word capacity index) (one_more n) (omega arith)
 
-    -- the set's words are then its counter as it was, and the cells with this index emptied
+    -- the words of the set are then its counter as it was, and the cells with this one emptied
     pub bare_front : take (1 + capacity) bare ≡ g ∷ emptied
     bare_front =
         ap (take (1 + capacity)) bare_is
@@ -122,30 +140,36 @@ module _ {V : Type 0} (value_of : List ℕ → V) (size capacity container : ℕ
         ∙ (ap (λ ws. slice_set ws (cell_word index) empty) (hid_front ∙ front value_of size capacity container words holds)
         ∙ next_set g index empty its_cells))
 
+    -- to empty the cell leaves the words behind the set's
     pub bare_behind : Behind (1 + capacity) hid bare
     bare_behind = grind (arith, bare_is, length-set, empty, get_or-set_other)
 
+    -- the words with the value hidden are those of `hidden`, since the number is odd
     hid_is : hidden value_of size capacity words fits index near wide ≡ hid
     hid_is = ap (λ b. if b then words else hid) odd
 
+    -- the words with the value hidden are those of a container
     hid_fits : Represents size capacity hid
     hid_fits = grind (arith, length-set, one_more, get_or-set_other)
 
-    -- the contents without the value
+    -- the contents without the value of this index, and no change counted
     abbrev without_value : Contents V
     without_value = record (changed s s.owners index None) { changes = s.changes }
 
-    -- these are the words as a remove leaves them, but for the number of changes
+    -- the words with the value hidden, as a remove leaves them before it counts the change
     abbrev both : List ℕ
     both = hidden value_of size capacity words fits index near wide
 
-    -- the contents of these words are those without the value
+    -- the contents of these words are those without the value, and no change counted
     hidden_contents : contents_in value_of size capacity container both ≡ without_value
     hidden_contents =
         let there = hides value_of size capacity words fits index near wide in
+        -- with the change counted the contents would be those without the value
         let changed_is =
         change_contents value_of size capacity words fits index near wide container both None there.writes
         (gone value_of size capacity words fits index near wide both there) in
+        -- the number of changes is no part of the values and the numbers, so these are the
+        -- same without the count
         let later = after_change value_of size capacity words fits index near wide both in
         let c = one_more (slice_index both (change_word capacity)) in
         let values = map_same (value_at value_of size capacity both) (value_at value_of size capacity later) capacity 0
@@ -160,15 +184,17 @@ module _ {V : Type 0} (value_of : List ℕ → V) (size capacity container : ℕ
         let changes = there.writes.changes in
         λ i. record { container = container; owners = owners_in (front_same i); values = v i; counts = k i; changes = changes i }
 
+    -- the contents of the words with the value hidden are those without the value
     hid_contents : contents_in value_of size capacity container hid ≡ without_value
     hid_contents = ap (contents_in value_of size capacity container) (sym hid_is) ∙ hidden_contents
 
-    -- the words fit, and their contents are those before with this index freed
+    -- these are the words of a container whose contents are those before with this index freed
     pub record Freed (last : List ℕ) : Type 0 where
       pub fit : Holds value_of size capacity container last
       pub is : contents_in value_of size capacity container last ≡ freed mode s index
 
-    -- once the counter is as the mode leaves it too, the words are those of the contents with this index freed
+    -- where the value is hidden, the cell emptied and the counter the one of this mode, the contents are
+    -- those before with this index freed
     pub frees_so : (last : List ℕ) → Behind (1 + capacity) hid last → take (1 + capacity) last ≡ counter_then mode g emptied ∷ emptied → Freed last
     frees_so last behind front_is =
         let set : owners_in (take (1 + capacity) last) ≡ given_back mode s.owners index =

@@ -36,17 +36,18 @@ module _ {V : Type 0} (value_of : List ℕ → V) (size capacity : ℕ) where
   pub values_same : (ws vs : List ℕ) (p n : ℕ)
       → ((q : ℕ) → p ≤ q → q < p + n → value_at value_of size capacity ws q ≡ value_at value_of size capacity vs q)
       → values_from value_of size capacity ws p n ≡ values_from value_of size capacity vs p n
-  values_same ws vs p zero h = refl
-  values_same ws vs p (suc n) h =
-      let head = h p (omega arith) (omega arith) in
-      let tail = values_same ws vs (p + 1) n (λ q low high. h q (omega arith) (omega arith)) in
+  values_same ws vs p zero same = refl
+  values_same ws vs p (suc n) same =
+      let head = same p (omega arith) (omega arith) in
+      let tail = values_same ws vs (p + 1) n (λ q low high. same q (omega arith) (omega arith)) in
       λ i. head i ∷ tail i
 
+  -- there are as many values from a position on as are asked for
   pub values_length : (ws : List ℕ) (p n : ℕ) → length (values_from value_of size capacity ws p n) ≡ n
   values_length ws p zero = refl
   values_length ws p (suc n) = ap suc (values_length ws (p + 1) n)
 
-  -- one value more is that of the position behind them
+  -- n + 1 values from a position on are the first n, and the value of the position after them
   pub values_more : (ws : List ℕ) (p n : ℕ) → values_from value_of size capacity ws p (suc n)
       ≡ values_from value_of size capacity ws p n ++ value_at value_of size capacity ws (p + n) ∷ []
   values_more ws p zero = ap (λ q. value_at value_of size capacity ws q ∷ []) (omega arith)

@@ -1,4 +1,5 @@
--- The words of a bit set that is emptied, one word after another, while its places are handed out.
+-- A `reset_all` of a bit set, one element after another: its closure is called with each place that stands,
+-- and the words are then empty.
 use Rattle.std.proofs.Common.{◌≡◌, ◌≢◌, ℕ, zero, suc, ◌+◌, ◌-◌, ◌*◌, ◌<◌, ◌≤◌, ⊎_elim, Bool, true, false, List}
 use Rattle.std.proofs.Common.{[], ◌∷◌, ◌++◌, length, drop, replicate, refl, sym, ap, subst, ◌∙◌, arith, slice_index}
 use Rattle.std.proofs.Common.{slice_set, get_or-set_same, get_or-set_other, length-set, if◌then◌else◌}
@@ -12,12 +13,14 @@ use Rattle.plain.specs.Bits.{flags_in, places_in, standing_in, Represents}
 use Rattle.plain.specs.Visits.{Takes, WasCalled}
 use Rattle.plain.proofs.Places.Flags.{flag_at, flags_length}
 
+-- the flags from n on are the flag n and those after it
 rest_of : (n : ℕ) (xs : List Bool) → n < length xs
     → drop n xs ≡ slice_index_or xs n false ∷ drop (suc n) xs
 rest_of n [] within = absurd (omega arith)
 rest_of zero (x ∷ xs) within = refl
 rest_of (suc n) (x ∷ xs) within = rest_of n xs (omega arith)
 
+-- after all flags there is none
 drop_all : (xs : List Bool) → drop (length xs) xs ≡ []
 drop_all [] = refl
 drop_all (x ∷ xs) = drop_all xs
@@ -25,18 +28,19 @@ drop_all (x ∷ xs) = drop_all xs
 -- a test that fails at each place of a range gives `false` for all of them
 none_of : (f : ℕ → Bool) (n a : ℕ) → ((q : ℕ) → a ≤ q → q < a + n → f q ≡ false)
     → map f (range_with_len a n) ≡ replicate n false
-none_of f zero a h = refl
-none_of f (suc n) a h =
-    let head = h a (omega arith) (omega arith) in
-    let tail = none_of f n (a + 1) (λ q low high. h q (omega arith) (omega arith)) in
+none_of f zero a fails = refl
+none_of f (suc n) a fails =
+    let head = fails a (omega arith) (omega arith) in
+    let tail = none_of f n (a + 1) (λ q low high. fails q (omega arith) (omega arith)) in
     λ i. head i ∷ tail i
 
+-- a list of zeros has a zero at each place
 zero_at : (n j : ℕ) → slice_index (replicate n 0) j ≡ 0
 zero_at zero j = refl
 zero_at (suc n) zero = refl
 zero_at (suc n) (suc j) = zero_at n j
 
--- words that are all 0
+-- words that are all 0 are those of a set without any place
 pub opened : (capacity n : ℕ) (words : List ℕ) → words ≡ replicate n 0
     → places_in capacity words ≡ unset capacity
 opened = grind (arith, none_of, stands, has_flag, zero_at, none_stands)
@@ -52,22 +56,25 @@ none_in found place (suc n) clear =
     (clear place (omega arith) (omega arith))
     ∙ none_in found (place + 1) n (λ q low high. clear q (omega arith) (omega arith))
 
+-- the places of an element from one on are that place, if it stands, and those after it
 next_in : (found place end : ℕ) → place < end
     → standing_in found place (end - place)
     ≡ (if has_flag found place then place ∷ standing_in found (place + 1) (end - (place + 1)) else standing_in found (place + 1) (end - (place + 1)))
 next_in found place end low =
     ap (standing_in found place) (let e : end - place ≡ suc (end - (place + 1)) = omega arith in e)
 
+-- a place that may come first comes before both lists
 put_before : (b : Bool) (place : ℕ) (xs ys : List ℕ)
     → (if b then place ∷ (xs ++ ys) else xs ++ ys) ≡ (if b then place ∷ xs else xs) ++ ys
 put_before true place xs ys = refl
 put_before false place xs ys = refl
 
 module _ (capacity : ℕ) (before : List ℕ) where
+  -- the places that stand, from this one on
   abbrev pub left : ℕ → List ℕ
   left place = standing_from place (drop place (flags_in capacity before))
 
-  -- the places left from one on are that one, if it stands, and those left behind it
+  -- the places that stand from one on are that one, if it stands, and those after it
   left_is : (place : ℕ) → place < capacity
       → left place ≡ (if stands before place then place ∷ left (place + 1) else left (place + 1))
   left_is place low =
@@ -79,51 +86,59 @@ module _ (capacity : ℕ) (before : List ℕ) where
       (let e : suc place ≡ place + 1 = omega arith in e)
       ∙ ap (λ b. if b then place ∷ left (place + 1) else left (place + 1)) (flag_at capacity before place low))
 
+  -- from the capacity on no place stands
   nothing_left : left capacity ≡ []
   nothing_left =
       ap (λ n. standing_from capacity (drop n (flags_in capacity before))) (sym (flags_length capacity before))
       ∙ ap (standing_from capacity) (drop_all (flags_in capacity before))
 
-  -- so many places from here on lie in one element
+  -- where n places from one on lie in one element, the places that stand are those of the
+  -- element and those after them
   pub left_splits : (found place n : ℕ) → place + n ≤ capacity
       → ((q : ℕ) → place ≤ q → q < place + n → slice_index before (element_of q) ≡ found)
       → left place ≡ standing_in found place n ++ left (place + n)
-  left_splits found place zero within is = ap left (let e : place ≡ place + 0 = omega arith in e)
-  left_splits found place (suc n) within is =
+  left_splits found place zero within word_is = ap left (let e : place ≡ place + 0 = omega arith in e)
+  left_splits found place (suc n) within word_is =
       left_is place (omega arith)
-      ∙ (ap (λ w. if has_flag w place then place ∷ left (place + 1) else left (place + 1)) (is place (omega arith) (omega arith))
+      ∙ (ap (λ w. if has_flag w place then place ∷ left (place + 1) else left (place + 1)) (word_is place (omega arith) (omega arith))
       ∙ (ap (λ xs. if has_flag found place then place ∷ xs else xs)
-      (left_splits found (place + 1) n (omega arith) (λ q low high. is q (omega arith) (omega arith))
+      (left_splits found (place + 1) n (omega arith) (λ q low high. word_is q (omega arith) (omega arith))
       ∙ ap (λ m. standing_in found (place + 1) n ++ left m) (let e : place + 1 + n ≡ place + suc n = omega arith in e))
       ∙ put_before (has_flag found place) place (standing_in found (place + 1) n) (left (place + suc n))))
 
 module _ {F : Type 0} (pre : F → ℕ → Type 0) (step : F → ℕ → Unit {0} → F → Type 0) where
+  -- calls of the closure with these places, one after another, led from f to `last`
   abbrev Folds : F → List ℕ → F → Type 0
   Folds f xs last = FoldsTo (λ p x q. step p x tt q) f xs last
 
+  -- a closure that may be called with a list may be called with the beginning of it
   takes_first : (xs ys : List ℕ) (f : F) → Takes pre step (xs ++ ys) f → Takes pre step xs f
   takes_first [] ys f may_take = tt
   takes_first (x ∷ xs) ys f may_take = (may_take.0, λ next did. takes_first xs ys next (may_take.1 next did))
 
+  -- after the calls with a beginning of a list the closure may be called with the rest
   takes_rest : (xs ys : List ℕ) (f last : F) → Takes pre step (xs ++ ys) f → Folds f xs last → Takes pre step ys last
-  takes_rest [] ys f last may_take is = subst (Takes pre step ys) is may_take
+  takes_rest [] ys f last may_take folds = subst (Takes pre step ys) folds may_take
   takes_rest (x ∷ xs) ys f last may_take went = takes_rest xs ys went.0 last (may_take.1 went.0 went.1) went.2
 
+  -- calls with one list and then with another are calls with both
   goes_further : (xs ys : List ℕ) (f mid last : F) → Folds f xs mid → Folds mid ys last → Folds f (xs ++ ys) last
-  goes_further [] ys f mid last is went = subst (λ m. Folds m ys last) (sym is) went
-  goes_further (x ∷ xs) ys f mid last went on = (went.0, went.1, goes_further xs ys went.0 mid last went.2 on)
+  goes_further [] ys f mid last folds went = subst (λ m. Folds m ys last) (sym folds) went
+  goes_further (x ∷ xs) ys f mid last went later = (went.0, went.1, goes_further xs ys went.0 mid last went.2 later)
 
   -- ---- one element is handed out
 
   module _ (found end : ℕ) (at : ℕ) (first : F) where
-    -- the places before this one have been
+    -- The places of the element before this one are handed out. The flags of `left` from there on are those
+    -- found, the closure may be called with the places that stand, and if it is, it will have been called
+    -- with all of the element.
     pub record Visiting (place left : ℕ) (visit : F) : Type 0 where
       pub same : (q : ℕ) → place ≤ q → q < end → has_flag left q ≡ has_flag found q
       pub takes : Takes pre step (standing_in found place (end - place)) visit
       pub calls : (last : F) → Folds visit (standing_in found place (end - place)) last
           → Folds first (standing_in found at (end - at)) last
 
-    -- where the flag of this place stands, it may be handed out, and those behind it after it
+    -- where this place stands, the closure may be called with it, and then with those of the element after it
     both : (place left : ℕ) (visit : F) → place < end → Visiting place left visit → has_flag found place ≡ true
         → Takes pre step (place ∷ standing_in found (place + 1) (end - (place + 1))) visit
     both place left visit low visiting some =
@@ -132,19 +147,21 @@ module _ {F : Type 0} (pre : F → ℕ → Type 0) (step : F → ℕ → Unit {0
         ∙ ap (λ b. if b then place ∷ standing_in found (place + 1) (end - (place + 1)) else standing_in found (place + 1) (end - (place + 1))) some)
         visiting.takes
 
+    -- where this place stands, the closure may be called with it
     pub may_visit : (place left : ℕ) (visit : F) → place < end → Visiting place left visit → (stood : Bool)
         → stood ≡ has_flag found place → stood ≡ true → pre visit place
-    may_visit place left visit low visiting stood is some =
-        (both place left visit low visiting (sym is ∙ some)).0
+    may_visit place left visit low visiting stood stood_is some =
+        (both place left visit low visiting (sym stood_is ∙ some)).0
 
-    -- once a place is handed out, if it stood, the element is under way at the next place
+    -- after a call with the place, if it stands, the places before the next one are handed out. The cases are
+    -- whether it stands.
     pub visits_one : (place left next : ℕ) (visit : F) → place < end → end ≤ at + 64 → at ≤ place
         → Visiting place left visit → (stood : Bool) → stood ≡ has_flag found place → (later : F)
         → (stood ≡ true → step visit place tt later) → (stood ≡ false → later ≡ visit)
         → ((q : ℕ) → bit_of q ≢ bit_of place → has_flag next q ≡ has_flag left q)
         → Visiting (place + 1) next later
-    visits_one place left next visit low near from visiting true is later did same others =
-        let some : has_flag found place ≡ true = sym is in
+    visits_one place left next visit low near from visiting true stood_is later did same others =
+        let some : has_flag found place ≡ true = sym stood_is in
         let list = next_in found place end low
         ∙ ap (λ b. if b then place ∷ standing_in found (place + 1) (end - (place + 1)) else standing_in found (place + 1) (end - (place + 1))) some in
         record {
@@ -152,8 +169,8 @@ module _ {F : Type 0} (pre : F → ℕ → Type 0) (step : F → ℕ → Unit {0
           takes = (both place left visit low visiting some).1 later (did refl);
           calls = λ last f. visiting.calls last (subst (λ xs. Folds visit xs last) (sym list) (later, did refl, f));
         }
-    visits_one place left next visit low near from visiting false is later did same others =
-        let none : has_flag found place ≡ false = sym is in
+    visits_one place left next visit low near from visiting false stood_is later did same others =
+        let none : has_flag found place ≡ false = sym stood_is in
         let list = next_in found place end low
         ∙ ap (λ b. if b then place ∷ standing_in found (place + 1) (end - (place + 1)) else standing_in found (place + 1) (end - (place + 1))) none in
         subst (Visiting (place + 1) next) (sym (same refl))
@@ -163,7 +180,7 @@ module _ {F : Type 0} (pre : F → ℕ → Type 0) (step : F → ℕ → Unit {0
           calls = λ last f. visiting.calls last (subst (λ xs. Folds visit xs last) (sym list) f);
         })
 
-    -- no flag is left, or no place
+    -- where no flag is left, the closure was called with each place of the element that stood
     pub visited : (place left : ℕ) (visit : F) → Visiting place left visit
         → ((q : ℕ) → place ≤ q → q < end → has_flag left q ≡ false)
         → Folds first (standing_in found at (end - at)) visit
@@ -176,31 +193,37 @@ module _ {F : Type 0} (pre : F → ℕ → Type 0) (step : F → ℕ → Unit {0
   -- ---- all elements
 
   module _ (capacity : ℕ) (before : List ℕ) (first : F) where
-    -- so many words with flags, and no others, are 0, and the places up to this one have been handed out
+    -- The emptying has come to this element and its first place. The elements before it are 0, those from it
+    -- on are as before, and the closure may be called with the places that stand from there on; if it is, it
+    -- will have been called with all.
     pub record Emptying (element place : ℕ) (call : ResetAll) (words : List ℕ) (visit : F) : Type 0 where
       pub fits : Represents capacity before
+      -- the place is the first one of the element, or the capacity where no element is left
       pub within : place ≤ capacity
       pub near : place ≤ element * 64
       pub far : place < capacity → place ≡ element * 64
+      -- where an element is left, the call is about to swap its word with 0
       pub at : element < elements capacity → call ≡ record { word = 1 + element; end = 1 + elements capacity }
+      -- the words of the elements before this one are 0, and all other words are as before
       pub long : length words ≡ length before
       pub swept : (j : ℕ) → 0 < j → j ≤ element → slice_index words j ≡ 0
       pub kept : (j : ℕ) → element < j → slice_index words j ≡ slice_index before j
       pub head : slice_index words 0 ≡ slice_index before 0
+      -- the calls that are left, and that with them the closure was called with all places
       pub takes : Takes pre step (left capacity before place) visit
       pub calls : (last : F) → Folds visit (left capacity before place) last
           → Folds first (standing (places_in capacity before)) last
 
-    -- the emptying begins where the places that stand may be handed out
+    -- an emptying begins at element 0 and place 0, where the closure may be called with all places that stand
     pub begins : Represents capacity before → Takes pre step (standing (places_in capacity before)) first
         → (call : ResetAll) → call ≡ all_bits capacity → Emptying 0 0 call before first
-    begins fits takes call is =
+    begins fits takes call at_first =
         record {
           fits = fits;
           within = omega arith;
           near = omega arith;
           far = λ low. refl;
-          at = λ some. is;
+          at = λ some. at_first;
           long = refl;
           swept = λ j low high. absurd (omega arith);
           kept = λ j high. refl;
@@ -209,21 +232,24 @@ module _ {F : Type 0} (pre : F → ℕ → Type 0) (step : F → ℕ → Unit {0
           calls = λ last f. f;
         }
 
-    module _ (element place : ℕ) (call : ResetAll) (words : List ℕ) (visit : F) (h : Emptying element place call words visit)
+    module _ (element place : ℕ) (call : ResetAll) (words : List ℕ) (visit : F) (emptying : Emptying element place call words visit)
         (some : element < elements capacity) where
+      -- the call is not done yet
       pub may_swap : call.word < call.end
-      may_swap = subst (λ (c : ResetAll). c.word < c.end) (sym (h.at some)) (omega arith)
+      may_swap = subst (λ (c : ResetAll). c.word < c.end) (sym (emptying.at some)) (omega arith)
 
       module _ (found : ℕ) (is : found ≡ slice_index words call.word) (end : ℕ) (order : place ≤ end) (below : end ≤ capacity)
           (near : end ≤ place + 64) (far : end < capacity → end ≡ place + 64) where
+        -- the place is the first of the element
         here : place ≡ element * 64
-        here = let n = h.near in let f = h.far in let w = h.within in
+        here = let n = emptying.near in let f = emptying.far in let w = emptying.within in
             ⊎_elim (λ (low : place < capacity). f low) (λ (high : capacity ≤ place). absurd (omega arith)) (cases_lt place capacity)
 
+        -- what the step has swapped out is the element as it was before the call
         found_is : found ≡ slice_index before (1 + element)
-        found_is = is ∙ (ap (λ (c : ResetAll). slice_index words c.word) (h.at some) ∙ h.kept (1 + element) (omega arith))
+        found_is = is ∙ (ap (λ (c : ResetAll). slice_index words c.word) (emptying.at some) ∙ emptying.kept (1 + element) (omega arith))
 
-        -- the places left are those that stand in this element, and those left behind it
+        -- the places that stand from here on are those of this element and those after it
         splits : left capacity before place ≡ standing_in found place (end - place) ++ left capacity before end
         splits =
             left_splits capacity before found place (end - place) (omega arith)
@@ -232,73 +258,84 @@ module _ {F : Type 0} (pre : F → ℕ → Type 0) (step : F → ℕ → Unit {0
             ap (slice_index before) (let z : element_of q ≡ 1 + element = omega arith in z) ∙ sym found_is)
             ∙ ap (λ m. standing_in found place (end - place) ++ left capacity before m) (let z : place + (end - place) ≡ end = omega arith in z)
 
+        -- the closure may be called with the places of this element that stand
         pub takes_element : Takes pre step (standing_in found place (end - place)) visit
         takes_element =
             takes_first (standing_in found place (end - place)) (left capacity before end) visit
-            (subst (λ xs. Takes pre step xs visit) splits h.takes)
+            (subst (λ xs. Takes pre step xs visit) splits emptying.takes)
 
-        -- once the places of an element are handed out, its word is 0 and the emptying goes on at the next element
+        -- after the calls with the places of this element its word is 0, and the emptying has
+        -- come to the next element
         pub empties_one : (next : ResetAll) (now : List ℕ) (later : F) → now ≡ slice_set words call.word 0
             → (call.word + 1 < call.end → next ≡ record { word = call.word + 1; end = call.end })
             → Folds visit (standing_in found place (end - place)) later → Emptying (element + 1) end next now later
         empties_one next now later writes goes went =
             let e = here in
-            let long : 1 + element < length words = omega (arith, h.long, h.fits.long) in
-            let wrote : now ≡ slice_set words (1 + element) 0 = writes ∙ ap (λ (c : ResetAll). slice_set words c.word 0) (h.at some) in
+            let long : 1 + element < length words = omega (arith, emptying.long, emptying.fits.long) in
+            let wrote : now ≡ slice_set words (1 + element) 0 = writes ∙ ap (λ (c : ResetAll). slice_set words c.word 0) (emptying.at some) in
             record {
-              fits = h.fits;
+              fits = emptying.fits;
               within = below;
               near = omega arith;
               far = λ low. far low ∙ omega arith;
+              -- the call stands at the next element, if there is one
               at = λ more.
-                  subst (λ (c : ResetAll). c.word + 1 < c.end → next ≡ record { word = c.word + 1; end = c.end }) (h.at some) goes (omega arith)
+                  subst (λ (c : ResetAll). c.word + 1 < c.end → next ≡ record { word = c.word + 1; end = c.end }) (emptying.at some) goes (omega arith)
                   ∙ ap (λ w. record { word = w; end = 1 + elements capacity }) (let z : 1 + element + 1 ≡ 1 + (element + 1) = omega arith in z);
-              long = ap length wrote ∙ (length-set words (1 + element) 0 ∙ h.long);
+              long = ap length wrote ∙ (length-set words (1 + element) 0 ∙ emptying.long);
+              -- the words of the elements up to this one are 0
               swept = λ j low high.
                   ap (λ ws. slice_index ws j) wrote
                   ∙ ⊎_elim (λ (before : j < 1 + element).
-                  get_or-set_other words (1 + element) j 0 0 (λ e. absurd (omega arith)) ∙ h.swept j low (omega arith))
+                  get_or-set_other words (1 + element) j 0 0 (λ e. absurd (omega arith)) ∙ emptying.swept j low (omega arith))
                   (λ (last : 1 + element ≤ j).
                   ap (slice_index (slice_set words (1 + element) 0)) (let z : j ≡ 1 + element = omega arith in z)
                   ∙ get_or-set_same words (1 + element) 0 0 long)
                   (cases_lt j (1 + element));
+              -- the words of the elements behind it are as before
               kept = λ j high.
                   ap (λ ws. slice_index ws j) wrote
-                  ∙ (get_or-set_other words (1 + element) j 0 0 (λ e. absurd (omega arith)) ∙ h.kept j (omega arith));
+                  ∙ (get_or-set_other words (1 + element) j 0 0 (λ e. absurd (omega arith)) ∙ emptying.kept j (omega arith));
               head = ap (λ ws. slice_index ws 0) wrote
-                  ∙ (get_or-set_other words (1 + element) 0 0 0 (λ e. absurd (omega arith)) ∙ h.head);
+                  ∙ (get_or-set_other words (1 + element) 0 0 0 (λ e. absurd (omega arith)) ∙ emptying.head);
+              -- the closure may still be called with the places behind those of this element
               takes = takes_rest (standing_in found place (end - place)) (left capacity before end) visit later
-                  (subst (λ xs. Takes pre step xs visit) splits h.takes) went;
+                  (subst (λ xs. Takes pre step xs visit) splits emptying.takes) went;
+              -- once it is called with those, it was called with all
               calls = λ last f.
-                  h.calls last
+                  emptying.calls last
                   (subst (λ xs. Folds visit xs last) (sym splits)
                   (goes_further (standing_in found place (end - place)) (left capacity before end) visit later last went f));
             }
 
-    -- ---- all have been
+    -- ---- all elements are 0
 
     module _ (place : ℕ) (call : ResetAll) (words : List ℕ) (visit : F)
-        (h : Emptying (elements capacity) place call words visit) where
+        (emptying : Emptying (elements capacity) place call words visit) where
+      -- after the last element the place is the capacity
       at_end : place ≡ capacity
-      at_end = let w = h.within in let f = h.far in
+      at_end = let w = emptying.within in let f = emptying.far in
           ⊎_elim (λ (low : place < capacity). absurd (omega (arith, f low))) (λ (high : capacity ≤ place). omega arith) (cases_lt place capacity)
 
+      -- no place stands then
       none : (q : ℕ) → q < capacity → stands words q ≡ false
       none q low =
-          ap (λ w. has_flag w q) (h.swept (element_of q) (omega arith) (omega arith)) ∙ none_stands q
+          ap (λ w. has_flag w q) (emptying.swept (element_of q) (omega arith) (omega arith)) ∙ none_stands q
 
-      -- the words at the end are those of the set emptied
+      -- the words are then those of the set emptied
       pub all_emptied : places_in capacity words ≡ emptied (places_in capacity before)
       all_emptied =
           let clear : flags_in capacity words ≡ replicate (length (flags_in capacity before)) false =
           none_of (stands words) capacity 0 (λ q low high. none q (omega arith))
           ∙ ap (λ n. replicate n false) (sym (flags_length capacity before)) in
-          λ i. record { flags = clear i; start = h.head i }
+          λ i. record { flags = clear i; start = emptying.head i }
 
+      -- the words are still those of a bit set
       pub still_fits : Represents capacity words
       still_fits = grind arith
 
+      -- the closure was called with each place that stood
       pub all_called : WasCalled step (standing (places_in capacity before)) first visit
       all_called =
-          h.calls visit
+          emptying.calls visit
           (subst (λ xs. Folds visit xs visit) (sym (ap (left capacity before) at_end ∙ nothing_left capacity before)) refl)

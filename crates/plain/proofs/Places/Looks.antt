@@ -1,4 +1,4 @@
--- A look at a place, alone.
+-- A look at a place of a bit set that runs alone: it ends within one step.
 use Rattle.std.proofs.Common.{ℕ, ◌<◌, List, refl, sym, arith}
 use Rattle.plain.proofs.Names.{Places}
 use Rattle.steps.specs.Bits.Looks.{is_set_want, is_set_after}
@@ -11,6 +11,7 @@ use Rattle.plain.proofs.Alone.{Runs}
 use Rattle.plain.proofs.Places.Flags.{flag_at}
 
 module _ (capacity place : ℕ) (low : place < capacity) (words : List ℕ) (fits : Represents capacity words) where
+  -- the look, run alone from these words, ends, answers whether the place stands, and leaves the words
   abbrev pub LookRuns : IsSet → Type 0
   LookRuns call =
       Runs is_set_want is_set_after (λ c (room : Unit {0}) old. room) place

@@ -1,4 +1,5 @@
--- The next place that is reset, alone.
+-- A `reset_next` of a bit set that runs alone: within how many steps it ends, and that it resets the next
+-- place that stands, from the start of the search on.
 use Rattle.std.proofs.Common.{◌≡◌, ℕ, zero, suc, ◌+◌, ◌-◌, ◌<◌, ◌≤◌, ◌⊎◌, inl, inr, ⊎_elim, Bool, true, false, Option}
 use Rattle.std.proofs.Common.{Some, None, slice_get, List, [], ◌∷◌, length, drop, refl, sym, ap, subst, ◌∙◌, arith}
 use Rattle.std.proofs.Common.{slice_index, slice_set, get_or-set_same, get_or-set_other, length-set, eq-eqb, ◌==◌}
@@ -23,11 +24,11 @@ use Rattle.plain.proofs.Places.Flags.{flag_at, flag_past, flags_change, same_fla
 first_standing : (place n : ℕ) (flags : List Bool)
     → ((i : ℕ) → i < n → slice_index_or flags i false ≡ false) → slice_index_or flags n false ≡ true
     → slice_get (standing_from place flags) 0 ≡ Some (place + n)
-first_standing place n [] clear is = absurd (true≢false (sym is))
-first_standing place zero (flag ∷ flags) clear is = grind (arith, slice_get, standing_from)
-first_standing place (suc n) (flag ∷ flags) clear is =
+first_standing place n [] clear stands = absurd (true≢false (sym stands))
+first_standing place zero (flag ∷ flags) clear stands = grind (arith, slice_get, standing_from)
+first_standing place (suc n) (flag ∷ flags) clear stands =
     ap (λ b. slice_get (if b then place ∷ standing_from (place + 1) flags else standing_from (place + 1) flags) 0) (clear 0 (omega arith))
-    ∙ (first_standing (place + 1) n flags (λ i low. clear (suc i) (omega arith)) is ∙ ap Some (omega arith))
+    ∙ (first_standing (place + 1) n flags (λ i low. clear (suc i) (omega arith)) stands ∙ ap Some (omega arith))
 
 -- a list whose flags are all clear has no place that stands
 none_standing : (place : ℕ) (flags : List Bool)
@@ -38,40 +39,48 @@ none_standing place (flag ∷ flags) clear =
     ∙ none_standing (place + 1) flags (λ i. clear (suc i))
 
 module _ (capacity : ℕ) (words : List ℕ) (fits : Represents capacity words) where
+  -- the place from which the search starts
   abbrev start : ℕ
   start = slice_index words 0
 
+  -- for each place whether it stands
   abbrev flags : List Bool
   flags = flags_in capacity words
 
+  -- the place that the search comes to after k others
   abbrev at : ℕ → ℕ
   at k = place_after capacity start k
 
-  -- the first places that it passes are clear
+  -- the first k places that the search comes to are clear
   abbrev Clear : ℕ → Type 0
   Clear k = (j : ℕ) → j < k → stands words (at j) ≡ false
 
-  -- ---- what the object makes of that
+  -- ---- what a search of the set of places finds where the first k places are clear
 
+  -- the flags from the start on are those of the places from there on
   tail_at : (i : ℕ) → slice_index_or (drop start flags) i false ≡ slice_index_or flags (start + i) false
   tail_at i = get_or-drop start flags i false
 
+  -- below the capacity the search comes to the places in order
   ahead : (j : ℕ) → start + j < capacity → at j ≡ start + j
   ahead = grind (arith, nat_tests)
 
+  -- after the last place the search comes to the places from 0 on
   behind : (j : ℕ) → capacity ≤ start + j → at j ≡ start + j - capacity
   behind = grind (arith, false, nat_tests)
 
+  -- a place from the start on that was passed is clear
   clear_tail : (k : ℕ) → Clear k → (i : ℕ) → i < k → start + i < capacity
       → slice_index_or (drop start flags) i false ≡ false
   clear_tail k clear i low inside =
       tail_at i ∙ (flag_at capacity words (start + i) inside ∙ (sym (ap (stands words) (ahead i inside)) ∙ clear i low))
 
-  -- all of the tail, where the search has come round
+  -- where the search has come to the end, no place from the start on stands
   tail_empty : (k : ℕ) → Clear k → capacity ≤ start + k → standing_from start (drop start flags) ≡ []
   tail_empty = grind (arith, none_standing, drop, clear_tail, tail_at, flag_past)
 
-  -- of the places below the start, those that were passed
+  -- A place that was passed is clear. It was passed where it is below the start and the search has come round
+  -- and past it, or from the start on.
   clear_head : (k : ℕ) → Clear k → (p : ℕ) → p < capacity → (p + capacity < start + k) ⊎ ((start ≤ p) × (capacity ≤ start + k))
       → slice_index_or flags p false ≡ false
   clear_head k clear p inside passed =
@@ -79,15 +88,18 @@ module _ (capacity : ℕ) (words : List ℕ) (fits : Represents capacity words) 
       ∙ ⊎_elim
       (λ (h : p + capacity < start + k).
       let s = fits.start in
+      -- a place below the start, which the search has passed after it came round
       ⊎_elim (λ (low : p < start).
       let j = p + capacity - start in
       let is : at j ≡ p = behind j (omega arith) ∙ omega arith in
       sym (ap (stands words) is) ∙ clear j (omega arith))
+      -- a place from the start on, which the search has passed before it came round
       (λ (high : start ≤ p).
       let j = p - start in
       let is : at j ≡ p = ahead j (omega arith) ∙ omega arith in
       sym (ap (stands words) is) ∙ clear j (omega arith))
       (cases_lt p start))
+      -- the search has come round, so all places from the start on are passed
       (λ (h : (start ≤ p) × (capacity ≤ start + k)).
       let a = h.0 in let b = h.1 in
       let j = p - start in
@@ -95,30 +107,33 @@ module _ (capacity : ℕ) (words : List ℕ) (fits : Represents capacity words) 
       sym (ap (stands words) is) ∙ clear j (omega arith))
       passed
 
-  -- a place that stands, where those passed before it are clear, is the next place
+  -- where the place that it has come to stands and those passed are clear, this is the place
+  -- that the search finds
   pub next_is : (k : ℕ) → k < capacity → Clear k → stands words (at k) ≡ true
       → next_place (places_in capacity words) ≡ Some (at k)
-  next_is k few clear is =
+  next_is k few clear place_stands =
       let s = fits.start in
       ⊎_elim
+      -- the search has not come round: the place is the first one from the start on that stands
       (λ (low : start + k < capacity).
       let here = ahead k low in
       let found : slice_get (standing_from start (drop start flags)) 0 ≡ Some (start + k) =
       first_standing start k (drop start flags) (λ i below. clear_tail k clear i below (omega arith))
-      (tail_at k ∙ (flag_at capacity words (start + k) low ∙ (sym (ap (stands words) here) ∙ is))) in
+      (tail_at k ∙ (flag_at capacity words (start + k) low ∙ (sym (ap (stands words) here) ∙ place_stands))) in
       ap (λ o. or_else o (slice_get (standing_from 0 flags) 0)) found ∙ ap Some (sym here))
+      -- the search has come round: no place from the start on stands, and this is the first one from 0 on
       (λ (high : capacity ≤ start + k).
       let here = behind k high in
       let none = tail_empty k clear high in
       let found : slice_get (standing_from 0 flags) 0 ≡ Some (0 + (start + k - capacity)) =
       first_standing 0 (start + k - capacity) flags
       (λ i below. clear_head k clear i (omega arith) (inl (omega arith)))
-      (flag_at capacity words (start + k - capacity) (omega arith) ∙ (sym (ap (stands words) here) ∙ is)) in
+      (flag_at capacity words (start + k - capacity) (omega arith) ∙ (sym (ap (stands words) here) ∙ place_stands)) in
       ap (λ xs. or_else (slice_get xs 0) (slice_get (standing_from 0 flags) 0)) none
       ∙ (found ∙ ap Some (omega (arith, here))))
       (cases_lt (start + k) capacity)
 
-  -- where all places are clear there is no next place
+  -- where all places are clear the search finds none
   pub none_is : Clear capacity → next_place (places_in capacity words) ≡ None
   none_is clear =
       let s = fits.start in
@@ -134,19 +149,24 @@ module _ (capacity : ℕ) (words : List ℕ) (fits : Represents capacity words) 
 
   -- ---- the search
 
-  abbrev Ends : ℕ → Option ℕ → List ℕ → ResetNext → Type 0
-  Ends n end last call =
+  -- the reset, run alone from these words, ends within n steps with this answer and these last words
+  abbrev ResetEnds : ℕ → Option ℕ → List ℕ → ResetNext → Type 0
+  ResetEnds n end last call =
       EndsIn (λ c (given : Unit {0}). reset_want c) (λ c given old. reset_after c old) (λ c (room : Unit {0}) old. room) tt n end tt last call tt words
 
-  -- a reset of the next bit ends from there within so many steps, with this answer and these words
-  abbrev From : ℕ → Option ℕ → List ℕ → After ResetNext (Option ℕ) → List ℕ → Type 0
-  From n end last a ws =
+  -- what a step of the reset has answered leads to this end and these last words, at once
+  -- or within n steps more
+  abbrev ResetEndsFrom : ℕ → Option ℕ → List ℕ → After ResetNext (Option ℕ) → List ℕ → Type 0
+  ResetEndsFrom n end last a ws =
       EndsFrom (λ c (given : Unit {0}). reset_want c) (λ c given old. reset_after c old) (λ c (room : Unit {0}) old. room) tt n end tt last a tt ws
 
-  -- from where so many places have been passed it ends within so many steps
-  pub record Comes (most k : ℕ) : Type 0 where
+  -- After k places were passed the reset ends within `most` steps, and has done what a reset does
+  -- to the set of places.
+  pub record EndsAfterPassing (most k : ℕ) : Type 0 where
+    -- within how many steps the reset ends
     pub steps : ℕ
     pub few : steps ≤ most
+    -- its answer and the last words, which are those that a reset of the set of places says
     pub end : Option ℕ
     pub last : List ℕ
     pub ends : EndsIn (λ c (given : Unit {0}). reset_want c) (λ c given old. reset_after c old) (λ c (room : Unit {0}) old. room) tt steps end tt last
@@ -154,53 +174,66 @@ module _ (capacity : ℕ) (words : List ℕ) (fits : Represents capacity words) 
     pub holds : BehavesAs (Represents capacity) (places_in capacity) next_place after_next words end last
 
   module _ (k : ℕ) (low : k < capacity) where
+    -- the place after k others
     abbrev place : ℕ
     place = at k
 
+    -- the word of the place's element
     abbrev found : ℕ
     found = slice_index words (element_of place)
 
+    -- the words without the place's flag
     abbrev cleared : List ℕ
     cleared = slice_set words (element_of place) (without_flag found place)
 
+    -- those words with the start after the place
     abbrev last : List ℕ
     last = slice_set cleared 0 (after_position place)
 
+    -- the place is one of the set
     within : place < capacity
     within = grind (arith, ahead, behind)
 
+    -- the element of the place is one of the words
     near : element_of place < length words
     near = omega (arith, fits.long, within)
 
-    -- at a place that stands the search clears it and ends with it
-    finds : Clear k → has_flag found place ≡ true → (most : ℕ) → 3 ≤ most → Comes most k
-    finds clear is most room =
+    -- at a place that stands, after clear ones, the reset clears it, moves the start
+    -- behind it, and answers it
+    finds : Clear k → has_flag found place ≡ true → (most : ℕ) → 3 ≤ most → EndsAfterPassing most k
+    finds clear place_stands most room =
         let small = fits.small in
         let w = within in
         let n = near in
+        -- the exchange of the word clears the flag, since the word is still the one that was loaded
         let written : (if found == found then cleared else words) ≡ cleared =
         ap (λ b. if b then cleared else words) (eq-eqb found found refl) in
         let next : after_position place ≡ place + 1 = omega arith in
         let long : length cleared ≡ length words = length-set words (element_of place) (without_flag found place) in
+        -- the start is the place behind it
         let head : slice_index last 0 ≡ place + 1 =
         get_or-set_same cleared 0 (after_position place) 0 (omega arith) ∙ next in
+        -- the flags are those before without the one at this place
         let flags_were : flags_in capacity cleared ≡ slice_set flags place false =
         flags_change words place (without_flag found place) near false (without_clear found place) (λ q ne. without_leaves found place q ne) capacity within in
         let flags_are : flags_in capacity last ≡ flags_in capacity cleared =
         same_flags capacity cleared last (λ p. get_or-set_other cleared 0 (element_of p) (after_position place) 0 (λ e. absurd (omega arith))) in
-        let is_next = next_is k low clear is in
+        let is_next = next_is k low clear place_stands in
         record {
           steps = 3;
           few = room;
           end = Some place;
           last = last;
-          ends = by_test (λ a. From 2 (Some place) last a words) (has_flag found place) _ _
-              (λ _. by_eq (λ a. From 1 (Some place) last a (if found == found then cleared else words)) found found _ _
+          -- three steps: the load of the word, its exchange, and the store of the start
+          ends = by_test (λ a. ResetEndsFrom 2 (Some place) last a words) (has_flag found place) _ _
+              (λ _. by_eq (λ a. ResetEndsFrom 1 (Some place) last a (if found == found then cleared else words)) found found _ _
               (λ _. subst (λ ws. EndsIn (λ c (given : Unit {0}). reset_want c) (λ c given old. reset_after c old)
               (λ c (room : Unit {0}) old. room) tt 1 (Some place) tt last
               (at_reset (first_reset capacity) (resets.StoresPosition place)) tt ws) (sym written) (refl, refl, refl))
               (λ ne. absurd (ne refl)))
-              (λ t. absurd (true≢false (sym is ∙ t)));
+              (λ t. absurd (true≢false (sym place_stands ∙ t)));
+          -- the words are those of a bit set, the answer is the next place that stands, and the
+          -- places are without it
           holds = (
             record { long = length-set cleared 0 (after_position place) ∙ (long ∙ fits.long); small = fits.small; start = omega arith },
             sym is_next,
@@ -209,53 +242,58 @@ module _ (capacity : ℕ) (words : List ℕ) (fits : Represents capacity words) 
           );
         }
 
+  -- after a further clear place one place more is passed
   one_more_clear : (k : ℕ) → Clear k → stands words (at k) ≡ false → Clear (k + 1)
   one_more_clear = grind (arith, stands)
 
-  -- the last place is clear
-  comes_round : (k : ℕ) → k + 1 ≡ capacity → Clear k → stands words (at k) ≡ false → Comes 3 k
+  -- at the last place, which is clear, the reset ends with None
+  comes_round : (k : ℕ) → k + 1 ≡ capacity → Clear k → stands words (at k) ≡ false → EndsAfterPassing 3 k
   comes_round = grind (arith, one_more_clear, none_is, by_test, has_flag, true≢false, without, nat_tests)
 
-  -- a place is clear, and there is a further one
-  comes_on : (most k : ℕ) → k + 1 < capacity → stands words (at k) ≡ false → Comes most (k + 1)
-      → Comes (suc most) k
+  -- at a clear place that is not the last, the reset goes on to the next place
+  comes_on : (most k : ℕ) → k + 1 < capacity → stands words (at k) ≡ false → EndsAfterPassing most (k + 1)
+      → EndsAfterPassing (suc most) k
   comes_on most k low not_there rest =
       record {
         steps = suc rest.steps;
         few = omega (arith, rest.few);
         end = rest.end;
         last = rest.last;
-        ends = by_test (λ a. From rest.steps rest.end rest.last a words) (has_flag (slice_index words (element_of (at k))) (at k)) _ _
+        ends = by_test (λ a. ResetEndsFrom rest.steps rest.end rest.last a words) (has_flag (slice_index words (element_of (at k))) (at k)) _ _
             (λ t. absurd (true≢false (sym t ∙ not_there)))
-            (λ _. by_test (λ a. From rest.steps rest.end rest.last a words) (nat_lt (k + 1) capacity) _ _
+            (λ _. by_test (λ a. ResetEndsFrom rest.steps rest.end rest.last a words) (nat_lt (k + 1) capacity) _ _
             (λ _. rest.ends)
             (λ t. let less : capacity ≤ k + 1 = grind (arith, nat_tests, t) in absurd (omega arith)));
         holds = rest.holds;
       }
 
-  -- from where so many places have been passed the search ends
-  scan : (n k : ℕ) → k + suc n ≡ capacity → Clear k → Comes (suc (suc (suc n))) k
-  scan zero k is clear = grind (arith, finds, comes_round, cases_Bool, stands)
-  scan (suc n) k is clear =
+  -- from the place after k clear ones, with n + 1 left, the reset ends. The cases are whether the place
+  -- stands and whether it is the last.
+  scan : (n k : ℕ) → k + suc n ≡ capacity → Clear k → EndsAfterPassing (suc (suc (suc n))) k
+  scan zero k sum clear = grind (arith, finds, comes_round, cases_Bool, stands)
+  scan (suc n) k sum clear =
       ⊎_elim (λ there. finds k (omega arith) clear there (suc (suc (suc (suc n)))) (omega arith))
       (λ not_there. comes_on (suc (suc (suc n))) k (omega arith) not_there
       (scan n (k + 1) (omega arith) (one_more_clear k clear not_there)))
       (cases_Bool (stands words (at k)))
 
+  -- the reset, run alone from these words, ends and has done what a reset does to the set of places
   abbrev pub ResetRuns : ResetNext → Type 0
   ResetRuns call =
       Runs (λ (c : ResetNext) (given : Unit {0}). reset_want c) (λ c given old. reset_after c old) (λ c (room : Unit {0}) old. room) tt
       (λ end room last. BehavesAs (Represents capacity) (places_in capacity) next_place after_next words end last) call tt words
 
+  -- with capacity 0 a reset ends with None
   nowhere : capacity ≡ 0 → ResetRuns (first_reset capacity)
   nowhere = grind (arith, none_is, false, by_test, true≢false, without, nat_tests)
 
-  -- a reset that runs alone does what it should, from the start of the search
+  -- a reset of a set with places starts its search at the start of the set, and does what a reset does
   from_start : (n : ℕ) → suc n ≡ capacity → ResetRuns (first_reset capacity)
-  from_start n is =
+  from_start n sum =
       let small = fits.small in
       let low = fits.start in
       let rest = scan n 0 (omega arith) (λ j below. absurd (omega arith)) in
+      -- the start is at most the capacity, so the search begins there
       let here : at_most capacity start ≡ start =
       let t : nat_lt capacity start ≡ false = grind (arith, nat_tests, low) in
       ap (λ b. if b then capacity else start) t in
@@ -266,13 +304,14 @@ module _ (capacity : ℕ) (words : List ℕ) (fits : Represents capacity words) 
         end = rest.end;
         last_room = tt;
         last_words = rest.last;
-        ends = by_test (λ a. From rest.steps rest.end rest.last a words) (nat_lt 0 capacity) _ _
-            (λ _. subst (λ s. Ends rest.steps rest.end rest.last (at_reset (first_reset capacity) (resets.LoadsElement s 0))) (sym here) rest.ends)
+        ends = by_test (λ a. ResetEndsFrom rest.steps rest.end rest.last a words) (nat_lt 0 capacity) _ _
+            (λ _. subst (λ s. ResetEnds rest.steps rest.end rest.last (at_reset (first_reset capacity) (resets.LoadsElement s 0))) (sym here) rest.ends)
             (λ none. absurd (true≢false (sym t ∙ none)));
         holds = rest.holds;
       }
 
+  -- a reset, run alone, does what a reset does to the set of places
   pub reset_runs : (call : ResetNext) → call ≡ first_reset capacity → ResetRuns call
-  reset_runs call is =
-      subst ResetRuns (sym is)
+  reset_runs call at_first =
+      subst ResetRuns (sym at_first)
       (⊎_elim (λ (h : capacity < 1). nowhere (omega arith)) (λ (h : 1 ≤ capacity). from_start (capacity - 1) (omega arith)) (cases_lt capacity 1))

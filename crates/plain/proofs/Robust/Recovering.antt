@@ -1,4 +1,5 @@
--- A recovery with its closures, from one question to the next.
+-- A recovery of a robust set with its two closures, from one question to the next: what they were called
+-- with, and that they may be called at the next question.
 use Rattle.std.proofs.Common.{◌≡◌, ◌≢◌, ℕ, zero, suc, ◌+◌, ◌-◌, ◌^◌, ◌<◌, ◌≤◌, ⊎_elim, Bool, true, false, ◌==◌, not}
 use Rattle.std.proofs.Common.{◌&&◌, nat_lt, if◌then◌else◌, List, [], ◌∷◌, ◌++◌, length, drop, map, filter, Option}
 use Rattle.std.proofs.Common.{Some, None, refl, sym, ap, subst, ◌∙◌, arith, slice_set, length-set, eq-eqb, ne_eqb}
@@ -20,12 +21,13 @@ use Rattle.plain.specs.Callable.{index_in, Asked, asks, tells, agreed, TakesQues
 use Rattle.plain.specs.Callable as said
 use Rattle.plain.specs.Robust.{owner_in, owners_in, Represents}
 use Rattle.plain.proofs.Alone.{Halts, can_stop, stops_so}
-use Rattle.plain.proofs.Walks.{plus, plus_sum, Walks, Goes, halts}
+use Rattle.plain.proofs.Walks.{plus, plus_sum, Walks, WalksOn, halts}
 use Rattle.plain.proofs.Robust.Parts.{number, locking, next_below, next_there, next_small}
 use Rattle.plain.proofs.Robust.Releases.{counter_then, counter_small, given_back_is}
 use Rattle.plain.proofs.Robust.Finding.{folds_more}
 use Rattle.plain.proofs.Robust.Recovers.{AsksAt, StopsAt, recovers_on, frees_on, rounds}
 
+-- holds of false and not of true
 abbrev holds_none : Bool → Type 0
 holds_none true = ⊥
 holds_none false = Unit {0}
@@ -42,11 +44,13 @@ taken_most i (Some o ∷ os) =
     let h = taken_most (i + 1) os in
     let z : suc (length (taken_from (i + 1) os)) ≤ suc (length os) = omega arith in z
 
+-- how many indices have an owner does not depend on the number of the first one
 taken_base : (i j : ℕ) (os : List (Option ℕ)) → length (taken_from i os) ≡ length (taken_from j os)
 taken_base i j [] = refl
 taken_base i j (None ∷ os) = taken_base (i + 1) (j + 1) os
 taken_base i j (Some o ∷ os) = ap suc (taken_base (i + 1) (j + 1) os)
 
+-- with one index more before them as many have an owner, or more
 taken_less : (i k : ℕ) (o : Option ℕ) (os : List (Option ℕ)) → length (taken_from i os) ≤ length (taken_from k (o ∷ os))
 taken_less = grind (arith, taken_base, length, taken_from, suc)
 
@@ -59,18 +63,21 @@ taken_within (suc n) i k (c ∷ cells) =
     let l = taken_less 0 k (owner_in c) (map owner_in cells) in
     let z : length (taken_from i (map owner_in (drop n cells))) ≤ length (taken_from k (owner_in c ∷ map owner_in cells)) = omega arith in z
 
+-- a list of at most 0 is empty
 none_left : (xs : List Owned) → length xs ≤ 0 → xs ≡ []
 none_left [] low = refl
 none_left (x ∷ xs) low = absurd (omega arith)
 
+-- the next generation of an unlocked set is not that of a locked one
 next_opens : (g : ℕ) → g < 2 ^ 64 → g ≢ locked → next_generation g ≢ locked
 next_opens = grind (arith, greatest, next_there, false, next_below, eqb_tells)
 
--- a lock leaves nothing to ask about
+-- Where giving an index back locks the set, no cell from n on has an owner. The cases are the mode, and
+-- whether a cell has an owner.
 pub locked_leaves : (mode : ReleaseMode) (g : ℕ) (emptied : List ℕ) (n i : ℕ) → g < 2 ^ 64 → g ≢ locked → counter_then mode g emptied ≡ locked
     → taken_from i (map owner_in (drop n emptied)) ≡ []
-locked_leaves Default g emptied n i small other e = absurd (next_opens g small other e)
-locked_leaves LockIfLastIndex g emptied n i small other e =
+locked_leaves Default g emptied n i small other locks = absurd (next_opens g small other locks)
+locked_leaves LockIfLastIndex g emptied n i small other locks =
     ⊎_elim
     (λ (t : ((number emptied == 0) ≡ true) × (number emptied ≡ 0)).
     none_left (taken_from i (map owner_in (drop n emptied)))
@@ -78,227 +85,285 @@ locked_leaves LockIfLastIndex g emptied n i small other e =
     (λ (t : ((number emptied == 0) ≡ false) × (number emptied ≢ 0)).
     let stays : locking (next_generation g) emptied ≡ next_generation (next_generation g) =
     ap (λ b. if b && not (next_generation (next_generation g) == greatest) then locked else next_generation (next_generation g)) t.0 in
-    absurd (next_opens (next_generation g) (next_small g small) (next_opens g small other) (sym stays ∙ e)))
+    absurd (next_opens (next_generation g) (next_small g small) (next_opens g small other) (sym stays ∙ locks)))
     (eqb_tells (number emptied) 0)
 
 -- ---- one more question
 
+-- a question about this index and its owner, with its answer
 abbrev pub an_answer : Owned → Bool → Asked
 an_answer o told = record { of = o; yes = told }
 
+-- one more answer at the end is one more question at the end
 pub questions_more : (xs : List Asked) (a : Asked) → said.questions (xs ++ a ∷ []) ≡ said.questions xs ++ a.of ∷ []
 questions_more xs a = map-append (λ (a : Asked). a.of) xs (a ∷ [])
 
+-- the indices of a yes in two lists are those of the first and then of the second
 agreed_more : (xs ys : List Asked) → agreed (xs ++ ys) ≡ agreed xs ++ agreed ys
 agreed_more = grind (arith, map, filter-append, map-append, filter)
 
+-- a no at the end adds no index to those of a yes
 pub agreed_no : (xs : List Asked) (o : Owned) → agreed (xs ++ an_answer o false ∷ []) ≡ agreed xs
 agreed_no xs o = agreed_more xs (an_answer o false ∷ []) ∙ append-nil (agreed xs)
 
+-- a yes at the end adds its index to those of a yes
 pub agreed_yes : (xs : List Asked) (o : Owned) → agreed (xs ++ an_answer o true ∷ []) ≡ agreed xs ++ o ∷ []
 agreed_yes xs o = agreed_more xs (an_answer o true ∷ [])
 
 module _ {F S : Type 0} (step : F → ℕ → ℕ → Bool → F → Type 0) (tell : S → ℕ → ℕ → S → Type 0) (mode : ReleaseMode)
     (f : F) (s : S) (capacity : ℕ) (first : List ℕ) where
+  -- the map before the recovery
   abbrev old : Owners
   old = owners_in first
 
+  -- what the recovery asks for next, which does not depend on the mode
   abbrev want : Recover → ReleaseMode → Want (Unit {0})
   want c given = recover_want c
 
+  -- a recovery of a robust set keeps nothing in a room
   abbrev kept : Recover → Unit {0} → ℕ → Unit {0}
   kept c room _ = room
 
-  -- It asked about these, and these are left. Where it stops next, the words are these.
+  -- The recovery is under way: one closure has answered the questions of `asked`, the other was told of those
+  -- of a yes, and the questions of `left` are left. Where the call stops next, the words are g and cells: the
+  -- map with those of a yes given back.
   pub record Recovering (done : ℕ) (call : Recover) (p : F) (q : S) (words : List ℕ) : Type 0 where
+    -- the counter and the cells of the words at the next stop: they are the words of a robust set
     pub g : ℕ
     pub cells : List ℕ
     pub fits : Represents capacity (g ∷ cells)
+    -- the questions that were answered and those that are left: together all of the old map
     pub asked : List Asked
     pub left : List Owned
     pub joined : said.questions asked ++ left ≡ to_recover old
+    -- the answers of the first closure, what the other was told, and the map, without the indices of a yes
     pub answers : FoldsTo (asks step) f asked p
     pub told : FoldsTo (tells tell) s (agreed asked) q
     pub map_is : owners_in (g ∷ cells) ≡ recovered mode old (agreed asked)
+    -- nothing is left once the set is locked
     pub shut : g ≡ locked → left ≡ []
     pub number : length asked ≡ done
+    -- where the call halts next
     pub run : Halts want recover_after kept mode (λ s room ws. StopsAt capacity g cells left s ws) call tt words
 
-  -- what there is to say at the end
+  -- what holds at the end: the words are those of a robust set, the answer is its state, and the closures
+  -- were called as `HasRecovered` says
   pub record Gone (state : ReleaseState) (p : F) (q : S) (last : List ℕ) : Type 0 where
     pub fits : Represents capacity last
     pub state_is : state ≡ state_of (owners_in last)
     pub calls : HasRecovered step tell mode old (owners_in last) f s p q
 
-  module _ (done : ℕ) (call : Recover) (p : F) (q : S) (words : List ℕ) (t : Recovering done call p q words) where
+  module _ (done : ℕ) (call : Recover) (p : F) (q : S) (words : List ℕ) (so_far : Recovering done call p q words) where
+    -- a recovery under way can stop
     pub can_go : CanStop want recover_after kept mode call tt words
-    can_go = can_stop want recover_after kept mode _ call tt words t.run
+    can_go = can_stop want recover_after kept mode _ call tt words so_far.run
 
+    -- a recovery under way that a driver has brought to its end has done all that it says
     pub ended_so : (state : ReleaseState) (r : Unit {0}) (last : List ℕ)
         → StopsAlike want recover_after kept mode call tt words (stops.Ended state) r last → Gone state p q last
     ended_so = grind (arith, stops_so, append-nil)
 
+    -- a recovery under way that a driver has brought to a question asks about the first index that is left
     pub asks_so : (question : Question (Unit {0})) (put : Recover) (r : Unit {0}) (last : List ℕ)
         → StopsAlike want recover_after kept mode call tt words (stops.Asked question put) r last
-        → AsksAt capacity t.g t.cells t.left question put last
+        → AsksAt capacity so_far.g so_far.cells so_far.left question put last
     asks_so = grind (arith, stops_so)
 
   -- ---- at a question
 
-  module _ (done : ℕ) (call : Recover) (p : F) (q : S) (words : List ℕ) (t : Recovering done call p q words)
-      (question : Question (Unit {0})) (put : Recover) (last : List ℕ) (at : AsksAt capacity t.g t.cells t.left question put last) where
+  module _ (done : ℕ) (call : Recover) (p : F) (q : S) (words : List ℕ) (so_far : Recovering done call p q words)
+      (question : Question (Unit {0})) (put : Recover) (last : List ℕ) (stopped : AsksAt capacity so_far.g so_far.cells so_far.left question put last) where
+    -- the index that the question is about, with its owner
     abbrev it : Owned
-    it = record { owner = at.owner; index = at.index }
+    it = record { owner = stopped.owner; index = stopped.index }
 
+    -- the indices that are left after it
     abbrev left_then : List Owned
-    left_then = taken_from (at.index + 1) (map owner_in at.rest)
+    left_then = taken_from (stopped.index + 1) (map owner_in stopped.rest)
 
-    long : length t.cells ≡ capacity
-    long = let e : suc (length t.cells) ≡ 1 + capacity = t.fits.long in omega arith
+    -- there are as many cells as the capacity
+    long : length so_far.cells ≡ capacity
+    long = let e : suc (length so_far.cells) ≡ 1 + capacity = so_far.fits.long in omega arith
 
-    asked_so : said.questions t.asked ++ it ∷ left_then ≡ to_recover old
-    asked_so = ap (λ l. said.questions t.asked ++ l) (sym at.left_is) ∙ t.joined
+    -- the questions so far, this one and those left are all there is to recover
+    asked_so : said.questions so_far.asked ++ it ∷ left_then ≡ to_recover old
+    asked_so = ap (λ l. said.questions so_far.asked ++ l) (sym stopped.left_is) ∙ so_far.joined
 
-    joined_then : (b : Bool) → said.questions (t.asked ++ an_answer it b ∷ []) ++ left_then ≡ to_recover old
+    -- the questions with this one answered and those left are all there is to recover
+    joined_then : (b : Bool) → said.questions (so_far.asked ++ an_answer it b ∷ []) ++ left_then ≡ to_recover old
     joined_then = grind (arith, questions_more, append_assoc, asked_so)
 
-    number_then : (b : Bool) → length (t.asked ++ an_answer it b ∷ []) ≡ done + 1
-    number_then b = length-append t.asked (an_answer it b ∷ []) ∙ ap (λ n. n + 1) t.number
+    -- one question more is answered
+    number_then : (b : Bool) → length (so_far.asked ++ an_answer it b ∷ []) ≡ done + 1
+    number_then b = length-append so_far.asked (an_answer it b ∷ []) ∙ ap (λ n. n + 1) so_far.number
 
-    opens : t.g ≢ locked
+    -- at a question the set is not locked
+    opens : so_far.g ≢ locked
     opens = grind (arith, length, suc)
 
-    short : length at.rest ≤ capacity
+    -- the cells left are at most as many as the capacity
+    short : length stopped.rest ≤ capacity
     short = grind (arith, length-drop, length, long)
 
-    -- told no, it is under way with one question more, and no cell is emptied
-    on_no : (p₂ : F) → step p at.owner at.index false p₂
+    -- after a no the recovery is under way with one question more, and no cell is emptied
+    on_no : (p₂ : F) → step p stopped.owner stopped.index false p₂
         → Recovering (done + 1)
         (at_recover (first_recover capacity)
-        (if nat_lt (at.index + 1) capacity then recovers.LoadsCell (at.index + 1) else
+        (if nat_lt (stopped.index + 1) capacity then recovers.LoadsCell (stopped.index + 1) else
         recovers.LoadsCounterAgain))
         p₂ q last
     on_no p₂ called =
         let size = short in
-        let few = t.fits.few in
+        let few = so_far.fits.few in
         record {
-          g = t.g;
-          cells = t.cells;
-          fits = t.fits;
-          asked = t.asked ++ an_answer it false ∷ [];
+          g = so_far.g;
+          cells = so_far.cells;
+          fits = so_far.fits;
+          asked = so_far.asked ++ an_answer it false ∷ [];
+          -- the question that was answered is behind those before it, and those behind it are left
           left = left_then;
           joined = joined_then false;
-          answers = folds_more (asks step) f p p₂ t.asked (an_answer it false) t.answers called;
-          told = subst (λ l. FoldsTo (tells tell) s l q) (sym (agreed_no t.asked it)) t.told;
-          map_is = t.map_is ∙ ap (recovered mode old) (sym (agreed_no t.asked it));
+          answers = folds_more (asks step) f p p₂ so_far.asked (an_answer it false) so_far.answers called;
+          -- a no gives nothing back: the other closure was told of nothing more, and the map stays
+          told = subst (λ l. FoldsTo (tells tell) s l q) (sym (agreed_no so_far.asked it)) so_far.told;
+          map_is = so_far.map_is ∙ ap (recovered mode old) (sym (agreed_no so_far.asked it));
           shut = λ e. absurd (opens e);
           number = number_then false;
+          -- the recovery goes on to the next question or to its end, over the same words
           run =
-              subst (λ ws. Halts want recover_after kept mode (λ s room vs. StopsAt capacity t.g t.cells left_then s vs)
+              subst (λ ws. Halts want recover_after kept mode (λ s room vs. StopsAt capacity so_far.g so_far.cells left_then s vs)
               (at_recover (first_recover capacity)
-              (if nat_lt (at.index + 1) capacity then recovers.LoadsCell (at.index + 1) else
+              (if nat_lt (stopped.index + 1) capacity then recovers.LoadsCell (stopped.index + 1) else
               recovers.LoadsCounterAgain))
               tt ws)
-              (sym at.same)
-              (halts want recover_after mode (suc (suc (length at.rest))) (StopsAt capacity t.g t.cells left_then)
+              (sym stopped.same)
+              (halts want recover_after mode (suc (suc (length stopped.rest))) (StopsAt capacity so_far.g so_far.cells left_then)
               (at_recover (first_recover capacity)
-              (if nat_lt (at.index + 1) capacity then recovers.LoadsCell (at.index + 1) else
+              (if nat_lt (stopped.index + 1) capacity then recovers.LoadsCell (stopped.index + 1) else
               recovers.LoadsCounterAgain))
-              (t.g ∷ t.cells) (omega arith)
-              (recovers_on capacity mode t.g t.cells long at.rest (at.index + 1) left_then at.rest_is refl));
+              (so_far.g ∷ so_far.cells) (omega arith)
+              (recovers_on capacity mode so_far.g so_far.cells long stopped.rest (stopped.index + 1) left_then stopped.rest_is refl));
         }
 
+    -- the cells with this one emptied
     abbrev emptied : List ℕ
-    emptied = slice_set t.cells at.index empty
+    emptied = slice_set so_far.cells stopped.index empty
 
+    -- the cells with this one emptied are as many as before
     emptied_long : length emptied ≡ capacity
-    emptied_long = length-set t.cells at.index empty ∙ long
+    emptied_long = length-set so_far.cells stopped.index empty ∙ long
 
-    -- the question of the first that is left was answered by yes, and the other closure was told
-    on_yes : (p₂ : F) (q₂ : S) → step p at.owner at.index true p₂ → tell q at.owner at.index q₂
-        → Recovering (done + 1) (at_recover (first_recover capacity) (recovers.EmptiesCell at.index at.owner)) p₂ q₂ last
+    -- after a yes, of which the other closure was told, the recovery is under way with one question more, and
+    -- goes on to empty the cell
+    on_yes : (p₂ : F) (q₂ : S) → step p stopped.owner stopped.index true p₂ → tell q stopped.owner stopped.index q₂
+        → Recovering (done + 1) (at_recover (first_recover capacity) (recovers.EmptiesCell stopped.index stopped.owner)) p₂ q₂ last
     on_yes p₂ q₂ called heard =
         let size = short in
-        let few = t.fits.few in
+        let few = so_far.fits.few in
         let k = emptied_long in
         record {
-          g = counter_then mode t.g emptied;
+          g = counter_then mode so_far.g emptied;
           cells = emptied;
-          fits = record { long = omega arith; some = t.fits.some; few = t.fits.few; small = counter_small mode t.g emptied t.fits.small };
-          asked = t.asked ++ an_answer it true ∷ [];
+          fits = record { long = omega arith; some = so_far.fits.some; few = so_far.fits.few; small = counter_small mode so_far.g emptied so_far.fits.small };
+          -- the question that was answered is behind those before it, and those behind it are left
+          asked = so_far.asked ++ an_answer it true ∷ [];
           left = left_then;
           joined = joined_then true;
-          answers = folds_more (asks step) f p p₂ t.asked (an_answer it true) t.answers called;
-          told = subst (λ l. FoldsTo (tells tell) s l q₂) (sym (agreed_yes t.asked it)) (folds_more (tells tell) s q q₂ (agreed t.asked) it t.told heard);
-          map_is = sym (given_back_is mode t.g t.cells at.index)
-              ∙ (ap (λ m. given_back mode m at.index) t.map_is
-              ∙ (sym (fold-append (λ m (o : Owned). given_back mode m o.index) old (agreed t.asked) (it ∷ []))
-              ∙ ap (recovered mode old) (sym (agreed_yes t.asked it))));
+          answers = folds_more (asks step) f p p₂ so_far.asked (an_answer it true) so_far.answers called;
+          -- the other closure was told of one index more, and the map is without that index
+          told = subst (λ l. FoldsTo (tells tell) s l q₂) (sym (agreed_yes so_far.asked it))
+              (folds_more (tells tell) s q q₂ (agreed so_far.asked) it so_far.told heard);
+          map_is = sym (given_back_is mode so_far.g so_far.cells stopped.index)
+              ∙ (ap (λ m. given_back mode m stopped.index) so_far.map_is
+              ∙ (sym (fold-append (λ m (o : Owned). given_back mode m o.index) old (agreed so_far.asked) (it ∷ []))
+              ∙ ap (recovered mode old) (sym (agreed_yes so_far.asked it))));
+          -- where giving the index back locks the set, no other cell has an owner, so nothing is left to ask
           shut =
-              λ e. ap (λ r. taken_from (at.index + 1) (map owner_in r))
-              (sym at.rest_is
-              ∙ sym (drop-set-lt (at.index + 1) t.cells at.index empty (let l : at.index < at.index + 1 = omega arith in l)))
-              ∙ locked_leaves mode t.g emptied (at.index + 1) (at.index + 1) t.fits.small opens e;
+              λ e. ap (λ r. taken_from (stopped.index + 1) (map owner_in r))
+              (sym stopped.rest_is
+              ∙ sym (drop-set-lt (stopped.index + 1) so_far.cells stopped.index empty (let l : stopped.index < stopped.index + 1 = omega arith in l)))
+              ∙ locked_leaves mode so_far.g emptied (stopped.index + 1) (stopped.index + 1) so_far.fits.small opens e;
           number = number_then true;
+          -- the recovery empties the cell and goes on to the next question or to its end
           run =
               subst (λ ws. Halts want recover_after kept mode
-              (λ s room vs. StopsAt capacity (counter_then mode t.g emptied) emptied left_then s vs)
-              (at_recover (first_recover capacity) (recovers.EmptiesCell at.index at.owner)) tt ws)
-              (sym at.same)
-              (halts want recover_after mode (suc (suc (suc (rounds capacity t.g t.cells t.fits.small long t.fits.few opens at.index at.rest at.rest_is))))
-              (StopsAt capacity (counter_then mode t.g emptied) emptied left_then)
-              (at_recover (first_recover capacity) (recovers.EmptiesCell at.index at.owner))
-              (t.g ∷ t.cells)
-              (omega (arith, plus_sum (plus (suc (suc (suc (length emptied)))) 1) (suc (suc (length at.rest))), plus_sum (suc (suc (suc (length emptied)))) 1))
-              (frees_on capacity t.g t.cells t.fits.small long t.fits.few opens at.index at.rest at.rest_is mode at.owner at.word_is));
+              (λ s room vs. StopsAt capacity (counter_then mode so_far.g emptied) emptied left_then s vs)
+              (at_recover (first_recover capacity) (recovers.EmptiesCell stopped.index stopped.owner)) tt ws)
+              (sym stopped.same)
+              (halts want recover_after mode
+              (suc (suc (suc (rounds capacity so_far.g so_far.cells so_far.fits.small long so_far.fits.few opens stopped.index stopped.rest stopped.rest_is))))
+              (StopsAt capacity (counter_then mode so_far.g emptied) emptied left_then)
+              (at_recover (first_recover capacity) (recovers.EmptiesCell stopped.index stopped.owner))
+              (so_far.g ∷ so_far.cells)
+              (omega (
+                arith,
+                plus_sum (plus (suc (suc (suc (length emptied)))) 1) (suc (suc (length stopped.rest))),
+                plus_sum
+                    (suc (suc (suc (length emptied)))) 1,
+              ))
+              (frees_on capacity so_far.g so_far.cells so_far.fits.small long so_far.fits.few opens stopped.index stopped.rest stopped.rest_is mode
+              stopped.owner stopped.word_is));
         }
 
     -- ---- as the question was matched
 
+    -- the question is about an index and its owner
     abbrev is_owned : Question (Unit {0}) → Type 0
     is_owned (questions.Owned owner index) = Unit {0}
     is_owned (questions.Index index) = ⊥
     is_owned (questions.Value index unit) = ⊥
 
+    -- the owner that the question names, or 0
     abbrev owner_of : Question (Unit {0}) → ℕ
     owner_of (questions.Owned owner index) = owner
     owner_of (questions.Index index) = 0
     owner_of (questions.Value index unit) = 0
 
+    -- a recovery asks no question about an index alone
     pub no_index : (index : ℕ) → question ≡ questions.Index index → ⊥
-    no_index index is = subst is_owned (sym at.asks ∙ is) tt
+    no_index index asks = subst is_owned (sym stopped.asks ∙ asks) tt
 
+    -- a recovery asks no question about a value
     pub no_value : (index : ℕ) (unit : Unit {0}) → question ≡ questions.Value index unit → ⊥
-    no_value index unit is = subst is_owned (sym at.asks ∙ is) tt
+    no_value index unit asks = subst is_owned (sym stopped.asks ∙ asks) tt
 
     module _ (owner index : ℕ) (is : question ≡ questions.Owned owner index) where
-      owner_is : owner ≡ at.owner
-      owner_is = ap owner_of (sym is ∙ at.asks)
+      -- the owner of the question is the one at which the recovery stopped
+      owner_is : owner ≡ stopped.owner
+      owner_is = ap owner_of (sym is ∙ stopped.asks)
 
-      index_is : index ≡ at.index
-      index_is = ap index_in (sym is ∙ at.asks)
+      -- the index of the question is the one at which the recovery stopped
+      index_is : index ≡ stopped.index
+      index_is = ap index_in (sym is ∙ stopped.asks)
 
+      -- the closure may be asked about the question's owner and index
       pub may_ask : {pre : F → ℕ → ℕ → Type 0} → TakesQuestions pre step (to_recover old) f → pre p owner index
       may_ask {pre} may =
           subst (λ (z : ℕ × ℕ). pre p z.0 z.1) (λ i. (sym owner_is i, sym index_is i))
-          (may.at t.asked p it left_then t.answers asked_so)
+          (may.at so_far.asked p it left_then so_far.answers asked_so)
 
-      -- an index that was given back on a yes is one that the other closure may be told
+      -- after a yes the other closure may be told of the question's owner and index
       pub may_tell : {pre : S → ℕ → ℕ → Type 0} → TakesFreed step pre tell (to_recover old) f s → (p₂ : F) (b : Bool)
           → step p owner index b p₂ → IsTrue b → pre q owner index
       may_tell {pre} may p₂ true called agrees =
           subst (λ (z : ℕ × ℕ). pre q z.0 z.1) (λ i. (sym owner_is i, sym index_is i))
-          (may.at t.asked p p₂ q it left_then t.answers (subst (λ (z : ℕ × ℕ). step p z.0 z.1 true p₂) (λ i. (owner_is i, index_is i)) called) asked_so t.told)
+          (may.at so_far.asked p p₂ q it left_then so_far.answers (subst (λ (z : ℕ × ℕ). step p z.0 z.1 true p₂) (λ i. (owner_is i, index_is i)) called)
+          asked_so so_far.told)
       may_tell {pre} may p₂ false called agrees = absurd (subst holds_none agrees tt)
 
+      -- what an answer has led to: the recovery is under way with one question more; it does not end
+      -- before a further step
       abbrev pub Onward : F → S → After Recover ReleaseState → Type 0
       Onward p₂ q₂ (GoOn next) = Recovering (done + 1) next p₂ q₂ last
       Onward p₂ q₂ (Done state) = ⊥
 
+      -- after the question was answered, and the other closure told of a yes, the recovery is under way
       onward : (b : Bool) (p₂ : F) (q₂ : S) → step p owner index b p₂ → (IsTrue b → tell q owner index q₂) → (IsFalse b → q₂ ≡ q)
           → Onward p₂ q₂ (recover_after put mode (if b then 1 else 0))
       onward = grind (arith, on_yes, owner_is, index_is, on_no)
 
+      -- after the question was answered and the call was handed the answer as a number, the
+      -- recovery is under way
       pub onward_so : (agrees : Bool) (p₂ : F) (q₂ : S) → step p owner index agrees p₂ → (IsTrue agrees → tell q owner index q₂) → (IsFalse agrees → q₂ ≡ q)
           → (answer : ℕ) → answer ≡ (if agrees then 1 else 0) → (b : After Recover ReleaseState) → b ≡ recover_after put mode answer → Onward p₂ q₂ b
       onward_so = grind (arith, onward)
@@ -312,7 +377,7 @@ module _ {F S : Type 0} (step : F → ℕ → ℕ → Bool → F → Type 0) (te
       → Walks (λ c. recover_want c) (λ c old. recover_after c mode old) (suc (suc (suc (length cells))))
       (StopsAt capacity g cells (to_recover (owners_in (g ∷ cells)))) (first_recover capacity) (g ∷ cells)
   begin_walk g cells long =
-      by_eq (λ a. Goes (λ c. recover_want c) (λ c old. recover_after c mode old) (suc (suc (length cells)))
+      by_eq (λ a. WalksOn (λ c. recover_want c) (λ c old. recover_after c mode old) (suc (suc (length cells)))
       (StopsAt capacity g cells (to_recover (owners_in (g ∷ cells)))) a (g ∷ cells))
       g locked _ _
       (λ e. (
@@ -326,8 +391,8 @@ module _ {F S : Type 0} (step : F → ℕ → ℕ → Bool → F → Type 0) (te
   -- a recovery that begins has asked nothing yet
   pub starts : (first : List ℕ) (call : Recover) → call ≡ first_recover capacity → Represents capacity first
       → Recovering step tell mode f s capacity first 0 call f s first
-  starts [] call is fits = let e : 0 ≡ 1 + capacity = fits.long in absurd (omega arith)
-  starts (g ∷ cells) call is fits =
+  starts [] call at_first fits = let e : 0 ≡ 1 + capacity = fits.long in absurd (omega arith)
+  starts (g ∷ cells) call at_first fits =
       let long : length cells ≡ capacity = let e : suc (length cells) ≡ 1 + capacity = fits.long in omega arith in
       let few = fits.few in
       record {
@@ -342,10 +407,11 @@ module _ {F S : Type 0} (step : F → ℕ → ℕ → Bool → F → Type 0) (te
         map_is = refl;
         shut = λ e. ap (λ b. if b then [] else taken (owners_in (g ∷ cells))) (eq-eqb g locked e);
         number = refl;
+        -- the call halts at the first filled cell, or at its end
         run =
             subst (λ c. Halts (λ c (given : ReleaseMode). recover_want c) recover_after (λ c (room : Unit {0}) old. room) mode
             (λ s room vs. StopsAt capacity g cells (to_recover (owners_in (g ∷ cells))) s vs) c tt (g ∷ cells))
-            (sym is)
+            (sym at_first)
             (halts (λ c (given : ReleaseMode). recover_want c) recover_after mode (suc (suc (suc (length cells))))
             (StopsAt capacity g cells (to_recover (owners_in (g ∷ cells)))) (first_recover capacity) (g ∷ cells)
             (omega arith) (begin_walk g cells long));
@@ -368,16 +434,19 @@ few_rounds step tell mode f s capacity (g ∷ cells) fits done call p q words re
     (λ _. omega (arith, taken_most 0 (map owner_in cells), length-map cells owner_in)) in
     omega arith
 
+-- `TakesQuestions` of one list is `TakesQuestions` of an equal one
 pub questions_at : {F : Type 0} {pre : F → ℕ → ℕ → Type 0} {step : F → ℕ → ℕ → Bool → F → Type 0} {a b : List Owned} {f : F}
     → a ≡ b → TakesQuestions pre step a f → TakesQuestions pre step b f
-questions_at {F} {pre} {step} {a} {b} {f} e takes_questions = subst (λ z. TakesQuestions pre step z f) e takes_questions
+questions_at {F} {pre} {step} {a} {b} {f} same takes_questions = subst (λ z. TakesQuestions pre step z f) same takes_questions
 
+-- `TakesFreed` of one list is `TakesFreed` of an equal one
 pub freed_at : {F S : Type 0} {step : F → ℕ → ℕ → Bool → F → Type 0} {pre : S → ℕ → ℕ → Type 0}
     {tell : S → ℕ → ℕ → S → Type 0} {a b : List Owned} {f : F} {s : S}
     → a ≡ b → TakesFreed step pre tell a f s → TakesFreed step pre tell b f s
-freed_at {F} {S} {step} {pre} {tell} {a} {b} {f} {s} e takes_freed = subst (λ z. TakesFreed step pre tell z f s) e takes_freed
+freed_at {F} {S} {step} {pre} {tell} {a} {b} {f} {s} same takes_freed = subst (λ z. TakesFreed step pre tell z f s) same takes_freed
 
+-- `HasRecovered` of one map is `HasRecovered` of an equal one
 pub recovered_at : {F S : Type 0} {step : F → ℕ → ℕ → Bool → F → Type 0} {tell : S → ℕ → ℕ → S → Type 0} {mode : ReleaseMode} {a b new : Owners}
     {f f_last : F} {s s_last : S} → a ≡ b → HasRecovered step tell mode a new f s f_last s_last → HasRecovered step tell mode b new f s f_last s_last
-recovered_at {F} {S} {step} {tell} {mode} {a} {b} {new} {f} {f_last} {s} {s_last} e has_recovered =
-    subst (λ z. HasRecovered step tell mode z new f s f_last s_last) e has_recovered
+recovered_at {F} {S} {step} {tell} {mode} {a} {b} {new} {f} {f_last} {s} {s_last} same has_recovered =
+    subst (λ z. HasRecovered step tell mode z new f s f_last s_last) same has_recovered

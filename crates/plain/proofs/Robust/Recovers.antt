@@ -1,4 +1,4 @@
--- A recovery that runs alone, from one question to the next.
+-- A recovery of a robust set that runs alone: from one question to the next, or to its end.
 use Rattle.std.proofs.Common.{◌≡◌, ◌≢◌, ℕ, suc, ◌+◌, ◌^◌, ◌<◌, ◌≤◌, nat_lt, List, [], ◌∷◌, length, drop, map}
 use Rattle.std.proofs.Common.{refl, sym, ap, ◌∙◌, arith, slice_index, slice_set, length-set, eq-eqb}
 use Rattle.plain.proofs.Names.{nat_tests, drop-set-lt, by_test, by_eq, Question, Want, After, ReleaseMode}
@@ -14,12 +14,13 @@ use Rattle.steps.specs.Objects.Owners.{Owned, taken_from, next_generation}
 use Rattle.plain.specs.declared.drive.Stop.{Stop}
 use Rattle.plain.specs.declared.drive.Stop.TheVariants.{Asked, Ended}
 use Rattle.plain.specs.Robust.{owner_in}
-use Rattle.plain.proofs.Walks.{plus, Walks, Goes, goes_longer, part_walks}
+use Rattle.plain.proofs.Walks.{plus, Walks, WalksOn, goes_longer, part_walks}
 use Rattle.plain.proofs.Robust.Parts.{here, past, next_cell, next_set, next_small, owner_free, owner_some, raise_walks, lock_walks, locking, state_number}
 use Rattle.plain.proofs.Robust.Releases.{counter_then}
 
--- it asks about the first of those that are left
+-- the recovery has stopped at a question about the first index that is left, and the words are g and cells
 pub record AsksAt (capacity g : ℕ) (cells : List ℕ) (left : List Owned) (question : Question (Unit {0})) (call : Recover) (last : List ℕ) : Type 0 where
+  -- the index that is asked about, its owner and the cells behind it, and what is left
   pub index : ℕ
   pub owner : ℕ
   pub rest : List ℕ
@@ -27,40 +28,50 @@ pub record AsksAt (capacity g : ℕ) (cells : List ℕ) (left : List Owned) (que
   pub rest_is : drop (index + 1) cells ≡ rest
   pub word_is : slice_index (g ∷ cells) (cell_word index) ≡ owner
   pub near : index < capacity
+  -- the question, the stage of the call, and the words, which are g and the cells
   pub asks : question ≡ questions.Owned owner index
   pub stands : call ≡ at_recover (first_recover capacity) (recovers.Asks index owner)
   pub same : last ≡ g ∷ cells
 
+-- the recovery has ended with the state of the counter and nothing is left, or asks about the first index
+-- that is left
 abbrev pub StopsAt : ℕ → ℕ → List ℕ → List Owned → Stop Recover ReleaseState → List ℕ → Type 0
 StopsAt capacity g cells left (Ended state) last = (left ≡ []) × (state ≡ state_number g) × (last ≡ g ∷ cells)
 StopsAt capacity g cells left (Asked question call) last = AsksAt capacity g cells left question call last
 
 module _ (capacity : ℕ) (mode : ReleaseMode) where
+  -- what the recovery asks for next
   abbrev want : Recover → Want (Unit {0})
   want c = recover_want c
 
+  -- what an old value makes of the recovery, in this mode
   abbrev after : Recover → ℕ → After Recover ReleaseState
   after c old = recover_after c mode old
 
+  -- a recovery that has taken no step
   abbrev first : Recover
   first = first_recover capacity
 
-  -- over the cells that are left the recovery stops at the next taken index, or at its end
+  -- From this index on, with these cells left, the recovery stops at the next index that has an owner, or at
+  -- its end. The cases are whether a cell is left, and whether it is empty.
   pub recovers_on : (g : ℕ) (cells : List ℕ) → length cells ≡ capacity → (rest : List ℕ) (index : ℕ) (left : List Owned)
       → drop index cells ≡ rest → left ≡ taken_from index (map owner_in rest)
-      → Goes want after (suc (suc (length rest))) (StopsAt capacity g cells left) (recover_comes_to first index) (g ∷ cells)
-  recovers_on g cells long [] index left is all = grind (arith, past, by_test, at_recover, nat_lt, nat_tests)
-  recovers_on g cells long (c ∷ rest) index left is all =
-      let at = here cells index c rest is in
+      → WalksOn want after (suc (suc (length rest))) (StopsAt capacity g cells left) (recover_comes_to first index) (g ∷ cells)
+  recovers_on g cells long [] index left dropped all = grind (arith, past, by_test, at_recover, nat_lt, nat_tests)
+  -- a cell is left: the recovery loads it
+  recovers_on g cells long (c ∷ rest) index left dropped all =
+      let at = here cells index c rest dropped in
       let near = at.near in
       let word = next_cell g index cells ∙ at.word_is in
       by_test
       (λ stage. Walks want after (suc (suc (suc (length rest)))) (StopsAt capacity g cells left) (at_recover first stage) (g ∷ cells))
       (nat_lt index capacity) _ _
-      (λ _. by_eq (λ a. Goes want after (suc (suc (length rest))) (StopsAt capacity g cells left) a (g ∷ cells))
+      (λ _. by_eq (λ a. WalksOn want after (suc (suc (length rest))) (StopsAt capacity g cells left) a (g ∷ cells))
       (slice_index (g ∷ cells) (cell_word index)) empty _ _
+      -- the cell is empty: the recovery goes on to the next one
       (λ e. recovers_on g cells long rest (index + 1) left at.rest_is
       (all ∙ ap (λ o. taken_from index (o ∷ map owner_in rest)) (owner_free c (sym word ∙ e))))
+      -- the cell has an owner: the recovery asks about it
       (λ n. record {
         index = index;
         owner = slice_index (g ∷ cells) (cell_word index);
@@ -80,36 +91,46 @@ module _ (capacity : ℕ) (mode : ReleaseMode) where
 
 module _ (capacity g : ℕ) (cells : List ℕ) (small : g < 2 ^ 64) (long : length cells ≡ capacity) (few : capacity < 2 ^ 32) (opens : g ≢ locked)
     (index : ℕ) (rest : List ℕ) (rest_is : drop (index + 1) cells ≡ rest) where
+  -- the cells with this one emptied
   abbrev pub emptied : List ℕ
   emptied = slice_set cells index empty
 
+  -- the indices that are left after this one, with their owners
   abbrev pub left_then : List Owned
   left_then = taken_from (index + 1) (map owner_in rest)
 
+  -- the cells with this one emptied are as many as before
   emptied_long : length emptied ≡ capacity
   emptied_long = length-set cells index empty ∙ long
 
-  abbrev Ends : ReleaseMode → ℕ → ℕ → Recover → List ℕ → Type 0
-  Ends mode n counter call words =
+  -- the recovery, run alone from these words, stops within n steps at the first index that is left after this
+  -- one, or at its end, over this counter
+  abbrev RecoveryStops : ReleaseMode → ℕ → ℕ → Recover → List ℕ → Type 0
+  RecoveryStops mode n counter call words =
       Walks (λ c. recover_want c) (λ c old. recover_after c mode old) n (StopsAt capacity counter emptied left_then) call words
 
+  -- the recovery at this stage
   abbrev at : RecoverStage → Recover
   at stage = at_recover (first_recover capacity) stage
 
+  -- the greatest number of steps over the cells that are left
   abbrev scan : ℕ
   scan = suc (suc (length rest))
 
+  -- the greatest number of steps of a lock and of the cells that are left
   abbrev pub rounds : ℕ
   rounds = plus (plus (suc (suc (suc (length emptied)))) 1) scan
 
+  -- with the cell emptied the recovery goes on from the next index
   then_on : (mode : ReleaseMode) (n : ℕ)
-      → Goes (λ c. recover_want c) (λ c old. recover_after c mode old) scan (StopsAt capacity n emptied left_then)
+      → WalksOn (λ c. recover_want c) (λ c old. recover_after c mode old) scan (StopsAt capacity n emptied left_then)
       (recover_comes_to (first_recover capacity) (index + 1)) (n ∷ emptied)
   then_on = grind (arith, recovers_on, emptied_long, drop-set-lt, empty)
 
-  -- in the mode that locks, the lock is walked, and the recovery goes on to where it stops next
+  -- in the mode that locks the recovery locks the set, or finds that it cannot, and goes on
+  -- to where it stops next
   locks_on : (counter : ℕ) → counter < 2 ^ 64
-      → Ends LockIfLastIndex rounds (locking counter emptied) (at (recovers.Locks index first_lock)) (counter ∷ emptied)
+      → RecoveryStops LockIfLastIndex rounds (locking counter emptied) (at (recovers.Locks index first_lock)) (counter ∷ emptied)
   locks_on counter low =
       part_walks (λ c. recover_want c) (λ c old. recover_after c LockIfLastIndex old) lock_want (lock_after capacity)
       (λ l. at (recovers.Locks index l)) (recover_locked (first_recover capacity) index)
@@ -117,9 +138,10 @@ module _ (capacity g : ℕ) (cells : List ℕ) (small : g < 2 ^ 64) (long : leng
       (StopsAt capacity (locking counter emptied) emptied left_then) first_lock (counter ∷ emptied)
       (lock_walks capacity counter emptied low emptied_long few _ (then_on LockIfLastIndex (locking counter emptied)))
 
-  -- in either mode the raise is walked, and what follows it, to where the recovery stops next
+  -- In either mode the recovery raises the counter, in the mode that locks also tries to lock, and goes on to
+  -- where it stops next.
   raises_on : (mode : ReleaseMode)
-      → Ends mode (suc (suc rounds)) (counter_then mode g emptied) (at (recovers.Raises index raises.LoadsCounter)) (g ∷ emptied)
+      → RecoveryStops mode (suc (suc rounds)) (counter_then mode g emptied) (at (recovers.Raises index raises.LoadsCounter)) (g ∷ emptied)
   raises_on Default =
       part_walks (λ c. recover_want c) (λ c old. recover_after c Default old) raise_want raise_after
       (λ r. at (recovers.Raises index r)) (recover_raised (first_recover capacity) index Default)
@@ -136,7 +158,7 @@ module _ (capacity g : ℕ) (cells : List ℕ) (small : g < 2 ^ 64) (long : leng
       (StopsAt capacity (locking (next_generation g) emptied) emptied left_then) raises.LoadsCounter (g ∷ emptied)
       (raise_walks g emptied small _ (λ e. absurd (opens e)) (λ _. locks_on (next_generation g) (next_small g small)))
 
-  -- from a yes to the next question, or to the end
+  -- after a yes the recovery empties the cell, raises the counter and goes on to where it stops next
   pub frees_on : (mode : ReleaseMode) (owner : ℕ) → slice_index (g ∷ cells) (cell_word index) ≡ owner
-      → Ends mode (suc (suc (suc rounds))) (counter_then mode g emptied) (at (recovers.EmptiesCell index owner)) (g ∷ cells)
+      → RecoveryStops mode (suc (suc (suc rounds))) (counter_then mode g emptied) (at (recovers.EmptiesCell index owner)) (g ∷ cells)
   frees_on = grind (arith, by_eq, suc, empty, eq-eqb, next_set, raises_on)

@@ -1,4 +1,5 @@
--- The words of a set of which all indices are free.
+-- The words of a unique index set of which all indices are free: the chain of its indices is
+-- the stack with 0 on top.
 use Rattle.std.proofs.Common.{◌≡◌, ◌≢◌, ℕ, zero, suc, ◌+◌, ◌-◌, ◌%◌, ◌/◌, ◌^◌, ◌<◌, ◌≤◌, ⊎_elim, true, false, not, eqb}
 use Rattle.std.proofs.Common.{List, ◌∷◌, length, refl, sym, ap, subst, ◌∙◌, arith, slice_index, slice_set}
 use Rattle.std.proofs.Common.{get_or-set_same, get_or-set_other, length-set, true≢false}
@@ -9,13 +10,15 @@ use Rattle.steps.specs.Objects.Stacks.{opened}
 use Rattle.plain.specs.Unique.{chain, free_in, stack_in, claimed, Represents}
 use Rattle.plain.proofs.Stacks.Chains.{is_in, in_first, in_rest, in_other, one_more}
 
--- the next indices of the first few are linked, and all other words are 0
+-- the words of a set that opens, of which the next indices of the first n are written: word 1 + i names i +
+-- 1, and the head and the flags are 0
 pub record Linked (n capacity : ℕ) (words : List ℕ) : Type 0 where
   pub long : length words ≡ 1 + capacity + (capacity + 63) / 64
   pub head : slice_index words 0 ≡ 0
   pub next : (i : ℕ) → i < n → slice_index words (1 + i) ≡ i + 1
   pub flags : (j : ℕ) → capacity < j → slice_index words j ≡ 0
 
+-- with the next index of n written too, one index more is linked
 pub one_linked : (n capacity : ℕ) (words : List ℕ) → n < capacity → Linked n capacity words
     → Linked (n + 1) capacity (slice_set words (1 + n) (n + 1))
 one_linked = grind (arith, length-set, get_or-set_other, get_or-set_same, false, eqb_tells)
@@ -55,38 +58,43 @@ range_distinct a (suc n) =
 -- ---- the stack
 
 module _ (capacity : ℕ) (words : List ℕ) (some : 1 ≤ capacity) (few : capacity ≤ 2 ^ 24 - 2)
-    (h : Linked capacity capacity words) where
+    (linked : Linked capacity capacity words) where
   -- from each index on the chain is the rest of the indices in order
   chain_is : (i n : ℕ) → i + n ≡ capacity → chain words i n ≡ range_with_len i n
   chain_is i zero end = refl
   chain_is i (suc n) end =
       let next : slice_index words (next_word i) % 2 ^ 24 ≡ i + 1 =
-      ap (λ w. w % 2 ^ 24) (h.next i (omega arith)) ∙ omega arith in
+      ap (λ w. w % 2 ^ 24) (linked.next i (omega arith)) ∙ omega arith in
       ap (λ k. i ∷ chain words k n) next ∙ ap (λ xs. i ∷ xs) (chain_is (i + 1) n (omega arith))
 
+  -- the free indices are those below the capacity, ascending
   free_is : free_in capacity words ≡ range_with_len 0 capacity
   free_is = grind (arith, chain, chain_is)
 
+  -- no flag stands
   none_claimed : (i : ℕ) → claimed capacity words i ≡ false
-  none_claimed i = ap (λ w. has_flag w i) (h.flags (flag_word capacity i) (omega arith))
+  none_claimed i = ap (λ w. has_flag w i) (linked.flags (flag_word capacity i) (omega arith))
 
-  -- the words of the open set fit
+  -- these words are those of a unique index set
   fits : Represents capacity words
   fits =
       record {
-        long = h.long;
+        long = linked.long;
         some = some;
         few = few;
-        small = subst (λ w. w < 2 ^ 64) (sym h.head) (omega arith);
-        count = subst (λ w. borrowed_number w ≤ capacity) (sym h.head) (omega arith);
+        small = subst (λ w. w < 2 ^ 64) (sym linked.head) (omega arith);
+        count = subst (λ w. borrowed_number w ≤ capacity) (sym linked.head) (omega arith);
+        -- each index is on the stack once
         distinct = subst (IsDistinct eqb) (sym free_is) (range_distinct 0 capacity);
         below = λ i there.
             let r = range_within i 0 capacity (sym (ap (is_in i) free_is) ∙ there) in
             omega (arith, r.1);
+        -- each index is on the stack, and its flag is clear
         flags = λ i low.
             none_claimed i
             ∙ sym (ap not (ap (is_in i) free_is ∙ in_range i 0 capacity (omega arith) (omega arith)));
       }
 
+  -- these words are those of a set that opens, with all indices on its stack
   pub all_free : Represents capacity words × (stack_in capacity words ≡ opened capacity)
   all_free = grind (arith, fits, free_is)

@@ -1,4 +1,5 @@
--- An add, and then an update of a state that follows the container.
+-- What a client can derive from the laws: after an add, a state that followed the container shows the map
+-- once it is brought up to date.
 use Rattle.plain.specs.Contents.{Contents, after_add}
 use Rattle.plain.specs.States.{Snapshot, updated}
 use Rattle.std.proofs.Common.{◌≡◌, ℕ, sym, subst}

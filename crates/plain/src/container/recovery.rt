@@ -24,7 +24,7 @@ fn ask_about<T: Words, F: FnMut(T) -> bool>(predicate: &mut F, value: T) -> bool
     predicate(value)
 }
 
-/// A recovery, over the words of a container.
+/// Drives a recovery to its end, over the words of a container. It calls the closure at each question.
 fn recover<T: Words, F: FnMut(T) -> bool>(
     words: &mut Vec<u64>,
     capacity: u32,
@@ -68,10 +68,11 @@ fn recover<T: Words, F: FnMut(T) -> bool>(
 }
 
 impl<T: Words> Container<T> {
-    /// Asks `predicate` about a copy of each value of `owner`, and frees the index if the answer is true. By ascending
-    /// index; what is freed has no owner and value then. In mode `LockIfLastIndex` it locks the container if no index
-    /// has an owner after one was freed, unless its generation comes to its end. Returns `Locked` if it is locked, else
-    /// `Unlocked`. It asks nothing of a locked one. It is one change. After `recover` of the Rust crate.
+    /// Asks `predicate` about a copy of each value of `owner`, and frees the index if the answer is true. It
+    /// goes by ascending index, and a freed index has no owner or value. In mode `LockIfLastIndex` it locks
+    /// the container if no index has an owner after one was freed, unless its generation comes to its end.
+    /// Returns `Locked` if it is locked, else `Unlocked`. Of a locked one it asks nothing. It is one change.
+    /// After Rust's `recover`.
     pub fn recover<F: FnMut(T) -> bool>(
         &mut self,
         owner: OwnerId,

@@ -28,7 +28,7 @@ fn visit_value<T: Words, F: FnMut(T, ContainerHandle) -> CallbackProgression>(
     visit(value, handle)
 }
 
-/// A find, over the words of a container.
+/// Drives a find to its end, over the words of a container. It calls `visit` at each question.
 fn find<T: Words, F: FnMut(T, ContainerHandle) -> CallbackProgression>(
     words: &mut Vec<u64>,
     capacity: u32,
@@ -76,9 +76,9 @@ fn find<T: Words, F: FnMut(T, ContainerHandle) -> CallbackProgression>(
 }
 
 impl<T: Words> Container<T> {
-    /// Calls `visit` with a copy of each value of `owner`, and its handle, until `visit` returns `Stop`. By ascending
-    /// index. It returns how many it came to, the one on which it was told to stop among them. After `find` of the Rust
-    /// crate's `Container`, which hands out a pointer to the value.
+    /// Calls `visit` with a copy of each value of `owner` and its handle, until `visit` returns `Stop`. It
+    /// goes by ascending index. It returns how many values it came to, the one on which it was told to stop
+    /// among them. After `find` of the Rust crate's `Container`, which hands out a pointer to the value.
     pub fn find<F: FnMut(T, ContainerHandle) -> CallbackProgression>(
         &mut self,
         owner: OwnerId,

@@ -1,5 +1,6 @@
--- The law `calls_are_in_order` (src/laws.rt): of two such calls the one ended before the other began, where what the pass of the other
--- had seen by then goes on from what the pass of the one had seen as it ended: of one pass, or of one that took the other in.
+-- The law `calls_are_in_order` (src/laws.rt): of two calls that passes made, the first ended before the
+-- second began, if what the second's pass had seen before its call goes on from what the first's pass had
+-- seen after its own.
 use Rattle.history.proofs.Acts.Order as order
 use Rattle.history.proofs.laws.calls_are_in_order.Goals as goal
 

@@ -1,4 +1,5 @@
--- `machines_act` (src/laws.rt): its return meets what it ensures (`ActsByPlace`).
+-- The law `machines_act` (src/laws.rt): on every machine of a bit set or a counting bit set, whatever turns
+-- it was given, the calls act place by place.
 use Rattle.history.proofs.Acts.Machines as machines
 use Rattle.history.proofs.laws.machines_act.Goals as goal
 

@@ -1,4 +1,5 @@
--- `runs_act` (src/laws.rt): its return meets what it ensures (`ActsByPlace`).
+-- The law `runs_act` (src/laws.rt): in every run of a machine of a bit set or a counting bit set the calls
+-- act place by place.
 use Rattle.history.proofs.Acts.Laws as laws
 use Rattle.history.proofs.laws.runs_act.Goals as goal
 

@@ -1,5 +1,6 @@
--- The law `runs_go_on` (src/laws.rt; clauses `calls`, `splits`, `joins`, `first` and `tables`): one run of the model is the whole life
--- of a table.
+-- The law `runs_go_on` (src/laws.rt; clauses `calls`, `splits`, `joins`, `first` and `tables`): from call to
+-- call, and over splits and joins, the run that a pass knew goes on to the one that it knows, and any two
+-- seats of a table know one run.
 use Rattle.history.proofs.OneRun.{continues_further, continues_split, continues_join, knows_first, seats_know_one}
 use Rattle.history.proofs.laws.runs_go_on.Goals as goal
 

@@ -1,4 +1,5 @@
--- The law `steps_are_bounded` (src/laws.rt): what the steps of a call say of the run that the pass knows after it.
+-- The law `steps_are_bounded` (src/laws.rt): a bound on the operations of a call holds of that call in the
+-- run that the pass knows after it.
 use Rattle.history.proofs.Latest.{takes_in_run}
 use Rattle.history.proofs.laws.steps_are_bounded.Goals as goal
 

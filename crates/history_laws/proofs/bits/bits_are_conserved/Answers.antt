@@ -1,5 +1,5 @@
--- The law `bits_are_conserved` (src/bits.rt; clauses `conserved`, `once` and `within`): each bit was set as often as it was cleared, and
--- once more where it stands; none behind the last was set.
+-- The law `bits_are_conserved` (src/bits.rt; clauses `conserved`, `once` and `within`): each bit was set as
+-- often as it was cleared, and once more where it stands; no bit at or behind the capacity was set.
 use Rattle.history_laws.proofs.BitsSums.{conserved, once, within}
 use Rattle.history_laws.proofs.bits.bits_are_conserved.Goals as goal
 

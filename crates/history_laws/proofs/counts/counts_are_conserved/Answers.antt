@@ -1,5 +1,6 @@
--- The law `counts_are_conserved` (src/counts.rt; clauses `conserved` and `within`): what was counted at a place is what was taken out of
--- it in all, and what stands there; nothing behind the last was counted.
+-- The law `counts_are_conserved` (src/counts.rt; clauses `conserved` and `within`): what was counted at a
+-- place is what was taken out of it in all, and what stands there; at no place at or behind the capacity
+-- anything was counted.
 use Rattle.history_laws.proofs.CountsSums.{conserved, within}
 use Rattle.history_laws.proofs.counts.counts_are_conserved.Goals as goal
 

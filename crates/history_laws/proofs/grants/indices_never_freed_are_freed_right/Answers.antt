@@ -1,4 +1,5 @@
--- The law `indices_never_freed_are_freed_right` (src/grants.rt): an index that nobody freed is freed by none but those who may.
+-- The law `indices_never_freed_are_freed_right` (src/grants.rt): in a history in which nobody freed the
+-- index, the condition on those who free it holds.
 use Rattle.history_laws.proofs.GrantsLaws.{never_freed}
 use Rattle.history_laws.proofs.grants.indices_never_freed_are_freed_right.Goals as goal
 

@@ -1,5 +1,6 @@
--- The law `indices_are_conserved` (src/indices.rt; clauses `conserved` and `within`): each index was claimed as often as it was freed,
--- and once more where somebody holds it; none behind the last was.
+-- The law `indices_are_conserved` (src/indices.rt; clauses `conserved` and `within`): each index
+-- was claimed as often as it was freed, and once more where somebody holds it; no index at or
+-- behind the capacity was claimed.
 use Rattle.history_laws.proofs.IndicesLaws.{conserved, within}
 use Rattle.history_laws.proofs.indices.indices_are_conserved.Goals as goal
 

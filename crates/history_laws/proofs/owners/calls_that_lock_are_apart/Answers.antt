@@ -1,4 +1,5 @@
--- The law `calls_that_lock_are_apart` (src/owners.rt): where no call that may lock was begun, no two overlap.
+-- The law `calls_that_lock_are_apart` (src/owners.rt): where no call that may lock was begun,
+-- no two of them overlap.
 use Rattle.lock_free_owners.proofs.Worn.Laws.{none_overlap}
 use Rattle.history_laws.proofs.owners.calls_that_lock_are_apart.Goals as goal
 

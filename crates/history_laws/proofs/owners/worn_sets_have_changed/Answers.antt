@@ -1,5 +1,5 @@
--- The law `worn_sets_have_changed` (src/owners.rt): of two that overlap each can make the other count again, and raise the counter, any
--- number of times.
+-- The law `worn_sets_have_changed` (src/owners.rt): where no two calls that may lock a set overlap, its
+-- counter is at its end only after a third of 2^64 - 2 changes.
 use Rattle.lock_free_owners.proofs.Worn.Laws.{worn_set}
 use Rattle.history_laws.proofs.owners.worn_sets_have_changed.Goals as goal
 

@@ -3,8 +3,8 @@ use Rattle.std.specs.Prelude.{ℕ, ◌+◌, ◌*◌}
 use Rattle.model.specs.declared.families.atomic.AtomicStart.{AtomicStart}
 use Rattle.model.specs.declared.families.atomic.AtomicStart.TheVariants.{AcquireProducer, ReleaseProducer, Store, Load, HasProducer, Version}
 
--- how many steps the call takes at most,
--- where a value has so many words and the call has begun a loop's turn again so often
+-- How many steps a call takes at most, by the number of words of a value (`size`) and by how often the
+-- call has turned back to the start of a loop (`backs`).
 abbrev pub most_steps : {T : Type 0} → ℕ → AtomicStart T → ℕ → ℕ
 most_steps size AcquireProducer backs = 1
 most_steps size ReleaseProducer backs = 1

@@ -16,7 +16,8 @@ use Rattle.model.specs.Families.Queues.Opening.{holds}
 use Rattle.model.specs.Opening.{Opening}
 use Rattle.model.specs.Step.{Beginning}
 
--- the version, the role free, and two cells, each for a value of so many words
+-- The words at the opening: the version, the role, which is free, and two cells of `size`
+-- words, each for a value.
 abbrev pub opening_words : ℕ → List ℕ
 opening_words size = 1 ∷ 1 ∷ replicate (size * 2) 0
 

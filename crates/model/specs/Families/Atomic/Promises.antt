@@ -22,7 +22,7 @@ use Rattle.model.specs.Promise.{Promise}
 use Rattle.model.specs.Reading.{Each, moments, Span}
 use Rattle.model.specs.World.{Trace}
 
--- the words of the cell in which the value of the version stands, where a value has so many words
+-- The words of the cell that the version names, where a value has `size` words.
 abbrev pub cell_in : ℕ → List ℕ → List ℕ
 cell_in size words =
     take size (drop (cell_word size (slice_index words version_word - 1)) words)
@@ -37,7 +37,7 @@ abbrev pub check_of_version : ℕ → Ask
 check_of_version version = record { word = version_word; op = Exchange version version }
 
 module _ {T : Type 0} where
-  -- the value that words of zeros make, replaced by stores
+  -- The object of stores and loads: at first the value whose words are all 0, replaced by each store.
   abbrev pub value_of_zeros : Coding T → Object T T
   value_of_zeros code = one_value (code.value_of (replicate code.size 0))
 
@@ -53,7 +53,8 @@ module _ {T : Type 0} where
       answer ≡ Number (length (stored before) + 1)
   AnswersRight code before e = Unit {0}
 
-  -- the words of the version's cell make the value that stands
+  -- What holds of the single value's machine after any turns: the words of the cell that the version
+  -- names make the value that was stored last, and acts, answers and roles are right.
   pub record IsValue (t : Trace T) : Type 0 where
     -- stores and loads act as on one value
     pub moments : IsLegal (value_of_zeros t.world.coding) (moments t.events)
@@ -66,8 +67,8 @@ module _ {T : Type 0} where
     -- the machine keeps who holds the role
     pub holder : KeepsHolder t.world.kept t.events
 
-  -- A store acts in the turn that adds 1 to the version, and a load in the one that finds the version unchanged, with
-  -- the value that stands. Each does so in a turn of its own party, and no other call acts.
+  -- A store acts in the turn that adds 1 to the version, a load in the turn that finds the version
+  -- unchanged, with the value that stands. Both act in a turn of their own party, and no other call acts.
   abbrev pub ActsRight : Trace T → Option Ask → (ℕ → Type 0) → Event T → Type 0
   ActsRight old ask IsTurnOf (Acted p (Atomic (Store value)) answer) =
       IsTurnOf p × (ask ≡ Some add_to_version)

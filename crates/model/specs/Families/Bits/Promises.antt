@@ -26,13 +26,14 @@ module _ {T : Type 0} where
 
   -- ---- a bit set
 
-  -- each bit that stood when the party's call began has been cleared since, by whomever
+  -- Each bit that stood when the party's call began has been cleared since, by this call or another one.
   abbrev pub HasCleared : ℕ → List (Event T) → List (Event T) → Type 0
   HasCleared capacity before since =
       (b : ℕ) → b < capacity → standing b before ≡ 1 → 1 ≤ clears b since
 
-  -- The reset has come to the bit from where the reset position stood at a moment of the call: each of the places
-  -- before it, of which the first follows the last, was clear at some moment of it.
+  -- The reset has come to this bit by going round the places (place 0 follows the last one) from
+  -- where the reset position stood at a moment of the call. Each place that it passed was clear at
+  -- a moment of the call.
   pub record CameTo (p capacity bit : ℕ) (events : List (Event T)) : Type 0 where
     -- the place at which its search began
     pub start : ℕ
@@ -62,31 +63,34 @@ module _ {T : Type 0} where
       (bit < capacity) × (standing bit before ≡ one_if answer)
   BitsAnswerRight capacity before e = Unit {0}
 
-  -- each bit was set as often as it was cleared, and once more if it stands
+  -- What holds of a bit set's machine after any turns: each bit was set as often as it was cleared, and
+  -- once more if it stands; no bit past the capacity was set; each answer is right.
   pub record IsBitSet (t : Trace T) : Type 0 where
     pub conserved : (b : ℕ) → sets b t.events ≡ clears b t.events + one_if (stands t.world.words b)
     pub within : (b : ℕ) → t.world.capacity ≤ b → sets b t.events ≡ 0
     pub answers : Each (BitsAnswerRight t.world.capacity) t.events
 
-  -- the bit is set by a set of it that has written nothing yet
+  -- A bit may be set only by a call `Set` of that bit, which has written nothing yet.
   abbrev pub MaySet : ℕ → Start T → List (Event T) → Type 0
   MaySet bit (Bits (Set b)) wrote = (b ≡ bit) × (wrote ≡ [])
   MaySet bit start wrote = ⊥
 
-  -- a reset of all clears its bits ascending
+  -- A bit may be cleared by a reset of the next bit that has written nothing yet, and by a reset of all,
+  -- which clears bits in ascending order.
   abbrev pub MayClear : ℕ → Start T → List (Event T) → Type 0
   MayClear bit (Bits ResetNext) wrote = wrote ≡ []
   MayClear bit (Bits ResetAll) wrote = (b : ℕ) → bit ≤ b → clears b wrote ≡ 0
   MayClear bit start wrote = ⊥
 
-  -- where in its party's span a bit may be set or cleared
+  -- Where in its party's span (what its call has written so far) a bit may be set or cleared.
   abbrev pub bits_stand : Event T → Span T → Type 0
   bits_stand (events.Set p bit) (Open start wrote) = MaySet bit start wrote
   bits_stand (Cleared p bit) (Open start wrote) = MayClear bit start wrote
   bits_stand e span = ⊥
 
-  -- a set that answers true has set its bit, and one that answers false nothing; a reset of the next one has cleared
-  -- the bit that it answers, or nothing; a look does nothing
+  -- What a finished call of a bit set has written: a set that answers true has set its bit, a reset of
+  -- the next bit has cleared the bit that it answers, and a look, a set that answers false and a reset of
+  -- the next bit that answers none have written nothing.
   abbrev pub BitsWrote : ℕ → Start T → Answer T → List (Event T) → Type 0
   BitsWrote capacity (Bits (Set bit)) (Truth true) wrote =
       (length wrote ≡ 1) × (sets bit wrote ≡ 1)
@@ -117,12 +121,13 @@ module _ {T : Type 0} where
 
   -- ---- a counting bit set
 
-  -- something has been taken out of each place that counted above 0 when the party's call began, by whomever
+  -- Something has been taken out of each place that counted above 0 when the party's call began, by this
+  -- call or another one.
   abbrev pub HasTaken : ℕ → List (Event T) → List (Event T) → Type 0
   HasTaken capacity before since =
       (b : ℕ) → b < capacity → 1 ≤ count_at b before → 1 ≤ takes b since
 
-  -- a set answers the count of its place just before it was counted
+  -- A set of a counting bit set answers what its place counted just before the call counted it.
   pub record AnswersCount (p place number : ℕ) (events : List (Event T)) : Type 0 where
     pub before : List (Event T)
     pub is : events ≡ before ++ Counted p place ∷ []
@@ -138,7 +143,9 @@ module _ {T : Type 0} where
       (place < capacity) × (number ≡ count_at place before)
   CountsAnswerRight capacity before e = Unit {0}
 
-  -- each place was counted as often as was taken out of it in all, and as its count says
+  -- What holds of a counting bit set's machine after any turns: the number of times that a place was
+  -- counted is what was taken out of it plus what it counts now; no place past the capacity was counted;
+  -- each answer is right.
   pub record IsCountingSet (t : Trace T) : Type 0 where
     pub conserved : (b : ℕ) → counts b t.events ≡ takes b t.events + slice_index t.world.words b
     pub within : (b : ℕ) → t.world.capacity ≤ b → counts b t.events ≡ 0
@@ -146,7 +153,7 @@ module _ {T : Type 0} where
 
   -- ---- where neither turns nor parties have a bound: a count wraps at 2^64
 
-  -- a set answers what its place had counted just before, less than 2^64
+  -- A set answers what its place had counted just before the call counted it, modulo 2^64.
   pub record AnswersCountOn (p place number : ℕ) (events : List (Event T)) : Type 0 where
     pub before : List (Event T)
     pub is : events ≡ before ++ Counted p place ∷ []
@@ -169,8 +176,9 @@ module _ {T : Type 0} where
       (place < capacity) × (number ≡ count_at place before % 2 ^ 64)
   CountsAnswerOn capacity before e = Unit {0}
 
-  -- each place was counted as often as was taken out of it in all, and as its count says, and 2^64 times for each time
-  -- that the count wrapped
+  -- What holds of a counting bit set's machine whose turns have no bound: the number of times that a
+  -- place was counted is what was taken out of it, plus what it counts now, plus 2^64 for each time that
+  -- the count wrapped.
   pub record IsCountingOn (t : Trace T) : Type 0 where
     pub conserved : (b : ℕ)
         → (wraps : ℕ)
@@ -178,24 +186,27 @@ module _ {T : Type 0} where
     pub within : (b : ℕ) → t.world.capacity ≤ b → counts b t.events ≡ 0
     pub answers : Each (CountsAnswerOn t.world.capacity) t.events
 
-  -- the place is counted by a set of it that has written nothing yet
+  -- A place may be counted only by a call `Set` of that place, which has written nothing yet.
   abbrev pub MayCount : ℕ → Start T → List (Event T) → Type 0
   MayCount place (Bits (Set b)) wrote = (b ≡ place) × (wrote ≡ [])
   MayCount place start wrote = ⊥
 
-  -- a reset of all takes out what is above 0, ascending
+  -- A count may be taken out only if it is above 0, by a reset of all, which goes through the places in
+  -- ascending order.
   abbrev pub MayTake : (place number : ℕ) → Start T → List (Event T) → Type 0
   MayTake place number (Bits ResetAll) wrote =
       (1 ≤ number) × ((b : ℕ) → place ≤ b → takes b wrote ≡ 0)
   MayTake place number start wrote = ⊥
 
-  -- where in its party's span a place may be counted or its count taken out
+  -- Where in its party's span (what its call has written so far) a place may be counted, or
+  -- its count taken out.
   abbrev pub counts_stand : Event T → Span T → Type 0
   counts_stand (Counted p place) (Open start wrote) = MayCount place start wrote
   counts_stand (TakenOut p place number) (Open start wrote) = MayTake place number start wrote
   counts_stand e span = ⊥
 
-  -- a set has counted its place once, and a look does nothing
+  -- What a finished call of a counting bit set has written: a set has counted its place once, and a look
+  -- has written nothing.
   abbrev pub CountsWrote : ℕ → Start T → Answer T → List (Event T) → Type 0
   CountsWrote capacity (Bits (Set place)) (Number number) wrote =
       (length wrote ≡ 1) × (counts place wrote ≡ 1)

@@ -29,7 +29,7 @@ module _ {T : Type 0} where
   take_of place (TakenOut p b number) = if b == place then number else 0
   take_of place e = 0
 
-  -- how often the bit was set, and how often it was cleared
+  -- how often the bit was set
   abbrev pub sets : ℕ → List (Event T) → ℕ
   sets bit events = count_by (is_set_of bit) events
 
@@ -37,7 +37,7 @@ module _ {T : Type 0} where
   abbrev pub clears : ℕ → List (Event T) → ℕ
   clears bit events = count_by (is_clear_of bit) events
 
-  -- how often the place was counted, and what was taken out of it in all
+  -- how often the place was counted
   abbrev pub counts : ℕ → List (Event T) → ℕ
   counts place events = count_by (is_count_of place) events
 

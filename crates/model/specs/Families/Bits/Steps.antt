@@ -14,13 +14,15 @@ use Rattle.model.specs.Families.Bits.Calls.{after, goes_back}
 use Rattle.model.specs.Step.{Step}
 
 module _ {T : Type 0} where
-  -- what a set writes down: an exchange that found the element as it was sets the bit
+  -- What a set's step writes down: an exchange that found the element (the word of the bit) unchanged
+  -- since its load sets the bit.
   abbrev pub set_events : (p bit : ℕ) → SetStage → ℕ → List (Event T)
   set_events p bit sets.LoadsElement old = []
   set_events p bit (sets.ExchangesElement found) old =
       if old == found then events.Set p bit ∷ [] else []
 
-  -- what a reset of the next bit writes down: an exchange that found the element as it was clears the bit
+  -- What the step of a reset of the next bit writes down: an exchange that found the element unchanged
+  -- since its load clears the bit.
   abbrev pub reset_events : (p capacity : ℕ) → ResetNextStage → ℕ → List (Event T)
   reset_events p capacity (resets.ExchangesElement start passed found) old =
       if old == found
@@ -28,7 +30,8 @@ module _ {T : Type 0} where
       else []
   reset_events p capacity stage old = []
 
-  -- a swap of the element in this word clears each bit that stood in it, ascending
+  -- A swap of an element for 0 clears each bit that stood in it. The bits are written down
+  -- in ascending order.
   abbrev pub clear_events : (p word old : ℕ) → List (Event T)
   clear_events p word old = map (λ bit. events.Cleared p bit) (places_in word old)
 

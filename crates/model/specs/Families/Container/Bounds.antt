@@ -7,9 +7,10 @@ use Rattle.model.specs.declared.families.container.ContainerStart.TheVariants.{G
 use Rattle.model.specs.declared.families.container.ContainerStart.TheVariants.{IsLocked}
 
 module _ {T : Type 0} where
-  -- How many steps the call takes at most on a container of this capacity whose values have so many words, where it has
-  -- begun a loop's turn again so often. An add takes an acquire and 4 steps besides the words of its value, a remove a
-  -- release and 3. A copy takes the words and 1 step, and a lock as many steps as the capacity and 3.
+  -- How many steps a call takes at most, by the capacity, the number of words of a value (`size`), and
+  -- how often the call has turned back to the start of a loop (`backs`). An add takes an acquire and 4
+  -- steps besides the words of its value, a remove a release and 3. A copy takes the words and 1 step,
+  -- and a lock as many steps as the capacity and 3.
   abbrev pub most_steps : (capacity size : ℕ) → ContainerStart T → ℕ → ℕ
   most_steps capacity size (Add value owner) backs =
       capacity + 7 + size + backs * (capacity + 1)

@@ -175,7 +175,7 @@ module _ {T : Type 0} where
 
   -- ---- how a call goes on from the old value of its word
 
-  -- a look, from what its party's state has seen; its answer is that of the state that it leaves
+  -- A look goes on from what its party's state has seen, and its answer is about the state that it leaves.
 
   -- the state of a look's party after a step that was handed this old value, before it is settled
   abbrev pub look_shows : Coding T → look_calls.Look T → ContainerState T → ℕ → ContainerState T

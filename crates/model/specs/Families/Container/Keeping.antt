@@ -1,4 +1,5 @@
--- When a party's state moves: in its own looks alone.
+-- When the state of a container's party changes: only in its own looks, the calls
+-- `get_state` and `update_state`.
 use Rattle.std.specs.Prelude.{◌≡◌, ℕ, ◌==◌, ◌&&◌, Bool, false, Option, Some, None}
 use Rattle.steps.specs.declared.container.state.ContainerState.{ContainerState}
 use Rattle.model.specs.declared.event.Answer.{Answer}
@@ -13,7 +14,7 @@ use Rattle.model.specs.Families.Container.Looks.{state_in, shows, is_looking, En
 use Rattle.model.specs.Families.Container.Reading.{Copies, acts_of}
 use Rattle.model.specs.World.{World, Trace, flight_in, progress_in}
 
--- the steps of a call that has come so far; 0 without a call
+-- The steps of a party's latest call; 0 if the party has begun none.
 abbrev pub steps_of : Option Progress → ℕ
 steps_of None = 0
 steps_of (Some progress) = progress.steps
@@ -26,7 +27,7 @@ module _ {T : Type 0} where
   is_look_of w q (Next p) = (p == q) && is_looking (flight_in w p)
   is_look_of w q turn = false
 
-  -- any other turn leaves the party's state as it was
+  -- A turn that is no part of a party's look leaves that party's state as it was.
   abbrev pub MovesInLooks : Trace T → Turn T → Trace T → Type 0
   MovesInLooks old turn new =
       (q : ℕ) → is_look_of old.world q turn ≡ false
@@ -39,15 +40,15 @@ module _ {T : Type 0} where
       → state_in old.world.kept p ≡ Some state
       → state_in new.world.kept p ≡ Some state
 
-  -- An update that answers false has taken one step.
-  -- That step has left its state, so the state is as it was when the update had begun.
+  -- An update that answers false has taken one step, which left the state as it was. So the state is the
+  -- one with which the update began.
   abbrev pub FalseAtOnce : (old new : Trace T) → Type 0
   FalseAtOnce old new =
       (p : ℕ) → EndsLook p UpdateState (Truth false) old new
       → (steps_of (progress_in new.world p) ≡ 1)
       × (state_in new.world.kept p ≡ state_in old.world.kept p)
 
-  -- each value that a finished get_state shows was copied by that very call
+  -- each value that a finished `get_state` shows was copied by that very call
   abbrev pub ShowsOwnCopies : (old new : Trace T) → Type 0
   ShowsOwnCopies old new =
       (p i : ℕ) (answer : Answer T) (state : ContainerState T) (value : T)
@@ -56,13 +57,13 @@ module _ {T : Type 0} where
       → shows state i ≡ Some value
       → IsOneOf (Copies i value) (acts_of p new.events)
 
-  -- a turn keeps the parties' states
+  -- What a turn of a container does to the states of its parties.
   pub record KeepsStates (old : Trace T) (turn : Turn T) (new : Trace T) : Type 0 where
-    -- no turn but a look's changes the party's state
+    -- A party's state changes only in turns of its own looks.
     pub moves : MovesInLooks old turn new
-    -- an update begins with the state that is there
+    -- An update begins with the state that its party has.
     pub begins : BeginsWithState old turn new
-    -- an update that answers false has left the state in one step
+    -- An update that answers false has taken one step, which left the state as it was.
     pub at_once : FalseAtOnce old new
-    -- a new state shows what its own call has copied
+    -- A state that `get_state` has made shows only what that call has copied.
     pub own : ShowsOwnCopies old new

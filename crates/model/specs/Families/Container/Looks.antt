@@ -1,4 +1,5 @@
--- What the parties' states show.
+-- What a party's state of a container shows: what its party has copied, and after a look what
+-- stood in the container.
 use Rattle.std.specs.Prelude.{◌≡◌, ◌≢◌, ℕ, ◌<◌, Bool, true, false, Option, Some, None, List, [], ◌∷◌, ◌++◌}
 use Rattle.std.specs.List.{AllByRecursion}
 use Rattle.steps.specs.Container.State.{shown_at, shown_number}
@@ -24,12 +25,12 @@ use Rattle.model.specs.Shape.{IsShut}
 use Rattle.model.specs.World.{World, Trace, flight_in}
 
 module _ {T : Type 0} where
-  -- the party's state by what the machine keeps
+  -- The state that the machine keeps for the party, if the party has one.
   abbrev pub state_in : Registry T → ℕ → Option (ContainerState T)
   state_in (registries.Container dead all) p = states.state_of p all
   state_in kept p = None
 
-  -- what a state shows at an index
+  -- The value that a state shows at an index, if it shows one.
   abbrev pub shows : ContainerState T → ℕ → Option T
   shows state i = shown_at state.shown.elements i
 
@@ -92,8 +93,8 @@ module _ {T : Type 0} where
   ShowsMoments p capacity state events =
       (i : ℕ) → i < capacity → HeldSometime p (λ part. shows state i ≡ contents_of i part) events
 
-  -- What a look's answer says of its state:
-  -- after a false it is as it was, and the number of a new state is that of its values.
+  -- What the answer of a look says of the state that it leaves. An update that answers false has left the
+  -- state as it was, and a new state shows as many values as the answer says.
   abbrev pub AnswersOfState : ContainerStart T → Answer T → Option (ContainerState T)
       → ContainerState T → Type 0
   AnswersOfState UpdateState (Truth false) before state = before ≡ Some state
@@ -101,14 +102,15 @@ module _ {T : Type 0} where
       number ≡ shown_number state.shown.elements
   AnswersOfState start answer before state = Unit {0}
 
-  -- a look that has gone through the indices says true
+  -- An update that answers true leaves a state that shows at each index what stood there at
+  -- a moment of the call.
   abbrev pub MomentsOfState : (p capacity : ℕ) → ContainerStart T → Answer T → ContainerState T → List (Event T)
       → Type 0
   MomentsOfState p capacity UpdateState (Truth true) state events =
       ShowsMoments p capacity state events
   MomentsOfState p capacity start answer state events = Unit {0}
 
-  -- the call is one that leaves a state
+  -- The call is a look: it makes a state of its party, or brings that state up to date.
   abbrev pub IsLook : ContainerStart T → Type 0
   IsLook GetState = Unit {0}
   IsLook UpdateState = Unit {0}

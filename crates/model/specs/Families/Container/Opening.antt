@@ -26,7 +26,7 @@ abbrev pub opening_words : (size capacity : ℕ) → List ℕ
 opening_words size capacity =
     robust.opening_words capacity ++ replicate (1 + capacity + size * capacity) 0
 
--- nobody has died, and no party has a state
+-- How a container opens: its capacity is from 1 to 2^32 - 1, nobody has died, and no party has a state.
 abbrev pub opening : Opening
 opening =
     record {
@@ -44,7 +44,8 @@ is_container kinds.Container = true
 is_container kind = false
 
 module _ {T : Type 0} where
-  -- the greatest number of 64 bits marks an empty cell, so a call for it is none
+  -- Whether the number that the call names as owner may be one. The greatest number of 64 bits marks an
+  -- empty cell, so it is no owner.
   abbrev pub names_owner : ContainerStart T → Bool
   names_owner (Add value owner) = robust.is_owner owner
   names_owner (Remove index owner mode) = robust.is_owner owner
@@ -82,7 +83,8 @@ module _ {T : Type 0} where
 
   -- ---- what a begin keeps
 
-  -- a look that is to empty its party's state gives it a new one, and so does a party's first look
+  -- The parties' states once a call has begun. `GetState` gives its party a new state, and so does
+  -- `UpdateState` if its party has none. Any other call leaves the states as they are.
   abbrev pub states_at_begin : Coding T → ℕ → ContainerStart T → ℕ → List (ℕ × ContainerState T)
       → List (ℕ × ContainerState T)
   states_at_begin code capacity GetState p states = with_state p (fresh code capacity) states

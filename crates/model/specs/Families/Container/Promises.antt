@@ -44,14 +44,15 @@ use Rattle.model.specs.World.{Trace}
 module _ {T : Type 0} where
   -- ---- a well-formed run
 
-  -- a replace that has replaced was begun where that might be
+  -- A replace that answered Done was begun where its party might replace what stood at
+  -- the index (`MayReplace`).
   abbrev pub ReplacesRight : List (Event T) → Event T → Type 0
   ReplacesRight before (Finished p (Container (Replace index value owner)) Done) =
       MayReplace p index owner before
   ReplacesRight before e = Unit {0}
 
-  -- A replace under way that has taken a step,
-  -- and whose owner had the index at a moment of it, was begun where that might be.
+  -- A replace under way that has taken a step, and whose owner had the index at a moment of the call, was
+  -- begun where its party might replace what stood at the index.
   abbrev pub StandsWellFormed : ℕ → Option (Party T) → List (Event T) → Type 0
   StandsWellFormed p None events = Unit {0}
   StandsWellFormed p (Some x) events =
@@ -61,8 +62,9 @@ module _ {T : Type 0} where
       → HeldSometime p (IsFilledWith owner index) events
       → MayReplace p index owner events
 
-  -- A remove that frees was begun where its index might be given back for its owner, and a replace that has found its
-  -- owner where it might be replaced.
+  -- A run is well-formed if each remove that freed an index was begun where that index might be given
+  -- back for its owner, and each replace that found its owner at the index was begun where it might
+  -- replace the value.
   pub record IsWellFormedRun (t : Trace T) : Type 0 where
     pub frees : Each FreesRight t.events
     pub replaced : Each ReplacesRight t.events
@@ -70,8 +72,9 @@ module _ {T : Type 0} where
 
   -- ---- recovery, in every run
 
-  -- The dead owner is the recovery's. It asks about an index that its owner filled at a moment of the call, and nothing
-  -- if it began after the lock.
+  -- A recovery asks only about an index that was filled for the named owner at a moment of the call. That
+  -- owner is dead, and the container was unlocked at a moment of the call. It is told to free an index only
+  -- of a dead owner.
   abbrev pub AsksRight : List (Event T) → Event T → Type 0
   AsksRight before (Asked p index owner) =
       HeldSometime p (IsFilledWith owner index) before × HeldSometime p IsUnlocked before
@@ -97,8 +100,9 @@ module _ {T : Type 0} where
       FreedRight p index owner before (span_of p before)
   RecoversRight before e = Unit {0}
 
-  -- No index that it was told to free, or was shown, has that owner. It asked about each that was filled with its owner
-  -- through the whole call, until the call itself freed it, or was shown it.
+  -- What a recovery that answers Unlocked has done. No index that it was told to free, or was shown
+  -- empty, has its owner any more. It asked about each that was filled with its owner through the whole
+  -- call, or until the call itself freed it, or was shown it empty.
   pub record HasRecovered (p owner : ℕ) (events : List (Event T)) : Type 0 where
     pub gone : (index : ℕ)
         → IsOneOf (Yes index owner) (set_acts_of p events) ⊎ WasShown p index events
@@ -108,19 +112,20 @@ module _ {T : Type 0} where
 
   -- ---- answers, in every run
 
-  -- The number that a find answers is that of its owner's indices below a bound,
-  -- which is the capacity unless a no ended the call.
+  -- The number that a find answers counts its owner's indices below a bound, which is at most the
+  -- capacity. (That it is the capacity unless the decision no ended the call is `FindsAll`.)
   pub record IsFound (p owner capacity number : ℕ) (events : List (Event T)) : Type 0 where
     pub bound : ℕ
     pub within : bound ≤ capacity
     pub count : IsCount p (IsFilledWith owner) bound number events
 
-  -- the number is that of the filled indices; once the container is locked it is 0
+  -- What `len` answers: 0 once the container is locked, and before that a count of filled indices, with
+  -- each that was filled through the whole call, and none that was filled at no moment of it.
   pub record IsLength (p capacity number : ℕ) (events : List (Event T)) : Type 0 where
     pub none : is_locked events ≡ true → number ≡ 0
     pub some : IsUnlocked events → IsCount p IsFilled capacity number events
 
-  -- whether the container was empty, by a number that is right as its length
+  -- What `is_empty` answers: whether a number is 0 that `len` might answer at the same end of the call.
   pub record IsLengthTest (p capacity : ℕ) (empty : Bool) (events : List (Event T)) : Type 0 where
     pub number : ℕ
     pub is : empty ≡ (number == 0)
@@ -167,8 +172,9 @@ module _ {T : Type 0} where
 
   -- ---- contents, in a well-formed run
 
-  -- A value is placed where nothing stands, and hidden where something does. What is copied stands there, whole. A
-  -- recovery is shown that nothing stands.
+  -- A value is placed at an index only where none stands, and hidden only where one stands. What a call
+  -- copies is the value that stands at the index, whole. A recovery is shown an index only where no value
+  -- stands at it.
   abbrev pub ContainsRight : List (Event T) → Event T → Type 0
   ContainsRight before (Placed p index value) = contents_of index before ≡ None
   ContainsRight before (Hidden p index) = contents_of index before ≢ None
@@ -184,7 +190,8 @@ module _ {T : Type 0} where
       places (acts_of p before) ≡ (index, value) ∷ []
   PlacesRight before e = Unit {0}
 
-  -- where nothing stands the element's number is even; else it is odd, and the words are the value's
+  -- The words of an element by the value at its index: if there is none, the number of the element is
+  -- even; else it is odd, and the words of the element are those of the value.
   abbrev pub HasElement : Coding T → ℕ → List ℕ → ℕ → Option T → Type 0
   HasElement code capacity words index None =
       is_even (slice_index words (count_word capacity index)) ≡ true
@@ -225,11 +232,11 @@ module _ {T : Type 0} where
   -- What holds of a container's machine after any turns: each event is right, and cells, lock, the dead, questions and
   -- states agree with the events. What stands at an index is said only of well-formed runs.
   pub record IsContainer (t : Trace T) : Type 0 where
-    -- indices are filled, granted, freed and locked right
+    -- Indices are filled, granted and freed, and the container is locked, only as `SetDoes` allows.
     pub does : Each (SetDoes t.world.capacity) t.events
-    -- recoveries ask right
+    -- Recoveries ask only about indices of their dead owner.
     pub asks : Each AsksRight t.events
-    -- recoveries free right
+    -- Recoveries free for their dead owner what they were told to free or were shown empty.
     pub recovers : Each RecoversRight t.events
     -- each answer is right
     pub answers : Each (AnswersRight t.world.capacity) t.events
@@ -244,7 +251,7 @@ module _ {T : Type 0} where
     pub questions : AsksCopies t
     -- each state shows what its party has copied
     pub states : ShowsCopies t.world t.events
-    -- what holds in a well-formed run beside that
+    -- In a well-formed run also the holders and the contents are right.
     pub well_formed : IsWellFormedRun t → IsContained t
 
   -- ---- what a turn tells
@@ -288,7 +295,8 @@ module _ {T : Type 0} where
       (p owner : ℕ) → turn ≡ Decide p false → IsIn p (Container (Find owner)) old
       → IsStopped p owner old new
 
-  -- what holds of the state that a look leaves: by its answer, and in a well-formed run by what stands
+  -- What holds of the state that a look leaves: what its answer says, and, in a well-formed run, that the
+  -- state shows what stood in the container.
   abbrev pub LooksRight : Trace T → Turn T → Trace T → Type 0
   LooksRight old turn new =
       (p : ℕ) (start : ContainerStart T) (answer : Answer T) (state : ContainerState T)
@@ -318,7 +326,7 @@ module _ {T : Type 0} where
     pub looks : LooksRight old turn new
     -- a look that ends leaves a state
     pub leaves : LeavesState old turn new
-    -- no other turn changes a party's state
+    -- A party's state changes only in turns of its own looks.
     pub states : KeepsStates old turn new
     -- a recovery that began after the lock comes to no index
     pub visits : VisitsUnlocked old new

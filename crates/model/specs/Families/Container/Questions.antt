@@ -1,4 +1,4 @@
--- What a find and a recovery ask about, and what becomes of the answer.
+-- What a find and a recovery of a container ask about, and what becomes of the decision that they are given.
 use Rattle.std.specs.Prelude.{◌≡◌, ◌≢◌, ℕ, Bool, true, false, Option, Some, None, List, [], ◌∷◌, ◌++◌}
 use Rattle.std.specs.List.{AllByRecursion}
 use Rattle.steps.specs.declared.container.find.FindStage.{FindStage}
@@ -66,7 +66,8 @@ module _ {T : Type 0} where
       HeldSometime p (IsFilledWith owner index) before
   WasOwners p index before span = Unit {0}
 
-  -- a find and a recovery ask at once about what they copy
+  -- After the turn in which a find or a recovery has copied a value, it waits at a question about that
+  -- index and value.
   abbrev pub AsksAtOnce : (p index : ℕ) → T → Trace T → Span T → Type 0
   AsksAtOnce p index value new (Open (Container (Find owner)) wrote) =
       question_at new p ≡ Some (index, value)
@@ -85,13 +86,13 @@ module _ {T : Type 0} where
   WritesRight old turn new (Told p index owner) = turn ≡ Decide p true
   WritesRight old turn new e = Unit {0}
 
-  -- each event that the turn has written is right
+  -- Each event that the turn has written is one that `WritesRight` allows.
   pub record AllRight (old : Trace T) (turn : Turn T) (new : Trace T) : Type 0 where
     pub wrote : List (Event T)
     pub is : new.events ≡ old.events ++ wrote
     pub right : AllByRecursion (WritesRight old turn new) wrote
 
-  -- the turn has written this
+  -- The turn has written this event.
   pub record HasWritten (e : Event T) (old new : Trace T) : Type 0 where
     pub before : List (Event T)
     pub after : List (Event T)
@@ -134,7 +135,7 @@ module _ {T : Type 0} where
 
   -- What a turn tells of the questions of finds and recoveries: which are put, each once, and what a decision does.
   pub record QuestionsRight (old : Trace T) (turn : Turn T) (new : Trace T) : Type 0 where
-    -- each event that the turn has written is right
+    -- Each event that the turn has written is one that `WritesRight` allows.
     pub writes : AllRight old turn new
     -- each question comes with the copy of its value
     pub once : AsksOnce old new

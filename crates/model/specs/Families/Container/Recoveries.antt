@@ -1,4 +1,5 @@
--- What a recovery comes to, and when it answers that the container is not locked.
+-- Which recoveries of a container come to indices at all, and when one answers that the
+-- container is not locked.
 use Rattle.std.specs.Prelude.{◌≡◌, ℕ, List, ◌++◌}
 use Rattle.std.specs.List.{AllByRecursion}
 use Rattle.steps.specs.declared.indices.enums.ReleaseMode.{ReleaseMode}
@@ -32,7 +33,8 @@ module _ {T : Type 0} where
   VisitsRight before (FreedOf p index owner) = BeganUnlocked p before
   VisitsRight before e = Unit {0}
 
-  -- what a turn writes of a recovery, it writes of one that began before the lock
+  -- If a turn writes that a recovery copied an index, was shown it or freed it, that recovery began
+  -- before the lock.
   abbrev pub VisitsUnlocked : (old new : Trace T) → Type 0
   VisitsUnlocked old new =
       (wrote : List (Event T)) → new.events ≡ old.events ++ wrote

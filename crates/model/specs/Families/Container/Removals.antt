@@ -17,8 +17,9 @@ module _ {T : Type 0} where
       (λ part. IsOneOf (Frees index owner) (set_acts_of p part) × (contents_of index part ≡ None))
       events
 
-  -- At a moment of a remove that answers a state, after it freed its index, nothing stood there; and the same holds for
-  -- each index that a recovery has freed, whatever it answers.
+  -- If a remove answers a state, there was a moment of the call, after it had freed its index, at which
+  -- nothing stood at that index. A recovery, whatever it answers, had such a moment for each index that
+  -- it has freed.
   abbrev pub HidesRight : List (Event T) → Event T → Type 0
   HidesRight before (Finished p (Container (Remove index owner mode)) (State state)) =
       EmptySinceFreed p owner index before

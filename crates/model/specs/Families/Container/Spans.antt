@@ -19,7 +19,7 @@ use Rattle.model.specs.Families.Indices.Robust.Spans.{HasJustFreed, FilledLate}
 use Rattle.model.specs.Reading.{Span, Open}
 
 module _ {T : Type 0} where
-  -- what the call has done last is to copy the value at the index
+  -- The last thing that the call has done to elements is to copy the value at this index.
   pub record HasJustCopied (index : ℕ) (all : List (Act T)) : Type 0 where
     pub value : T
     pub latest : IsLatest (Copies index value) all
@@ -78,8 +78,8 @@ module _ {T : Type 0} where
       HasJustFreed (set_acts wrote)
   may_stand e span = ⊥
 
-  -- What a finished call has done to the set, by its answer; and a replace that was refused has done nothing to
-  -- elements either. Any other answer is none of that call.
+  -- What a finished call has done to the set of indices, by its answer. A replace that was refused has
+  -- done nothing to elements either. A call gives no answer but those listed.
   abbrev pub HasDone : ContainerStart T → Answer T → List SetAct → List (Act T) → Type 0
   HasDone (Add value owner) (Index index) all done =
       all ≡ Fills index owner ∷ Grants index owner ∷ []

@@ -4,8 +4,8 @@ use Rattle.steps.specs.declared.indices.enums.ReleaseMode.TheVariants.{LockIfLas
 use Rattle.model.specs.declared.families.indices.IndexStart.{IndexStart}
 use Rattle.model.specs.declared.families.indices.IndexStart.TheVariants.{Acquire, Release, BorrowedIndices, IsLocked}
 
--- how many steps the call takes at most on a set of this capacity, where it has begun a loop's turn again so often: two
--- for a turn to the head, as many as there are flags for a scan
+-- How many steps a call takes at most, by the capacity and by how often it has turned back to the start
+-- of a loop (`backs`). A turn to the head takes 2 steps, a scan of the flags one for each flag.
 abbrev pub most_steps : ℕ → IndexStart → ℕ → ℕ
 most_steps capacity Acquire backs = 4 + capacity + backs * max 2 capacity
 most_steps capacity (Release index Default) backs = 5

@@ -38,17 +38,18 @@ module _ {T : Type 0} where
 
   -- ---- answers
 
-  -- Between the indices that are held and those in use lies what
-  -- borrowed_indices answers, and 0 once the set is locked.
+  -- The number that `borrowed_indices` answers is 0 once the set is locked, and before that it is at
+  -- least the number of indices held, and at most that of indices in use (held, or on their way in an
+  -- acquire or a release under way).
   abbrev pub CountsRight : List (Event T) → ℕ → Type 0
   CountsRight before number =
       (is_locked before ≡ true → number ≡ 0)
       × (is_locked before ≡ false →
       ((tally_of before).held ≤ number) × (number ≤ in_use (tally_of before)))
 
-  -- What an answer says of the set as it was at the last step of the call. An acquire fails by OutOfIndices only where
-  -- without it as many indices are in use as there are, and a release that may lock does not only where without it some
-  -- index is in use.
+  -- What an answer says of the set as it was at the last step of the call. An acquire fails by
+  -- OutOfIndices only if, without this acquire, as many indices are in use as the set has. A release in
+  -- the mode that locks answers Unlocked only if, without this release, some index is in use.
   abbrev pub AnswersRight : ℕ → List (Event T) → Event T → Type 0
   AnswersRight capacity before (Finished p (Indices Acquire) (NoIndex failures.IsLocked)) =
       is_locked before ≡ true
@@ -67,20 +68,21 @@ module _ {T : Type 0} where
 
   -- ---- what the words say, and what is kept beside them
 
-  -- the machine lets that party give an index back which holds it by the events
+  -- The table of holders that the machine keeps, by which it admits a release, agrees with the events.
   abbrev pub KeepsHolders : Registry T → List (Event T) → Type 0
   KeepsHolders (registries.Indices holders) events =
       (index : ℕ) → slice_index_or holders index None ≡ holder_of index events
   KeepsHolders kept events = ⊥
 
-  -- a release in mode Default does not turn back
+  -- A release in mode Default never begins its loop again.
   abbrev pub GoesStraight : Start T → ℕ → Type 0
   GoesStraight (Indices (Release index Default)) backs = backs ≡ 0
   GoesStraight start backs = Unit {0}
 
-  -- the flags of those indices stand that have a holder, and the head says whether the set is locked
+  -- What holds of a unique index set's machine after any turns: events and answers are right, the flag of
+  -- an index stands exactly if the index has a holder, and the head says whether the set is locked.
   pub record IsIndexSet (t : Trace T) : Type 0 where
-    -- indices are claimed, freed and locked right
+    -- Indices are claimed and freed, and the set is locked, only as `HoldsRight` allows.
     pub holds : Each (HoldsRight t.world.capacity) t.events
     -- each answer is right
     pub answers : Each (AnswersRight t.world.capacity) t.events

@@ -11,7 +11,8 @@ use Rattle.model.specs.declared.families.indices.IndexStart.{IndexStart}
 use Rattle.model.specs.declared.families.indices.IndexStart.TheVariants.{Acquire, Release, BorrowedIndices, IsLocked}
 use Rattle.model.specs.Reading.{Span, Open}
 
--- the indices that a call has claimed and freed, and how often it has locked
+-- What a call has done to the set: the indices that it has claimed and freed, and how often
+-- it has locked the set.
 pub record SetActs : Type 0 where
   pub claimed : List ℕ
   pub freed : List ℕ
@@ -45,7 +46,8 @@ module _ {T : Type 0} where
   abbrev pub set_acts : List (Event T) → SetActs
   set_acts events = fold set_act nothing events
 
-  -- what a finished call has done, by its answer; any other answer is none of that call
+  -- What a finished call of the unique index set has done to it, by its answer, or None if no such call
+  -- gives this answer.
   abbrev pub done_by : IndexStart → Answer T → Option SetActs
   done_by Acquire (Index index) = Some (claimed index)
   done_by Acquire (NoIndex failure) = Some nothing

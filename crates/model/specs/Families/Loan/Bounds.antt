@@ -3,8 +3,8 @@ use Rattle.std.specs.Prelude.{ℕ, ◌+◌, ◌*◌, max}
 use Rattle.model.specs.declared.families.loan.LoanStart.{LoanStart}
 use Rattle.model.specs.declared.families.loan.LoanStart.TheVariants.{Loan, Send, GiveUp, TakeBack, Receive, GiveBack, Reclaim}
 
--- how many steps the call takes at most, where it has begun a loop's turn again so often: a reclaim finds at most as
--- many indices in each queue as there are slots, and releases no more
+-- How many steps a call takes at most, by how often it has turned back to the start of a loop (`backs`).
+-- A reclaim finds at most as many indices in each queue as there are slots, and releases no more.
 abbrev pub most_steps : ℕ → LoanStart → ℕ → ℕ
 most_steps slots Loan backs = 4 + slots + backs * max 2 slots
 most_steps slots (Send index) backs = 11

@@ -23,7 +23,8 @@ use Rattle.model.specs.Step.{Beginning}
 
 -- ---- the opening: of so many slots, with a submission queue of this capacity
 
--- a queue with so many cells of one word: its positions, its roles, which nobody takes, and the cells
+-- The words of a queue with this many cells of one word: two positions, two roles, which nobody takes,
+-- and the cells.
 abbrev pub queue_words : ℕ → List ℕ
 queue_words cells = 0 ∷ 0 ∷ 1 ∷ 1 ∷ replicate cells 0
 
@@ -64,7 +65,7 @@ abbrev pub is_loan : Kind → Bool
 is_loan kinds.Loan = true
 is_loan kind = false
 
--- whether the party may not begin calls of the sender, or of the receiver
+-- Whether the party is not the sender, which is party 0.
 abbrev pub is_not_sender : ℕ → Bool
 is_not_sender p = not (p == 0)
 
@@ -125,7 +126,7 @@ abbrev pub call_kept : {T : Type 0} → ℕ → LoanStart → Registry T → Opt
 call_kept slots start (registries.Loan book) = Some (first slots book start)
 call_kept slots start kept = None
 
--- whatever is kept, no other kind has such a call
+-- The call that begins on a machine of this kind. Only a loan channel has calls of this family.
 abbrev pub call_of : {T : Type 0} → Kind → ℕ → LoanStart → Registry T → Option LoanFlight
 call_of kind slots start kept = if is_loan kind then call_kept slots start kept else None
 

@@ -45,8 +45,9 @@ abbrev pub holder_in : Spot → Option ℕ
 holder_in (With p) = Some p
 holder_in spot = None
 
--- where the sender's table may say so: an index in passing in its own call is out,
--- as it was before the call or as it will be
+-- Where an index may be by the events (its spot), if the sender's table says this of it. An index that
+-- the table calls Loaned is with the sender, party 0, or in passing in a call of the sender. One that it
+-- calls Sent may be anywhere but free or with the sender.
 abbrev pub IsIn : Place → Spot → Type 0
 IsIn places.Free spot = spot ≡ Free
 IsIn places.Loaned spot = (spot ≡ With 0) ⊎ (spot ≡ Passing 0)
@@ -87,7 +88,8 @@ module _ {T : Type 0} where
   ComesFrom slots (Some move) before =
       (move.index < slots) × (spot_of move.index before ≡ move.from)
 
-  -- each event finds its index, which is one of the channel, where it comes from
+  -- An event that moves an index finds it, one of the channel's, where the move begins. For an event
+  -- `Freed` these places are those of `MayFree`.
   abbrev pub MovesRight : ℕ → List (Event T) → Event T → Type 0
   MovesRight slots before (Freed p index) = (index < slots) × MayFree p index before
   MovesRight slots before e = ComesFrom slots (move_of e) before
@@ -141,7 +143,7 @@ module _ {T : Type 0} where
 
   -- ---- the words
 
-  -- what waits in the submission queue, and what is to be taken back, by the words
+  -- What waits in the submission queue by its words.
   abbrev pub sent_in : Coding T → (slots queue : ℕ) → List ℕ → List (Item T)
   sent_in code slots queue words =
       waiting_in code Overflow queue (drop (submission_word slots) words)
@@ -151,7 +153,7 @@ module _ {T : Type 0} where
   given_back_in code slots queue words =
       waiting_in code IndexQueue slots (drop (completion_word slots queue) words)
 
-  -- these are the indices that are there by the events, each once
+  -- These items are exactly the indices that are at this spot by the events, each of them once.
   pub record AreThose (spot : Spot) (items : List (Item T)) (events : List (Event T)) : Type 0 where
     pub each : (index : ℕ) → Contains items (Index index) ↔ (spot_of index events ≡ spot)
     pub once : AllPairs (λ x y. x ≢ y) items
@@ -159,6 +161,8 @@ module _ {T : Type 0} where
   -- What holds of a loan channel's machine after any turns, where it keeps this of the channel: the events are right
   -- one by one, and the tables, flags and queues agree with where the events say that each index is.
   pub record IsChannelOf (book : Book) (t : Trace T) : Type 0 where
+    -- Each event is right: moves of indices, begins of calls, answers, and what calls of
+    -- the dead may still do.
     pub moves : Each (MovesRight t.world.capacity) t.events
     pub begins : Each BeginsRight t.events
     pub answers : Each (AnswersRight t.world.capacity) t.events
@@ -172,14 +176,18 @@ module _ {T : Type 0} where
     pub parties : (index p : ℕ)
         → (spot_of index t.events ≡ With p) ⊎ (spot_of index t.events ≡ Passing p)
         → (p ≡ 0) ⊎ (p ≡ receiver_of t.events)
+    -- The claim flag of an index stands exactly if the index is not free.
     pub flags : (index : ℕ) → index < t.world.capacity
         → (has_flag (slice_index t.world.words (flag_word t.world.capacity index)) index ≡ true)
         ↔ (spot_of index t.events ≢ Free)
     -- what was published was handed out, or waits in the words of the submission queue
     pub sent : published t.events
         ≡ handed_out t.events ++ sent_in t.world.coding t.world.capacity book.queue t.world.words
+    -- The submission queue's words hold exactly the indices that wait in it by the events, each once.
     pub waits : AreThose Waiting
         (sent_in t.world.coding t.world.capacity book.queue t.world.words) t.events
+    -- Sends and receives act on one list that overflows. The list is what waits in the submission queue,
+    -- without the newest index where one more waits than the capacity.
     pub list : standing (overflowing_list book.queue) (queue_moments t.events)
         ≡ take book.queue (waiting t.events)
     pub legal : IsLegal (overflowing_list book.queue) (queue_moments t.events)
@@ -187,11 +195,14 @@ module _ {T : Type 0} where
     pub returned : map Index (given_back t.events)
         ≡ map Index (taken_back t.events)
         ++ given_back_in t.world.coding t.world.capacity book.queue t.world.words
+    -- The completion queue's words hold exactly the indices that wait in it by the events, each once.
     pub returns : AreThose Returning
         (given_back_in t.world.coding t.world.capacity book.queue t.world.words) t.events
+    -- The tables that the machine keeps of the channel agree with the events.
     pub keeps : KeepsBook book t.events
 
-  -- what holds of a machine that keeps this of a channel; nothing else is a channel's
+  -- What holds of a loan channel's machine by what it keeps beside its words, which is the book of a
+  -- channel: one that keeps anything else is none.
   abbrev pub IsChannelBy : Registry T → Trace T → Type 0
   IsChannelBy (registries.Loan book) t = IsChannelOf book t
   IsChannelBy kept t = ⊥

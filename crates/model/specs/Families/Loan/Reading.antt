@@ -113,7 +113,7 @@ module _ {T : Type 0} where
   takes_back (TakenBack p index) = index ∷ []
   takes_back e = []
 
-  -- the indices of the Returned events, in order, and of the TakenBack events
+  -- All indices that were given back, in order.
   abbrev pub given_back : List (Event T) → List ℕ
   given_back events = flat_map gives_back events
 
@@ -163,6 +163,6 @@ module _ {T : Type 0} where
   as_queue reclaims (e ∷ es) =
       queue_acts reclaims e ++ as_queue (reclaims_after reclaims e) es
 
-  -- the pushes and pops of these events, in the order in which they acted, and their answers
+  -- The pushes and pops on the submission queue, in the order in which they acted, with their answers.
   abbrev pub queue_moments : List (Event T) → List (Start T × Answer T)
   queue_moments events = as_queue false events

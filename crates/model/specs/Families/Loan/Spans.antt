@@ -33,9 +33,9 @@ module _ {T : Type 0} where
 
   -- ---- what a finished call has done, by its answer; any other answer is none of that call
 
-  -- A loan claims what it answers. A send publishes its index, and one that comes back was handed out and is free. A
-  -- give-up frees its index, and a take-back what it answers. A receive hands out what it answers, and a give-back,
-  -- which is never refused, gives its index back.
+  -- A loan claims the index that it answers. A send publishes its index, and hands out and frees the one that
+  -- it answers. A give-up frees its index. A take-back takes back and frees the one that it answers. A
+  -- receive hands out the one that it answers, and a give-back, which is never refused, gives its index back.
   abbrev pub HasDone : LoanStart → Answer T → List (Event T) → Type 0
   HasDone calls.Loan (answers.Index index) wrote = HasMoved (index ∷ []) [] [] [] [] [] wrote
   HasDone calls.Loan (NoIndex failure) wrote = HasMovedNone wrote

@@ -1,4 +1,4 @@
--- What a step of a call of a loan channel writes down, and what is kept then.
+-- What a step of a call of a loan channel writes down, and what the machine keeps of the channel after it.
 use Rattle.std.specs.Prelude.{ℕ, ◌+◌, ◌%◌, ◌^◌, ◌==◌, ◌&&◌, Option, Some, None, option_map, List, [], ◌∷◌, fold, if◌then◌else◌, slice_index, slice_set}
 use Rattle.steps.specs.declared.indices.unique.ReleaseStage.{ReleaseStage}
 use Rattle.steps.specs.declared.indices.unique.ReleaseStage.TheVariants as releases
@@ -87,8 +87,9 @@ module _ {T : Type 0} where
 
 -- ---- what the next step of a call does
 
--- A send that finds the queue full waits for the read position to go on: it acts at its own move, or where a receive
--- moves it first. Where it has gone on already, there is room. The submission queue begins at the first word.
+-- What the next step of a send's push does to the submission queue, which begins at the word `base`. A push
+-- that publishes over a full queue acts only once the read position moves: by its own step, or by one of a
+-- receive. If the read position has moved before it publishes, there is room, and it acts as it publishes.
 abbrev pub push_effect : (base queue : ℕ) → List ℕ → ℕ → PushStage → ℕ → Effect
 push_effect base queue words index (overflow_pushes.StoresWrite write read) old =
     if distance write read == queue && (read_in base words == read)
@@ -153,7 +154,8 @@ reclaim_effect slots queue words (reclaims.Empties stage) old =
 reclaim_effect slots queue words (reclaims.Releases number index stage) old =
     release_effect index stage
 
--- what the next step of a call does in these words, beside a send that waits, where its word has this old value
+-- What the next step of a call does to the channel, given its words, the send that waits for the read
+-- position (`push`), and the old value of the word that the step is on.
 abbrev pub effect_of : List ℕ → Option (ℕ × ℕ) → LoanFlight → ℕ → Effect
 effect_of words push (Loan run) old = effects.Claims
 effect_of words push (Send run) old =
@@ -169,7 +171,7 @@ effect_of words push (Reclaim call) old =
 module _ {T : Type 0} where
   -- ---- the events
 
-  -- the act of a call with this answer
+  -- The event by which a call acts with this answer.
   abbrev pub acts : ℕ → LoanStart → Answer T → Event T
   acts p start answer = Acted p (starts.Loan start) answer
 
@@ -183,7 +185,7 @@ module _ {T : Type 0} where
   room_made None = []
   room_made (Some push) = acts push.0 (calls.Send push.1) answers.PoppedNone ∷ []
 
-  -- the effects in their order, then the acts
+  -- The events of what a step does to the channel, and then of the calls that act with it.
   abbrev pub effects_of : ℕ → Effect → Option (Answer T) → List (Event T)
   effects_of p effects.Quiet outcome = []
   effects_of p effects.Claims outcome = claimed p outcome
@@ -214,7 +216,8 @@ module _ {T : Type 0} where
 
   -- ---- what is kept
 
-  -- the sender's table by what its steps do; who gives an index back has it no more, whoever it was
+  -- What the machine keeps of the channel after an event: the sender's table says of the index that it is
+  -- loaned, sent or free, and an index that is freed has no holder.
   abbrev pub book_after : Book → Event T → Book
   book_after book (Claimed p index) =
       record book { places = slice_set book.places index Loaned }

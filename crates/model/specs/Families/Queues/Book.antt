@@ -29,7 +29,7 @@ module _ {T : Type 0} (code : Coding T) where
   cell_of kind capacity position =
       cell_word (cells_of kind capacity) (words_of_cell code.size kind) position
 
-  -- the values that stand in so many cells, from this position on
+  -- The values in the next `count` cells, from this position on.
   abbrev pub stored : QueueKind → ℕ → List ℕ → ℕ → ℕ → List (Item T)
   stored kind capacity words position zero = []
   stored kind capacity words position (suc count) =
@@ -42,8 +42,8 @@ module _ {T : Type 0} (code : Coding T) where
       stored kind capacity words (slice_index words read_word)
       (slice_index words write_word - slice_index words read_word)
 
-  -- The positions count what was handed out and what was published. What was handed out is a beginning of what was
-  -- published, and the rest waits in the words, at most a value a cell.
+  -- The read and the write position count what was handed out and what was published. What was handed out
+  -- is a beginning of what was published, and the rest waits in the cells, at most one value a cell.
   pub record IsBook (kind : QueueKind) (t : Trace T) : Type 0 where
     -- the read position counts what was handed out
     pub read : slice_index t.world.words read_word ≡ length (handed_out t.events)

@@ -7,13 +7,13 @@ use Rattle.model.specs.declared.families.queues.QueueStart.TheVariants.{Push, Po
 use Rattle.model.specs.declared.families.queues.QueueKind.{QueueKind}
 use Rattle.model.specs.declared.families.queues.QueueKind.TheVariants.{IndexQueue, Overflow, Queue}
 
--- the most steps of a push, where a value has so many words
+-- The most steps of a push, by the number of words of a value.
 abbrev pub most_push_steps : ℕ → QueueKind → ℕ
 most_push_steps size IndexQueue = 4
 most_push_steps size Overflow = 6
 most_push_steps size Queue = 3 + size
 
--- the most steps of a pop that has gone back so often
+-- The most steps of a pop, by how often it has turned back to the start of its loop.
 abbrev pub most_pop_steps : ℕ → QueueKind → ℕ → ℕ
 most_pop_steps size IndexQueue backs = 4
 most_pop_steps size Overflow backs = 4 + 2 * backs
@@ -25,7 +25,8 @@ most_peek_steps size IndexQueue = 3
 most_peek_steps size Overflow = 0
 most_peek_steps size Queue = 2 + size
 
--- how many steps the call takes at most, where it has begun a loop's turn again so often
+-- How many steps a call of a queue takes at most, by how often it has turned back to the
+-- start of a loop (`backs`).
 abbrev pub most_steps : {T : Type 0} → ℕ → QueueKind → QueueStart T → ℕ → ℕ
 most_steps size kind AcquireProducer backs = 1
 most_steps size kind ReleaseProducer backs = 1

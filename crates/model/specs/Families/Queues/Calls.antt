@@ -65,7 +65,7 @@ release_of word = Role (Release (record { call = record { word = word }; given =
 abbrev pub look_of : {T : Type 0} → ℕ → QueueFlight T
 look_of word = Role (Look (record { call = record { word = word }; given = tt; room = tt }))
 
--- a room in which nothing was put
+-- The room (a call's own memory) of one word, in which nothing was put yet.
 abbrev pub fresh : OneWord
 fresh = record { 0 = 0 }
 
@@ -73,7 +73,7 @@ fresh = record { 0 = 0 }
 abbrev pub fresh_cell : buffers.Buffer 128
 fresh_cell = record { words = replicate 128 0 }
 
--- the queues of indices push an index, and the queue of values a value
+-- The push of an index as it begins, which the two queues of indices have.
 abbrev pub push_index_of : {T : Type 0} → QueueKind → ℕ → ℕ → Option (QueueFlight T)
 push_index_of kinds.IndexQueue capacity index =
     Some (Indices (rings.Push
@@ -102,7 +102,7 @@ pop_of kinds.Queue capacity =
     Values (rings.Pop
     (record { call = first_pop capacity; given = tt; room = fresh_cell }))
 
--- a bounded queue has a look at its oldest value
+-- The peek (a look at the oldest value) as it begins, which only bounded queues have.
 abbrev pub peek_of : {T : Type 0} → QueueKind → ℕ → Option (QueueFlight T)
 peek_of kinds.IndexQueue capacity =
     Some (Indices (rings.Peek
@@ -164,7 +164,7 @@ abbrev pub popped_value : {T : Type 0} → Option T → Answer T
 popped_value None = answers.PoppedNone
 popped_value (Some value) = answers.Popped value
 
--- the answer where this number of values wait
+-- The answer of a call on the length, where this number of values wait.
 abbrev pub length_answer : {T : Type 0} → LengthOf → ℕ → ℕ → Answer T
 length_answer measures.Len capacity number = answers.Number number
 length_answer measures.IsEmpty capacity number = answers.Truth (number == 0)
@@ -188,7 +188,8 @@ read_in code room = value_in code.value_of code.size room.words
 abbrev pub kept_at : buffers.Buffer 128 → (at word : ℕ) → buffers.Buffer 128
 kept_at room at word = record room { words = slice_set room.words at word }
 
--- the answer of a call that answers its end
+-- The answer of a call that answers what its last step gave, whatever its argument and its
+-- room (its own memory).
 abbrev pub as_it_is : {E G M : Type 0} → E → G → M → E
 as_it_is end given room = end
 

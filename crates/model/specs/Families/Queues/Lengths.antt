@@ -1,4 +1,4 @@
--- How many values wait, and which is the oldest, as a call tells it.
+-- What the calls `len`, `is_empty`, `is_full` and `peek` of a queue answer.
 use Rattle.std.specs.Prelude.{◌≡◌, ℕ, ◌==◌, List, length, slice_get}
 use Rattle.model.specs.declared.event.Start.TheVariants.{Queues}
 use Rattle.model.specs.declared.event.Answer.TheVariants.{Truth, Number}
@@ -10,8 +10,8 @@ use Rattle.model.specs.Families.Queues.Reading.{waiting}
 use Rattle.model.specs.Moments.{HeldSometime}
 
 module _ {T : Type 0} where
-  -- The answer tells how many values waited at one moment of the call. A peek answers the oldest of those that wait as
-  -- it ends, or None.
+  -- The answer of `len`, `is_empty` or `is_full` is right for the number of values that waited at one
+  -- moment of the call. A peek answers the oldest of those that wait as it ends, or None.
   abbrev pub TellsLength : ℕ → List (Event T) → Event T → Type 0
   TellsLength capacity before (Finished p (Queues Len) answer) =
       HeldSometime p (λ part. answer ≡ Number (length (waiting part))) before

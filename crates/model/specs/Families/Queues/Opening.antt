@@ -26,7 +26,8 @@ cells_of kinds.IndexQueue capacity = capacity
 cells_of kinds.Overflow capacity = capacity + 1
 cells_of kinds.Queue capacity = capacity
 
--- the words of a cell, where a value of the machine's own type has so many
+-- How many words a cell has: one in a queue of indices, and `size` in the queue of values, which is the
+-- number of words of a value.
 abbrev pub words_of_cell : ℕ → QueueKind → ℕ
 words_of_cell size kinds.IndexQueue = 1
 words_of_cell size kinds.Overflow = 1

@@ -33,7 +33,8 @@ load_of_write = record { word = write_word; op = Load }
 abbrev pub load_of_read : Ask
 load_of_read = record { word = read_word; op = Load }
 
--- where a pop finds that nothing waits: at its load of write, but an overflowing queue without capacity needs no word
+-- The operation by which a pop finds that nothing waits: its load of the write position, or none in an
+-- overflowing queue without capacity, whose pop uses no word.
 abbrev pub finding_none : QueueKind → ℕ → Option Ask
 finding_none IndexQueue capacity = Some load_of_write
 finding_none Overflow zero = None
@@ -44,14 +45,15 @@ finding_none Queue capacity = Some load_of_write
 abbrev pub AddsOne : ℕ → List ℕ → Option Ask → Type 0
 AddsOne word words ask = slice_index (words_after words ask) word ≡ slice_index words word + 1
 
--- where an overflowing push hands a value back:
--- as it adds 1 to the read position, but without capacity it needs no word
+-- The operation by which an overflowing push hands a value back: it adds 1 to the read position. Without
+-- capacity there is no operation, since the push uses no word.
 abbrev pub HandsBack : ℕ → List ℕ → Option Ask → Type 0
 HandsBack zero words ask = ask ≡ None
 HandsBack (suc less) words ask = AddsOne read_word words ask
 
 module _ {T : Type 0} where
-  -- The list of the moments is those that wait, without the newest while there is one more than the capacity.
+  -- What holds of a queue's machine after any turns. The list on which pushes and pops have acted is what
+  -- waits, without the newest value where one more waits than the capacity.
   pub record IsQueue (kind : QueueKind) (t : Trace T) : Type 0 where
     pub list : standing (list_of kind t.world.capacity) (moments t.events)
         ≡ take t.world.capacity (waiting t.events)

@@ -23,15 +23,16 @@ module _ {T : Type 0} where
   moments_of Pop answer = (Queues Pop, answer) ∷ []
   moments_of other answer = []
 
-  -- a value that goes through the cells; an overflowing
-  -- queue without capacity hands it back at once
+  -- A value of a push or pop as it goes through the cells of the queue. In an overflowing queue without
+  -- capacity it goes through none: it is handed back at once.
   abbrev pub through_cells : QueueKind → ℕ → Item T → List (Item T)
   through_cells IndexQueue capacity item = item ∷ []
   through_cells Overflow zero item = []
   through_cells Overflow (suc less) item = item ∷ []
   through_cells Queue capacity item = item ∷ []
 
-  -- the values that a push published: one that was taken; in an overflowing queue each
+  -- The values that a push with this answer published: its value if the push was taken. An overflowing
+  -- queue takes each push, but publishes none without capacity.
   abbrev pub published_by_push : QueueKind → ℕ → Item T → Answer T → List (Item T)
   published_by_push IndexQueue capacity item (Truth true) = item ∷ []
   published_by_push IndexQueue capacity item answer = []

@@ -49,7 +49,8 @@ module _ {T : Type 0} where
       pending_from position run.given run.call.stage
   pending_at position other = None
 
-  -- its party and its value; only the holder of the producer's role pushes
+  -- The party and the value of a push that is about to move the read position from this one. Only the
+  -- holder of the producer's role pushes.
   abbrev pub pending : ℕ → Option ℕ → List (ℕ × Party T) → Option (ℕ × ℕ)
   pending position None latest = None
   pending position (Some p) latest =
@@ -65,23 +66,26 @@ module _ {T : Type 0} where
 
   -- ---- what the next step of a call does
 
-  -- False is settled by the load of the read position, true by the store of the write position. A push that meets the
-  -- last write position says nothing; no machine comes so far.
+  -- What the next step of a push on a bounded queue does. Its answer false is settled by the load of the
+  -- read position, true by the store of the write position. A push that meets the last write position
+  -- writes nothing down; no machine comes that far.
   abbrev pub push_effect : Item T → pushes.PushStage → Effect T
   push_effect item pushes.TheVariants.LoadsWrite = Quiet
   push_effect item (pushes.TheVariants.LoadsRead write) = Acts
   push_effect item (pushes.TheVariants.StoresCell write cell at) = Quiet
   push_effect item (pushes.TheVariants.StoresWrite write) = Publishes item
 
-  -- None is settled by the load of the write position, the value that was read by the store of the read position
+  -- What the next step of a pop on a bounded queue does. Its answer None is settled by the load of the
+  -- write position, the value that it has read by the store of the read position.
   abbrev pub pop_effect : Item T → pops.PopStage → Effect T
   pop_effect item pops.TheVariants.LoadsRead = Quiet
   pop_effect item (pops.TheVariants.LoadsWrite read) = Acts
   pop_effect item (pops.TheVariants.LoadsCell read cell at) = Quiet
   pop_effect item (pops.TheVariants.StoresRead read) = HandsOut item
 
-  -- A push that found the queue full waits for the read position to go on: it acts at its own move, or where a pop
-  -- moves it first. Where it has gone on already, there is room.
+  -- What the next step of an overflowing push does. A push that publishes over a full queue acts only
+  -- once the read position moves: by its own step, or by one of a pop. If the read position has moved
+  -- before it publishes, there is room, and it acts as it publishes.
   abbrev pub overflow_push_effect : List ℕ → ℕ → Item T → PushStage → ℕ → Effect T
   overflow_push_effect words capacity item overflow_pushes.HandsBack old = Acts
   overflow_push_effect words capacity item overflow_pushes.LoadsWrite old = Quiet
@@ -97,7 +101,8 @@ module _ {T : Type 0} where
       if old == read then TakesOut (slice_index words (cell_word capacity read)) else Quiet
   overflow_push_effect words capacity item (overflow_pushes.LoadsCell read) old = Quiet
 
-  -- where a push waits for the read position, it acts after the pop that moves it
+  -- What a pop does as it moves the read position: it hands an item out, and a push that waits for the
+  -- read position acts right after it.
   abbrev pub takes_effect : Item T → Option (ℕ × ℕ) → Effect T
   takes_effect item None = HandsOut item
   takes_effect item (Some push) = MakesRoom item push.0 push.1
@@ -141,7 +146,7 @@ module _ {T : Type 0} where
   acts_if_done p start None = []
   acts_if_done p start (Some answer) = Acted p (Queues start) answer ∷ []
 
-  -- the effects in their order, then the acts
+  -- The events of what a step does to the queue, and then of the calls that act with it.
   abbrev pub effects_of : ℕ → QueueStart T → Effect T → Option (Answer T) → List (Event T)
   effects_of p start Quiet outcome = []
   effects_of p start Acts outcome = acts_if_done p start outcome

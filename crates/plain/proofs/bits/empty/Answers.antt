@@ -39,7 +39,7 @@ returns-clause-places g c =
     c.loop.first c.loop.call c.loop.words.items c.loop.visit)
     end c.loop.invariant)
 
--- its return meets the clause `calls`
+-- `empty` has called the closure as its clause `calls` says
 pub returns-clause-calls : goal.returns-clause-calls
 returns-clause-calls g c =
     let end : c.loop.counter ≡ elements c.args.capacity =

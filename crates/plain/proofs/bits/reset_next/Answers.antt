@@ -1,15 +1,17 @@
--- `reset_next` (src/bits.rt): its call of `drive` can end, and its return is the next place that stood, which is clear
--- now, or None.
+-- `reset_next` (src/bits.rt): the call that `reset_next` drives can end, as `drive` requires, and its return
+-- is the next place that stood, which is clear now, or None.
 use Rattle.plain.proofs.Alone.{can_end, ends_so}
 use Rattle.plain.proofs.Places.Resets.{reset_runs}
 use Rattle.plain.proofs.bits.reset_next.Goals as goal
 
+-- the call that `reset_next` drives can end, as `drive` requires
 pub drive-requires : goal.drive-requires
 drive-requires c = record {
   ends = can_end _ _ _ _ _ _ _ _
       (reset_runs c.args.capacity c.args.words.now.items c.requires c.new.result c.new.ensures);
 }
 
+-- `reset_next` returns the next place that stood, or None
 pub returns : goal.returns
 returns c = ends_so _ _ _ _ _ _ _ _
     (reset_runs c.args.capacity c.args.words.now.items c.requires c.new.result c.new.ensures)

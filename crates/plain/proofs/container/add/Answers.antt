@@ -5,7 +5,7 @@ use Rattle.plain.proofs.Elements.Filled.{still, values_long, filled_add}
 use Rattle.plain.specs.Contents.{added, after_add, contents_in}
 use Rattle.plain.proofs.container.add.Goals as goal
 
--- its call of `drive` meets what that requires
+-- the call that `add` drives is as `drive` requires
 pub drive-requires : goal.drive-requires
 drive-requires g c = record {
   ends = can_end _ _ _ _ _ _ _ _

@@ -1,10 +1,11 @@
--- `bring_up` (src/container.rt): its call of `drive` meets what that requires, and its return meets the clauses `words` and `brought`.
+-- `bring_up` (src/container.rt): the call that `bring_up` drives is as `drive` requires, and its return meets
+-- the clauses `words` and `brought`.
 use Rattle.plain.proofs.Alone.{can_end, ends_so}
 use Rattle.plain.proofs.Elements.Updates.{look_runs}
 use Rattle.plain.proofs.Elements.Snapshots.{words_kept, brought_if, brought_not}
 use Rattle.plain.proofs.container.bring_up.Goals as goal
 
--- its call of `drive` meets what that requires
+-- the call that `bring_up` drives is as `drive` requires
 pub drive-requires : goal.drive-requires
 drive-requires g c = record {
   ends =

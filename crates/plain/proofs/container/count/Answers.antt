@@ -1,17 +1,19 @@
--- `count` (src/container.rt): its call of `drive` meets what that requires, and its return meets what it ensures (`BehavesAs`).
+-- `count` (src/container.rt): the call that `count` drives can end, as `drive` requires, and its return is
+-- how many indices have an owner; the generation is raised.
 use Rattle.plain.proofs.Alone.{can_end, ends_so}
 use Rattle.plain.proofs.Elements.Looks.{count_at}
 use Rattle.plain.proofs.Elements.Filled.{still, filled_counted}
 use Rattle.plain.specs.Contents.{number, counted, contents_in}
 use Rattle.plain.proofs.container.count.Goals as goal
 
+-- the call that `count` drives can end, as `drive` requires
 pub drive-requires : goal.drive-requires
 drive-requires g c = record {
   ends = can_end _ _ _ _ _ _ _ _
       (count_at g.T.Words.value_of g.T.Words.WORDS c.args.capacity c.args.id c.new.result c.new.ensures c.args.words.now.items c.requires.0);
 }
 
--- its return meets what it ensures
+-- what `count` returns and leaves is as its clause says
 pub returns : goal.returns
 returns g c =
     still g.T.Words.value_of g.T.Words.WORDS c.args.capacity c.args.id (number) (counted) c.args.words.now.items

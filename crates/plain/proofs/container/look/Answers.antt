@@ -1,17 +1,19 @@
--- `look` (src/container.rt): its call of `drive` meets what that requires, and its return meets what it ensures (`BehavesAs`).
+-- `look` (src/container.rt): the call that `look` drives can end, as `drive` requires, and its return is
+-- whether the container is locked; the contents stay.
 use Rattle.plain.proofs.Alone.{can_end, ends_so}
 use Rattle.plain.proofs.Elements.Looks.{look_at}
 use Rattle.plain.proofs.Elements.Filled.{still}
 use Rattle.plain.specs.Contents.{is_locked}
 use Rattle.plain.proofs.container.look.Goals as goal
 
+-- the call that `look` drives can end, as `drive` requires
 pub drive-requires : goal.drive-requires
 drive-requires g c = record {
   ends = can_end _ _ _ _ _ _ _ _
       (look_at g.T.Words.value_of g.T.Words.WORDS c.args.capacity c.args.id _ c.args.words.now.items c.requires.0);
 }
 
--- its return meets what it ensures
+-- what `look` returns and leaves is as its clause says
 pub returns : goal.returns
 returns g c =
     still g.T.Words.value_of g.T.Words.WORDS c.args.capacity c.args.id (is_locked) (λ s. s) c.args.words.now.items (c.requires.1) _ _

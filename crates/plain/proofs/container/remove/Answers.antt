@@ -6,7 +6,7 @@ use Rattle.plain.proofs.Elements.Filled.{still, filled_remove}
 use Rattle.plain.specs.Contents.{removed, after_remove}
 use Rattle.plain.proofs.container.remove.Goals as goal
 
--- its call of `drive` meets what that requires
+-- the call that `remove` drives is as `drive` requires
 pub drive-requires : goal.drive-requires
 drive-requires g c = record {
   ends = can_end _ _ _ _ _ _ _ _
@@ -15,7 +15,7 @@ drive-requires g c = record {
       c.value.ensures.named c.new.result c.new.ensures c.args.words.now.items c.requires.0);
 }
 
--- its return meets what it ensures
+-- what `remove` returns and leaves is as its clause says
 pub returns : goal.returns
 returns g c =
     still g.T.Words.value_of g.T.Words.WORDS c.args.capacity c.args.handle.container

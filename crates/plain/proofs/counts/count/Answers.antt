@@ -1,8 +1,9 @@
--- `count` (src/counts.rt): its call of `drive` meets what that requires, and its return meets the clauses `answer` and `counts`.
+-- `count` (src/counts.rt): the call that `count` drives is as `drive` requires, and its return meets the
+-- clauses `answer` and `counts`.
 use Rattle.std.proofs.Common.{refl, arith, slice_index}
 use Rattle.plain.proofs.counts.count.Goals as goal
 
--- its call of `drive` meets what that requires
+-- the call that `count` drives is as `drive` requires
 pub drive-requires : goal.drive-requires
 drive-requires c = record {
   ends = record {
@@ -15,11 +16,13 @@ drive-requires c = record {
   };
 }
 
+-- `count` answers as clause `answer` says: it is the word of the place
 pub returns-clause-answer : goal.returns-clause-answer
 returns-clause-answer c =
     (c.drive.ensures.alone 1 (slice_index c.args.words.now.items c.args.place) tt c.args.words.now.items
     (refl, refl, refl)).0
 
+-- `count` leaves the counts as clause `counts` says: the words stay
 pub returns-clause-counts : goal.returns-clause-counts
 returns-clause-counts c =
     (c.drive.ensures.alone 1 (slice_index c.args.words.now.items c.args.place) tt c.args.words.now.items

@@ -32,7 +32,7 @@ returns-clause-counts g c =
     c.loop-place.call c.loop-place.words.items c.loop-place.visit)
     end c.loop-place.invariant)).0
 
--- its return meets the clause `calls`
+-- `empty` has called the closure as its clause `calls` says
 pub returns-clause-calls : goal.returns-clause-calls
 returns-clause-calls g c =
     let end : c.loop-place.place ≡ c.args.capacity = let test = c.loop-place-test.false in omega arith in

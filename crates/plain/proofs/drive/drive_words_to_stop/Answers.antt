@@ -15,12 +15,14 @@ returns-in-Done g c = record {
       c.in-Done.is c.four_steps.ensures;
 }
 
+-- after its first four steps the driver is under way, with no round done
 pub loop-init : goal.loop-init
 loop-init g c =
     begins_later g.C.Routine.want_of g.C.Routine.after g.C.Routine.kept c.args.given.now c.args.call c.in-GoOn.next
     c.args.room.now c.four_steps.new.room c.args.words.now c.four_steps.new.words c.four_steps.result
     c.in-GoOn.is c.requires.stops c.four_steps.ensures
 
+-- where a step lets the call go on, the driver is under way with one round more
 pub loop-preserved : goal.loop-preserved
 loop-preserved = grind (arith, goes_on)
 

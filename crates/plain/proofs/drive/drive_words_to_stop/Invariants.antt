@@ -1,5 +1,5 @@
--- `drive_words_to_stop` (src/drive.rt): the loop keeps that the driver is under way from its first call, with so many
--- steps done.
+-- `drive_words_to_stop` (src/drive.rt): by the invariant of the loop the driver is under way from its first
+-- call, with as many steps done as the loop has had rounds.
 use Rattle.plain.proofs.Alone.{Going}
 use Rattle.plain.proofs.drive.drive_words_to_stop.Given as given
 

@@ -1,16 +1,18 @@
--- `pop` (src/overflowing.rt): its call of `drive` can end, and its return is the oldest value, which the list has lost, or None.
+-- `pop` (src/overflowing.rt): the call that `pop` drives can end, as `drive` requires, and its return is the
+-- oldest value, which the list has lost, or None.
 use Rattle.std.proofs.Common.{◌∙◌}
 use Rattle.plain.proofs.Alone.{can_end, ends_so}
 use Rattle.plain.proofs.Lists.Overflows.{pop_runs}
 use Rattle.plain.proofs.overflowing.pop.Goals as goal
 
+-- the call that `pop` drives can end, as `drive` requires
 pub drive-end-requires : goal.drive-end-requires
 drive-end-requires c = record {
   ends = can_end _ _ _ _ _ _ _ _
       (pop_runs c.args.capacity (record { 0 = 0 }) c.args.words.now.items c.new.result c.new.ensures c.requires);
 }
 
--- its return meets what it ensures
+-- what `pop` returns and leaves is as its clause says
 pub returns : goal.returns
 returns c =
     let so = ends_so _ _ _ _ _ _ _ _

@@ -1,17 +1,19 @@
--- `len` (src/queues.rt): its call of `drive` can end, and its return is the number of values; the list stays.
+-- `len` (src/queues.rt): the call that `len` drives can end, as `drive` requires, and its return is the
+-- number of values; the list stays.
 use Rattle.std.proofs.Common.{subst, sym, ap}
 use Rattle.plain.specs.Queues.{list_in, Represents}
 use Rattle.plain.proofs.Alone.{can_end, ends_so}
 use Rattle.plain.proofs.Lists.Counts.{count_runs}
 use Rattle.plain.proofs.queues.len.Goals as goal
 
+-- the call that `len` drives can end, as `drive` requires
 pub drive-requires : goal.drive-requires
 drive-requires g c = record {
   ends = can_end _ _ _ _ _ _ _ _
       (count_runs g.T.Words.value_of g.T.Words.WORDS c.args.capacity c.new.result c.new.ensures c.args.words.now.items c.requires);
 }
 
--- its return meets what it ensures
+-- what `len` returns and leaves is as its clause says
 pub returns : goal.returns
 returns g c =
     let so = ends_so _ _ _ _ _ _ _ _

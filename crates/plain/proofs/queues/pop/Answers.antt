@@ -5,7 +5,7 @@ use Rattle.plain.proofs.Alone.{can_end, ends_so}
 use Rattle.plain.proofs.Lists.Pops.{pop_runs}
 use Rattle.plain.proofs.queues.pop.Goals as goal
 
--- its call of `drive` meets what that requires
+-- the call that `pop` drives is as `drive` requires
 pub drive-end-requires : goal.drive-end-requires
 drive-end-requires g c =
     let few = g.met.T.Words.few in
@@ -17,7 +17,7 @@ drive-end-requires g c =
           c.requires);
     }
 
--- its return meets what it ensures
+-- what `pop` returns and leaves is as its clause says
 pub returns : goal.returns
 returns g c =
     let few = g.met.T.Words.few in

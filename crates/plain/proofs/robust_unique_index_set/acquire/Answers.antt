@@ -4,7 +4,7 @@ use Rattle.plain.proofs.Alone.{can_end, ends_so}
 use Rattle.plain.proofs.Robust.Acquires.{take_at}
 use Rattle.plain.proofs.robust_unique_index_set.acquire.Goals as goal
 
--- its call of `drive` meets what that requires
+-- the call that `acquire` drives is as `drive` requires
 pub drive-requires : goal.drive-requires
 drive-requires c = record {
   ends = can_end _ _ _ _ _ _ _ _
@@ -12,6 +12,7 @@ drive-requires c = record {
       c.new.ensures c.args.words.now.items c.requires);
 }
 
+-- what `acquire` returns and leaves is as its clause says
 pub returns : goal.returns
 returns c = ends_so _ _ _ _ _ _ _ _
     (take_at c.args.capacity c.args.owner c.value.result c.value.ensures.number c.value.ensures.named c.new.result

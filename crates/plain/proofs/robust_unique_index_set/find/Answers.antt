@@ -12,12 +12,14 @@ loop-init = grind (arith, starts)
 pub drive_to_stop-requires : goal.drive_to_stop-requires
 drive_to_stop-requires = grind (arith, can_go)
 
+-- where the find has ended, its return meets the clause `words`
 pub returns-in-Ended-clause-words : goal.returns-in-Ended-clause-words
 returns-in-Ended-clause-words g c =
     (ended_so (λ p x a q. given.F-step g p x a q) c.args.visit.now c.args.capacity c.args.owner c.args.words.now.items
     c.loop.counter c.loop.call c.loop.visit c.loop.words.items c.in-Ended.found c.drive_to_stop.new.room
     c.drive_to_stop.new.words.items c.loop.invariant c.in-Ended.ensures.alone).1
 
+-- where the find has ended, its return meets the clause `found`
 pub returns-in-Ended-clause-found : goal.returns-in-Ended-clause-found
 returns-in-Ended-clause-found g c =
     (ended_so (λ p x a q. given.F-step g p x a q) c.args.visit.now c.args.capacity c.args.owner c.args.words.now.items

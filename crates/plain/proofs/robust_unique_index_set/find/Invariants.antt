@@ -1,4 +1,5 @@
--- `find` (src/robust_unique_index_set.rt): the loop keeps that the find is under way, with so many indices visited.
+-- `find` (src/robust_unique_index_set.rt): by the invariant of the loop the find is under way, with an index
+-- visited in each round of the loop.
 use Rattle.plain.proofs.Robust.Finding.{Searching}
 use Rattle.plain.proofs.robust_unique_index_set.find.Given as given
 

@@ -1,5 +1,5 @@
--- `recover` (src/robust_unique_index_set.rt): the loop keeps that the recovery is under way, with so many questions
--- asked.
+-- `recover` (src/robust_unique_index_set.rt): by the invariant of the loop the recovery is under way, with a
+-- question for each round of the loop.
 use Rattle.plain.proofs.Robust.Recovering.{Recovering}
 use Rattle.plain.proofs.robust_unique_index_set.recover.Given as given
 

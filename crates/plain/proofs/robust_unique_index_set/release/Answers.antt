@@ -3,7 +3,7 @@ use Rattle.plain.proofs.Alone.{can_end, ends_so}
 use Rattle.plain.proofs.Robust.Releases.{give_at}
 use Rattle.plain.proofs.robust_unique_index_set.release.Goals as goal
 
--- its call of `drive` meets what that requires
+-- the call that `release` drives is as `drive` requires
 pub drive-requires : goal.drive-requires
 drive-requires c = record {
   ends = can_end _ _ _ _ _ _ _ _
@@ -11,6 +11,7 @@ drive-requires c = record {
       c.value.ensures.named c.new.result c.new.ensures c.args.words.now.items c.requires.fits c.requires.index);
 }
 
+-- what `release` returns and leaves is as its clause says
 pub returns : goal.returns
 returns c = ends_so _ _ _ _ _ _ _ _
     (give_at c.args.capacity c.args.index c.args.owner c.args.mode c.value.result c.value.ensures.number

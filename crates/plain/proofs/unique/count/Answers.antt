@@ -1,4 +1,5 @@
--- `count` (src/unique.rt): its call of `drive` meets what that requires, and its return meets what it ensures (`BehavesAs`).
+-- `count` (src/unique.rt): its call of `drive` can end, and its return is how many indices are
+-- out; the stack stays.
 use Rattle.plain.proofs.Alone.{can_end, ends_so}
 use Rattle.plain.proofs.Stacks.Looks.{count_runs}
 use Rattle.plain.proofs.unique.count.Goals as goal

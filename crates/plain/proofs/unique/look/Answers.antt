@@ -1,4 +1,5 @@
--- `look` (src/unique.rt): its call of `drive` meets what that requires, and its return meets what it ensures (`BehavesAs`).
+-- `look` (src/unique.rt): the call that `look` drives is as `drive` requires, and its return
+-- meets what it ensures (`BehavesAs`).
 use Rattle.std.proofs.Common.{arith}
 use Rattle.plain.proofs.Alone.{can_end, ends_so}
 use Rattle.plain.proofs.Stacks.Looks.{look_runs}

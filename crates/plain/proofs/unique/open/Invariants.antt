@@ -1,4 +1,5 @@
--- `open` (src/unique.rt): the loop keeps that the next indices of the first few are linked, and all other words are 0.
+-- `open` (src/unique.rt): by the invariant of the loop the next words of the indices before this one are
+-- written, and the head and the flags are 0.
 use Rattle.plain.proofs.Stacks.Opened.{Linked}
 use Rattle.plain.proofs.unique.open.Given as given
 

@@ -1,10 +1,10 @@
--- `release` (src/unique.rt): its call of `drive` meets what that requires, and its return meets what it ensures (`BehavesAs`).
+-- `release` (src/unique.rt): its call of `drive` can end, and the index is then on top of the stack.
 use Rattle.plain.proofs.Alone.{can_end, ends_so}
 use Rattle.plain.proofs.Stacks.Releases.{give_runs}
 use Rattle.steps.specs.declared.indices.unique.DefaultMode.{DefaultMode}
 use Rattle.plain.proofs.unique.release.Goals as goal
 
--- its call of `drive` meets what that requires
+-- the call that `release` drives is as `drive` requires
 pub drive-requires : goal.drive-requires
 drive-requires c =
     record {
@@ -13,6 +13,7 @@ drive-requires c =
           (give_runs DefaultMode c.args.capacity c.args.index c.args.words.now.items c.requires.fits c.requires.out c.new.result c.new.ensures);
     }
 
+-- what `release` returns and leaves is as its clause says
 pub returns : goal.returns
 returns c =
     ends_so _ _ _ _ _ _ _ _

@@ -4,7 +4,7 @@ use Rattle.plain.proofs.Stacks.Releases.{lock_runs}
 use Rattle.steps.specs.declared.indices.unique.LockMode.{LockMode}
 use Rattle.plain.proofs.unique.release_or_lock.Goals as goal
 
--- its call of `drive` meets what that requires
+-- the call that `release_or_lock` drives is as `drive` requires
 pub drive-requires : goal.drive-requires
 drive-requires c =
     record {

@@ -5,7 +5,7 @@ use Rattle.plain.proofs.Alone.{can_end, ends_so}
 use Rattle.plain.proofs.Values.{load_runs}
 use Rattle.plain.proofs.value.load.Goals as goal
 
--- its call of `drive` meets what that requires
+-- the call that `load` drives is as `drive` requires
 pub drive-requires : goal.drive-requires
 drive-requires g c =
     let few = g.met.T.Words.few in
@@ -16,7 +16,7 @@ drive-requires g c =
           c.new.result c.new.ensures c.new-room.result (let long = c.new-room.ensures in omega arith) c.requires);
     }
 
--- its return meets what it ensures
+-- what `load` returns and leaves is as its clause says
 pub returns : goal.returns
 returns g c =
     let few = g.met.T.Words.few in

@@ -3,7 +3,7 @@ use Rattle.plain.proofs.Alone.{can_end, ends_so}
 use Rattle.plain.proofs.Values.{store_runs}
 use Rattle.plain.proofs.value.store.Goals as goal
 
--- its call of `drive` meets what that requires
+-- the call that `store` drives is as `drive` requires
 pub drive-requires : goal.drive-requires
 drive-requires g c = record {
   ends = can_end _ _ _ _ _ _ _ _
@@ -12,7 +12,7 @@ drive-requires g c = record {
       c.requires);
 }
 
--- its return meets what it ensures
+-- what `store` returns and leaves is as its clause says
 pub returns : goal.returns
 returns g c = ends_so _ _ _ _ _ _ _ _
     (store_runs g.T.Words.words_of g.T.Words.value_of g.T.Words.WORDS g.met.T.Words.sized g.met.T.Words.given_back

@@ -1,8 +1,9 @@
--- `version` (src/value.rt): its call of `drive` meets what that requires, and its return meets the clauses `answer` and `words`.
+-- `version` (src/value.rt): the call that `version` drives is as `drive` requires, and its return meets the
+-- clauses `answer` and `words`.
 use Rattle.std.proofs.Common.{refl, arith, slice_index}
 use Rattle.plain.proofs.value.version.Goals as goal
 
--- its call of `drive` meets what that requires
+-- the call that `version` drives is as `drive` requires
 pub drive-requires : goal.drive-requires
 drive-requires c = record {
   ends = record {
@@ -15,11 +16,13 @@ drive-requires c = record {
   };
 }
 
+-- `version` answers as clause `answer` says: it is the word of the version
 pub returns-clause-answer : goal.returns-clause-answer
 returns-clause-answer c =
     (c.drive.ensures.alone 1 (slice_index c.args.words.now.items 0) tt c.args.words.now.items
     (refl, refl, refl)).0
 
+-- `version` leaves the words as they were (clause `words`)
 pub returns-clause-words : goal.returns-clause-words
 returns-clause-words c =
     (c.drive.ensures.alone 1 (slice_index c.args.words.now.items 0) tt c.args.words.now.items

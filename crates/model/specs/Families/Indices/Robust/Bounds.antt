@@ -4,8 +4,9 @@ use Rattle.steps.specs.declared.indices.enums.ReleaseMode.TheVariants.{LockIfLas
 use Rattle.model.specs.declared.families.indices.robust.RobustStart.{RobustStart}
 use Rattle.model.specs.declared.families.indices.robust.RobustStart.TheVariants.{Acquire, Release, Find, Recover, BorrowedIndices, IsLocked}
 
--- how many steps the call takes at most on a set of this capacity, where it has begun a loop's turn again so often: a
--- raise takes 2, a count a step a cell and 2, a lock 1 more
+-- How many steps a call takes at most, by the capacity and by how often it has turned back to the start
+-- of a loop (`backs`). A raise of the counter takes 2 steps, a count one for each cell and 2 more, a lock
+-- one more than a count.
 abbrev pub most_steps : ℕ → RobustStart → ℕ → ℕ
 most_steps capacity (Acquire owner) backs = capacity + 3 + backs * (capacity + 1)
 most_steps capacity (Release index owner Default) backs = 3 + backs

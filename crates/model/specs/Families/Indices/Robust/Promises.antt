@@ -53,7 +53,7 @@ owned_by (wants.Question (questions.Owned owner index)) =
     Some (index, owner)
 owned_by want = None
 
--- a cell holds the owner that its index is filled with
+-- What the cell of an index holds: the owner that fills the index, or `empty` where there is none.
 abbrev pub cell_of : Option ℕ → ℕ
 cell_of None = empty
 cell_of (Some owner) = owner
@@ -88,9 +88,10 @@ module _ {T : Type 0} where
       is_dead owner before ≡ false
   LivesToRelease owner before span = Unit {0}
 
-  -- An index of the set is filled where it is not, and granted, for an owner who lives. It is freed where it is filled
-  -- with that owner, by a release while he lives. The lock comes once, and after it nothing is granted; a call that
-  -- began after it fills nothing. An owner dies once.
+  -- An index of the set is filled only if it is not filled, and filled and granted only for an owner who
+  -- lives. It is freed only if it is filled with that owner, and by a release only while that owner
+  -- lives. The lock comes once; after it nothing is granted, and a call that began after it fills
+  -- nothing. An owner dies once.
   abbrev pub SetDoes : ℕ → List (Event T) → Event T → Type 0
   SetDoes capacity before (Filled p index owner) =
       (index < capacity) × (filled_of index before ≡ None) × (is_dead owner before ≡ false)
@@ -103,8 +104,8 @@ module _ {T : Type 0} where
   SetDoes capacity before (Died owner) = is_dead owner before ≡ false
   SetDoes capacity before e = Unit {0}
 
-  -- A recovery asks about an index that is filled with the owner named, and nothing if it began after the lock. It is
-  -- told to free one of a dead owner.
+  -- A recovery asks only about an index that is filled with the owner named in the question, and about
+  -- none if it began after the lock. It is told to free an index only of a dead owner.
   abbrev pub AsksRight : List (Event T) → Event T → Type 0
   AsksRight before (Asked p index owner) =
       (filled_of index before ≡ Some owner) × HeldSometime p IsUnlocked before
@@ -127,11 +128,12 @@ module _ {T : Type 0} where
   FreesRight before (FreedOf p index owner) = MayGiveBack p index before (span_of p before)
   FreesRight before e = Unit {0}
 
-  -- each index that is freed might be given back: the run is well-formed
+  -- The run is well-formed: each release or remove that freed an index was begun where it might
+  -- give that index back.
   abbrev pub IsWellFormed : List (Event T) → Type 0
   IsWellFormed events = Each FreesRight events
 
-  -- no index is granted that is held, and none is held where the set is locked
+  -- No index is granted that has a holder, and the set is locked only where no index has one.
   abbrev pub HoldsRight : List (Event T) → Event T → Type 0
   HoldsRight before (Granted p index owner) = holder_of index before ≡ None
   HoldsRight before (Locked p) = (index : ℕ) → holder_of index before ≡ None
@@ -152,8 +154,8 @@ module _ {T : Type 0} where
     pub through : (index : ℕ) → index < bound → HeldThroughout p (P index) events
         → chosen index ≡ true
 
-  -- The number that a find answers is that of its owner's indices below a bound,
-  -- which is the capacity unless a no ended the call.
+  -- The number that a find answers counts its owner's indices below a bound, which is at most the
+  -- capacity. (That it is the capacity unless the decision no ended the call is `FindsAll`.)
   pub record IsFound (p owner capacity number : ℕ) (events : List (Event T)) : Type 0 where
     pub bound : ℕ
     pub within : bound ≤ capacity
@@ -170,8 +172,9 @@ module _ {T : Type 0} where
   StillToFree p owner index part =
       IsFilledWith owner index part ⊎ IsOneOf (Frees index owner) (set_acts_of p part)
 
-  -- No index that it was told to free has that owner. It asked about each that was filled with one owner through the
-  -- whole call, until the call itself freed it.
+  -- What a recovery that answers Unlocked has done. No index that it was told to free has the owner any
+  -- more that was named to it. It asked about each index that was filled with one owner through the whole
+  -- call, or until the call itself freed it.
   pub record HasRecovered (p : ℕ) (events : List (Event T)) : Type 0 where
     pub gone : (index owner : ℕ) → IsOneOf (Yes index owner) (set_acts_of p events)
         → filled_of index events ≢ Some owner
@@ -217,9 +220,9 @@ module _ {T : Type 0} where
   -- What holds of a robust set's machine after any turns: each event is right, and cells, lock and the dead agree with
   -- the events. Who holds an index is said only of well-formed runs.
   pub record IsRobustSet (t : Trace T) : Type 0 where
-    -- indices are filled, granted, freed and locked right
+    -- Indices are filled, granted and freed, and the set is locked, only as `SetDoes` allows.
     pub does : Each (SetDoes t.world.capacity) t.events
-    -- recoveries ask right
+    -- Recoveries ask only about filled indices, and are told to free only those of the dead.
     pub asks : Each AsksRight t.events
     -- in a well-formed run no index is granted that is held
     pub holds : IsWellFormed t.events → Each HoldsRight t.events
@@ -283,7 +286,8 @@ module _ {T : Type 0} where
       (p owner : ℕ) → turn ≡ Decide p false → IsIn p (Robust (Find owner)) old
       → IsStopped p owner old new
 
-  -- what a turn tells of finds
+  -- What a find has counted that ends in this turn: all indices of the set, or, if the decision no ends
+  -- it, those up to its question.
   abbrev pub FindsRight : Trace T → Turn T → Trace T → Type 0
   FindsRight old turn new = FindsAll old turn new × FindsUpTo old turn new
 
@@ -319,7 +323,7 @@ module _ {T : Type 0} where
       (p : ℕ) (mode : ReleaseMode) → turn ≡ Decide p true → IsIn p (Robust (Recover mode)) old
       → IsTold p old new
 
-  -- what a turn tells of finds and of recoveries
+  -- What a turn tells of finds that end in it, and of recoveries that are told to free an index.
   abbrev pub TellsRight : Trace T → Turn T → Trace T → Type 0
   TellsRight old turn new =
       FindsRight old turn new × TellsOnce old turn new × YesTells old turn new

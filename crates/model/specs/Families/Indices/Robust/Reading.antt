@@ -10,7 +10,7 @@ use Rattle.model.specs.declared.families.container.ContainerStart.TheVariants.{A
 use Rattle.model.specs.declared.families.indices.robust.RobustStart.TheVariants.{Acquire, Release}
 use Rattle.model.specs.Reading.{Span, Never, Open, Ended, span_of}
 
--- an owner, unless it is this one
+-- The owner, or none if it is this one.
 abbrev pub without : ℕ → Option ℕ → Option ℕ
 without owner None = None
 without owner (Some other) = if other == owner then None else Some other
@@ -38,8 +38,8 @@ module _ {T : Type 0} where
   abbrev pub holder_of : ℕ → List (Event T) → Option ℕ
   holder_of i events = fold (holder_after i) None events
 
-  -- It may be given back for an owner once the acquire or the add that was granted it has finished, until a release or
-  -- a remove of it for that owner begins.
+  -- The owner for whom index i may be given back, after an event: from the end of the acquire or the add
+  -- that was granted it, until a release or a remove of it for that owner begins, or the index is freed.
   abbrev pub settled_after : ℕ → Option ℕ → Event T → Option ℕ
   settled_after i owner (Finished p (Robust (Acquire o)) (Index index)) =
       if index == i then Some o else owner
@@ -56,7 +56,7 @@ module _ {T : Type 0} where
   abbrev pub settled_of : ℕ → List (Event T) → Option ℕ
   settled_of i events = fold (settled_after i) None events
 
-  -- the owner has died
+  -- whether the owner has died, after an event
   abbrev pub dead_after : ℕ → Bool → Event T → Bool
   dead_after owner dead (Died o) = (o == owner) || dead
   dead_after owner dead e = dead
@@ -98,7 +98,7 @@ module _ {T : Type 0} where
   wrote_in (Open start wrote) = wrote
   wrote_in (Ended start answer wrote) = wrote
 
-  -- the acts of the party's latest call
+  -- What the party's latest call has done to the set so far.
   abbrev pub set_acts_of : ℕ → List (Event T) → List SetAct
   set_acts_of p events = set_acts (wrote_in (span_of p events))
 
@@ -113,11 +113,11 @@ pub record IsLatest {A : Type 0} (one : A) (all : List A) : Type 0 where
   pub before : List A
   pub is : all ≡ before ++ one ∷ []
 
--- the indices that a recovery has asked about, in order
+-- The index that an act asks about, if it asks about one.
 abbrev pub index_asked : SetAct → List ℕ
 index_asked (Asks index owner) = index ∷ []
 index_asked one = []
 
--- the indices about which was asked, in order
+-- All indices that the acts ask about, in order.
 abbrev pub asked_in : List SetAct → List ℕ
 asked_in all = flat_map index_asked all

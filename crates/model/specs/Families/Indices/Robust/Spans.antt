@@ -14,7 +14,7 @@ use Rattle.model.specs.declared.families.indices.robust.RobustStart.TheVariants.
 use Rattle.model.specs.Families.Indices.Robust.Reading.{SetAct, Fills, Grants, Frees, Asks, Yes, Locks, set_acts, IsLatest, asked_in}
 use Rattle.model.specs.Reading.{Span, Open}
 
--- the call has just freed an index
+-- The last thing that the call has done to the set is to free an index.
 pub record HasJustFreed (all : List SetAct) : Type 0 where
   pub index : ℕ
   pub owner : ℕ
@@ -42,13 +42,15 @@ module _ {T : Type 0} where
   may_stand (Locked p) (Open (Robust (Recover LockIfLastIndex)) wrote) = HasJustFreed (set_acts wrote)
   may_stand e span = ⊥
 
--- an acquire that was not granted an index may have filled one all the same, where the set was locked meanwhile
+-- An acquire that answers IsLocked may have filled one index, which it was not granted since the set was
+-- locked meanwhile.
 pub record FilledLate (owner : ℕ) (all : List SetAct) : Type 0 where
   pub index : ℕ
   pub is : all ≡ Fills index owner ∷ []
 
 module _ {T : Type 0} where
-  -- what a finished call has done, by its answer; any other answer is none of that call
+  -- What a finished call of a robust set has done to it, by its answer. A call gives no
+  -- answer but those listed.
   abbrev pub HasDone : RobustStart → Answer T → List SetAct → Type 0
   HasDone (Acquire owner) (Index index) all =
       all ≡ Fills index owner ∷ Grants index owner ∷ []

@@ -33,7 +33,7 @@ module _ {T : Type 0} where
   locked_by p (locks.ExchangesCounter counter) old =
       if old == counter then Locked p ∷ [] else []
 
-  -- an index is granted at the end of a raise that the lock has not met
+  -- An acquire is granted its index as its raise of the set's counter ends with the set unlocked.
   abbrev pub granted : (p index owner : ℕ) → After Raise ReleaseState → List (Event T)
   granted p index owner (Done Unlocked) = Granted p index owner ∷ []
   granted p index owner outcome = []
@@ -55,7 +55,8 @@ module _ {T : Type 0} where
   release_effects p given (releases.Raises raise) old = []
   release_effects p given (releases.Locks lock) old = locked_by p lock old
 
-  -- a cell that has an owner puts the question; a yes tells the recovery to free it
+  -- What a recovery's step writes down: loading a cell that has an owner asks about its index, a yes tells
+  -- the recovery to free it, emptying the cell frees it, and the exchange of the counter may lock the set.
   abbrev pub recover_effects : ℕ → RecoverStage → ℕ → List (Event T)
   recover_effects p recovers.LoadsCounter old = []
   recover_effects p (recovers.LoadsCell index) old =

@@ -1,11 +1,12 @@
--- `recover` (src/container/recovery.rt): the loop keeps that the recovery is under way, with so many questions asked.
+-- `recover` (src/container/recovery.rt): by the invariant of the loop the recovery is under way, with a
+-- question for each round of the loop.
 use Rattle.std.specs.Prelude.{slice_set}
 use Rattle.std.proofs.Common.{refl}
 use Rattle.plain.proofs.Names.{Buffer}
 use Rattle.plain.proofs.Elements.Recovering.{Searching}
 use Rattle.plain.proofs.container.recovery.recover.Given as given
 
--- the recovery is under way, with so many questions asked
+-- the recovery is under way, with a question asked in each round
 abbrev pub invariant-loop : given.invariant-loop
 invariant-loop g l =
     Searching g.T.Words.value_of (λ (x : Buffer 128). x.words)

@@ -1,11 +1,12 @@
--- `find` (src/container/visits.rt): the loop keeps that the find is under way, with so many values visited.
+-- `find` (src/container/visits.rt): by the invariant of the loop the find is under way, with a value visited
+-- in each round of the loop.
 use Rattle.std.specs.Prelude.{slice_set}
 use Rattle.std.proofs.Common.{refl}
 use Rattle.plain.proofs.Names.{Buffer}
 use Rattle.plain.proofs.Elements.Finding.{Searching}
 use Rattle.plain.proofs.container.visits.find.Given as given
 
--- the find is under way, with so many values visited
+-- the find is under way, with a value visited in each round
 abbrev pub invariant-loop : given.invariant-loop
 invariant-loop g l =
     Searching g.T.Words.value_of (λ (x : Buffer 128). x.words)
